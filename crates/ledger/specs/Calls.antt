@@ -1,0 +1,161 @@
+-- Paper 01, "The calls" and "When the desk says no": for each act its refusals in the order in which they are tested, and what it does
+-- where none applies. (Setup, and refusal 3, are the desk's.) Assumes nothing.
+use mathlib.Core.Bool.{Bool, true, false, cond, not, _||_}
+use mathlib.Core.List.{List, [], _∷_, _++_}
+use Prim.Native.Nat.{ℕ, zero, suc, _+_, _-_, _*_, _/_, _%_, _^_}
+use lib.ListN.{length, getD}
+use lib.Dec.{eqb, ltb, leb}
+use lib.Count.{ones}
+use Rattle.ledger.specs.Settings.{Settings, ids}
+use Rattle.ledger.specs.Rules.{Rule, refuse, guard}
+use Rattle.ledger.specs.Header.{fieldsOf, headerRules}
+use Rattle.ledger.specs.Ledger.{owner, isNode, Packet, bare, recorded, Place, free, ingress, egress, prefetched, placeOf, Ledger, listAt, arrivalOf, outwardOf, lastOf, mapOf, oldest, move, putArrival, putOutward, putLast, putMap}
+use Rattle.ledger.specs.Ready.{readyWord, pick}
+
+pub data Act : Type 0 where
+  arrive : ℕ → List ℕ → Act
+  stitch : ℕ → Act
+  prefetch : ℕ → ℕ → Act
+  credit : ℕ → ℕ → ℕ → Act
+  mapTo : ℕ → ℕ → Act
+  turn : ℕ → Act
+  ready : ℕ → Act
+  whereIs : ℕ → Act
+
+pub data Side : Type 0 where
+  inside outside : Side
+
+pub data Reply : Type 0 where
+  refused : ℕ → Reply
+  done : Reply
+  entry : ℕ → Reply
+  stitched : List ℕ → Reply
+  idle : Reply
+  leaves : Packet → Side → Reply
+  word : ℕ → ℕ → Reply
+  found : Place → ℕ → Reply
+
+-- ---- parts of the rules
+
+abbrev pub noPort : Settings → ℕ → Rule
+noPort S p = refuse 4 (leb (S .ports) p)
+
+abbrev pub isEmpty : List Packet → Bool
+isEmpty [] = true
+isEmpty (k ∷ ks) = false
+
+abbrev pub firstOf : Settings → Ledger → Place → Packet
+firstOf S L v = oldest (listAt S L v)
+
+-- ---- arrive
+
+-- what the packet of header h is at port p: the oldest free node with the header recorded
+abbrev pub arriving : Settings → Ledger → ℕ → List ℕ → Packet
+arriving S L p h = recorded S (firstOf S L (free p) .node) (fieldsOf h)
+
+unfoldable pub arrived : Settings → Ledger → ℕ → Packet → Ledger
+arrived S L p k = putArrival S p (k .queue) (arrivalOf S L p (k .queue) - k .price) (move S (free p) (ingress p) k L)
+
+-- ---- stitch
+
+-- entry id (2), length (2), queue (1), mapped port (1), timestamp (4)
+unfoldable pub stitchRecord : Packet → ℕ → List ℕ
+stitchRecord k to =
+    k .node / 256 ∷ k .node % 256 ∷ k .len / 256 ∷ k .len % 256 ∷ k .queue ∷ to
+    ∷ k .stamp / 2 ^ 24 ∷ k .stamp / 2 ^ 16 % 256 ∷ k .stamp / 2 ^ 8 % 256 ∷ k .stamp % 256 ∷ []
+
+-- ---- turn
+
+abbrev pub sideOf : ℕ → Side
+sideOf zero = inside
+sideOf (suc q) = outside
+
+-- packet k leaves port p by queue q: its price is taken from outward credit and goes back to its owner's arrival credit,
+-- its node goes to the back of its owner's free list, and the queue is the last served
+unfoldable pub served : Settings → Ledger → ℕ → ℕ → Packet → Ledger
+served S L p q k =
+    putLast p q
+    (putArrival S (owner (k .node)) q (arrivalOf S L (owner (k .node)) q + k .price)
+    (putOutward S p q (outwardOf S L p q - k .price)
+    (move S (prefetched p q) (free (owner (k .node))) (bare (k .node)) L)))
+
+abbrev pub serve : Settings → Ledger → ℕ → ℕ → Reply × Ledger
+serve S L p q = (leaves (firstOf S L (prefetched p q)) (sideOf q), served S L p q (firstOf S L (prefetched p q)))
+
+-- with nothing ready the answer is idle and nothing changes
+abbrev pub turned : Settings → Ledger → ℕ → ℕ → Reply × Ledger
+turned S L p w = cond (eqb w 0) (idle, L) (serve S L p (pick (lastOf L p) w))
+
+-- ---- where
+
+-- the place of node y in a list, and the number of the list in which it stands
+abbrev pub position : ℕ → List Packet → ℕ
+position y [] = 0
+position y (k ∷ ks) = cond (eqb (k .node) y) 0 (suc (position y ks))
+
+abbrev pub which : ℕ → List (List Packet) → ℕ
+which y [] = 0
+which y (l ∷ ls) = cond (ltb (position y l) (length l)) 0 (suc (which y ls))
+
+-- ---- the refusals of each act, in order
+
+abbrev pub rules : Settings → Ledger → Act → List Rule
+rules S L (arrive p h) =
+    noPort S p
+    ∷ (headerRules p h
+    ++ (refuse 10 (ltb (arrivalOf S L p (arriving S L p h .queue)) (arriving S L p h .price))
+    ∷ refuse 11 (isEmpty (listAt S L (free p)))
+    ∷ []))
+rules S L (stitch p) = noPort S p ∷ refuse 12 (isEmpty (listAt S L (ingress p))) ∷ []
+rules S L (prefetch p q) =
+    noPort S p
+    ∷ refuse 5 (leb (S .queues) q)
+    ∷ refuse 12 (isEmpty (listAt S L (egress p q)))
+    ∷ refuse 13 (leb (S .slots) (length (listAt S L (prefetched p q))))
+    ∷ []
+rules S L (credit p q n) =
+    noPort S p
+    ∷ refuse 5 (leb (S .queues) q || eqb q 0)
+    ∷ refuse 14 (ltb 65535 (outwardOf S L p q + n))
+    ∷ []
+rules S L (mapTo d p) = refuse 15 (leb ids d) ∷ noPort S p ∷ []
+rules S L (turn p) = noPort S p ∷ []
+rules S L (ready p) = noPort S p ∷ []
+rules S L (whereIs y) = refuse 15 (not (isNode S y)) ∷ []
+
+-- ---- the answer and the ledger after it, where no refusal applies
+
+abbrev pub result : Settings → Ledger → Act → Reply × Ledger
+result S L (arrive p h) = (entry (firstOf S L (free p) .node), arrived S L p (arriving S L p h))
+result S L (stitch p) =
+    let k = firstOf S L (ingress p) in
+    let to = mapOf L (k .dest) in
+    (stitched (stitchRecord k to), move S (ingress p) (egress to (k .queue)) k L)
+result S L (prefetch p q) =
+    let k = firstOf S L (egress p q) in
+    (entry (k .node), move S (egress p q) (prefetched p q) k L)
+result S L (credit p q n) = (done, putOutward S p q (outwardOf S L p q + n) L)
+result S L (mapTo d p) = (done, putMap d p L)
+result S L (turn p) = turned S L p (readyWord S L p)
+result S L (ready p) = (word (readyWord S L p) (ones (readyWord S L p)), L)
+result S L (whereIs y) =
+    let l = which y (L .lists) in
+    (found (placeOf S l) (position y (getD (L .lists) l [])), L)
+
+-- what a refusal changes: nothing
+abbrev pub onRefusal : ℕ → Act → Ledger → Ledger
+onRefusal n a L = L
+
+-- one act: the answer, and the ledger after it
+abbrev pub step : Settings → Ledger → Act → Reply × Ledger
+step S L a = guard (rules S L a) (λ n. (refused n, onRefusal n a L)) (result S L a)
+
+-- any acts, one after another: the ledger after them
+abbrev pub run : Settings → Ledger → List Act → Ledger
+run S L [] = L
+run S L (a ∷ acts) = run S (step S L a .1) acts
+
+-- and their answers
+abbrev pub answers : Settings → Ledger → List Act → List Reply
+answers S L [] = []
+answers S L (a ∷ acts) = step S L a .0 ∷ answers S (step S L a .1) acts

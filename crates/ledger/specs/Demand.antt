@@ -1,0 +1,75 @@
+-- Demand 3, nobody starves, as a statement. Assumes nothing.
+use mathlib.Core.Path.{_≡_}
+use mathlib.Core.Logic.{_⊎_}
+use mathlib.Core.Bool.{Bool, true, false, not, _&&_}
+use mathlib.Core.List.{List, [], _∷_, _++_}
+use Prim.Native.Nat.{ℕ, zero, suc, _+_, _*_, _≤_, _<_}
+use lib.ListN.{length, getD, take}
+use lib.Dec.{eqb}
+use Rattle.ledger.specs.Settings.{Settings}
+use Rattle.ledger.specs.Ledger.{Packet, prefetched, Ledger, listAt, outwardOf}
+use Rattle.ledger.specs.Ready.{bit}
+use Rattle.ledger.specs.Calls.{Act, arrive, stitch, prefetch, credit, mapTo, turn, ready, whereIs, Reply, refused, done, entry, stitched, idle, leaves, word, found, sideOf, step, run}
+use Rattle.ledger.specs.Sound.{sum, Roomy, Orderly, Sound}
+
+abbrev pub isRefused : Reply → Bool
+isRefused (refused n) = true
+isRefused done = false
+isRefused (entry x) = false
+isRefused (stitched b) = false
+isRefused idle = false
+isRefused (leaves k s) = false
+isRefused (word w n) = false
+isRefused (found v i) = false
+
+-- is the act a turn of port p
+abbrev pub isTurn : ℕ → Act → Bool
+isTurn p (arrive r h) = false
+isTurn p (stitch r) = false
+isTurn p (prefetch r q) = false
+isTurn p (credit r q n) = false
+isTurn p (mapTo d r) = false
+isTurn p (turn r) = eqb r p
+isTurn p (ready r) = false
+isTurn p (whereIs y) = false
+
+-- how many turns port p has among the acts, refused ones not counted
+abbrev pub turnsOf : Settings → ℕ → Ledger → List Act → ℕ
+turnsOf S p L [] = 0
+turnsOf S p L (a ∷ acts) = bit (isTurn p a && not (isRefused (step S L a .0))) + turnsOf S p (step S L a .1) acts
+
+-- packet k stands in the prefetch slots of port p and queue q, behind `ahead`
+pub record Stands (S : Settings) (p q : ℕ) (k : Packet) (ahead : List Packet) (L : Ledger) : Type 0 where
+  pub behind : List Packet
+  pub there : listAt S L (prefetched p q) ≡ ahead ++ (k ∷ behind)
+
+-- among the acts there is a turn of port p, before which port p had fewer than n turns, at which packet k leaves by queue q;
+-- and at every moment up to then k stands in its prefetch list
+pub record LeavesWithin (S : Settings) (p q : ℕ) (k : Packet) (n : ℕ) (L : Ledger) (acts : List Act) : Type 0 where
+  pub moment : ℕ
+  pub among : moment < length acts
+  pub soon : turnsOf S p L (take moment acts) < n
+  pub a-turn : getD acts moment (ready 0) ≡ turn p
+  pub it-leaves : step S (run S L (take moment acts)) (turn p) .0 ≡ leaves k (sideOf q)
+  pub until-then : (i : ℕ) → i ≤ moment → (ahead : List Packet) × Stands S p q k ahead (run S L (take i acts))
+
+-- Nobody starves. Packet k stands in the prefetch slots of port p and queue q behind `ahead`, and there is credit in hand for all of these.
+-- Then, whatever acts come, if port p has queues × (length ahead + 1) turns among them, k leaves at one of these turns.
+unfoldable pub NobodyStarves : Type 0
+NobodyStarves =
+    (S : Settings) → Roomy S → (L : Ledger) → Orderly S L
+    → (p q : ℕ) → p < S .ports → q < S .queues
+    → (ahead : List Packet) (k : Packet) → Stands S p q k ahead L
+    → (q ≡ 0) ⊎ (sum (λ k. k .price) (ahead ++ (k ∷ [])) ≤ outwardOf S L p q)
+    → (acts : List Act) → S .queues * (length ahead + 1) ≤ turnsOf S p L acts
+    → LeavesWithin S p q k (S .queues * (length ahead + 1)) L acts
+
+-- the same in this build: turn 24 (k + 1)
+unfoldable pub NobodyStarves24 : Type 0
+NobodyStarves24 =
+    (S : Settings) (L : Ledger) → Sound S L
+    → (p q n : ℕ) → p < 4 → q < 24
+    → (ahead : List Packet) (k : Packet) → Stands S p q k ahead L → length ahead ≡ n
+    → (q ≡ 0) ⊎ (sum (λ k. k .price) (ahead ++ (k ∷ [])) ≤ outwardOf S L p q)
+    → (acts : List Act) → 24 * (n + 1) ≤ turnsOf S p L acts
+    → LeavesWithin S p q k (24 * (n + 1)) L acts

@@ -1,0 +1,43 @@
+-- The desk: all nine calls on a lent memory of which only its length and what it pictures count. Setup, and refusal 3, stand here.
+-- Assumes nothing.
+use mathlib.Core.Bool.{not}
+use mathlib.Core.List.{List, [], _∷_}
+use Prim.Native.Nat.{ℕ}
+use lib.Dec.{ltb}
+use Rattle.ledger.specs.Settings.{Settings, settings, inRows, size}
+use Rattle.ledger.specs.Rules.{Rule, refuse, guard}
+use Rattle.ledger.specs.Ledger.{Ledger, start}
+use Rattle.ledger.specs.Calls.{Act, Reply, refused, done, step}
+
+-- no switch state; or one, with its settings and its ledger
+pub data Desk : Type 0 where
+  none : Desk
+  has : Settings → Ledger → Desk
+
+-- setup is told N, beat, D and K
+pub data Call : Type 0 where
+  setup : ℕ → ℕ → ℕ → ℕ → Call
+  act : Act → Call
+
+-- memory of n bytes: a setting not in its row, then memory shorter than N needs
+abbrev pub setupRules : ℕ → Settings → List Rule
+setupRules n S = refuse 2 (not (inRows S)) ∷ refuse 1 (ltb n (size S)) ∷ []
+
+abbrev pub onDesk : Settings → Reply × Ledger → Reply × Desk
+onDesk S out = (out .0, has S (out .1))
+
+-- one call at a desk whose memory has n bytes: the answer, and the desk after it
+abbrev pub desk : ℕ → Desk → Call → Reply × Desk
+desk n D (setup N b s c) = guard (setupRules n (settings N b s c)) (λ r. (refused r, D)) (done, has (settings N b s c) (start (settings N b s c)))
+desk n none (act a) = (refused 3, none)
+desk n (has S L) (act a) = onDesk S (step S L a)
+
+-- calls one after another: their answers
+abbrev pub replies : ℕ → Desk → List Call → List Reply
+replies n D [] = []
+replies n D (c ∷ cs) = desk n D c .0 ∷ replies n (desk n D c .1) cs
+
+-- and the desk after them
+abbrev pub after : ℕ → Desk → List Call → Desk
+after n D [] = D
+after n D (c ∷ cs) = after n (desk n D c .1) cs

@@ -1,0 +1,199 @@
+-- Paper 01, "The ledger": what is recorded, where nodes stand, the credits, and the setters by which calls change it. Assumes nothing.
+use mathlib.Core.Bool.{Bool, true, false, cond, _&&_}
+use mathlib.Core.List.{List, [], _∷_, _++_}
+use Prim.Native.Nat.{ℕ, zero, suc, _+_, _-_, _*_, _/_, _%_}
+use lib.ListN.{getD, set, drop, replicate}
+use lib.Dec.{ltb}
+use Rattle.ledger.specs.Settings.{Settings, ids, row}
+use Rattle.ledger.specs.Header.{Fields, queueOf, price}
+
+-- ---- nodes
+
+-- "A node's entry id is port × 2048 + index."
+abbrev pub entryId : ℕ → ℕ → ℕ
+entryId p i = p * 2048 + i
+
+abbrev pub owner : ℕ → ℕ
+owner y = y / 2048
+
+abbrev pub index : ℕ → ℕ
+index y = y % 2048
+
+unfoldable pub isNode : Settings → ℕ → Bool
+isNode S y = ltb (owner y) (S .ports) && ltb (index y) (S .nodes)
+
+-- a node with what is recorded for it
+pub record Packet : Type 0 where
+  pub node : ℕ
+  pub len : ℕ
+  pub queue : ℕ
+  pub dest : ℕ
+  pub stamp : ℕ
+  pub poisoned : ℕ
+  pub transaction : ℕ
+  pub price : ℕ
+
+-- a free node: nothing is recorded for it
+abbrev pub bare : ℕ → Packet
+bare x = record { node = x; len = 0; queue = 0; dest = 0; stamp = 0; poisoned = 0; transaction = 0; price = 0 }
+
+-- what node x holds once a header with these fields is recorded
+unfoldable pub recorded : Settings → ℕ → Fields → Packet
+recorded S x f = record {
+  node = x;
+  len = f .len;
+  queue = queueOf (S .queues) (f .queue);
+  dest = f .dest;
+  stamp = f .stamp;
+  poisoned = f .poisoned;
+  transaction = f .transaction;
+  price = price (S .beat) (queueOf (S .queues) (f .queue)) (f .len);
+}
+
+-- ---- places: a list each
+
+pub data Place : Type 0 where
+  free : ℕ → Place
+  ingress : ℕ → Place
+  egress : ℕ → ℕ → Place
+  prefetched : ℕ → ℕ → Place
+
+abbrev pub portOf : Place → ℕ
+portOf (free p) = p
+portOf (ingress p) = p
+portOf (egress p q) = p
+portOf (prefetched p q) = p
+
+-- the lists are numbered port by port: free, ingress, the egress lists, the prefetch lists
+abbrev pub column : Settings → Place → ℕ
+column S (free p) = 0
+column S (ingress p) = 1
+column S (egress p q) = suc (suc q)
+column S (prefetched p q) = suc (suc (S .queues + q))
+
+unfoldable pub place# : Settings → Place → ℕ
+place# S v = portOf v * row S + column S v
+
+-- and back: the place of a list's number
+abbrev pub placeIn : Settings → ℕ → ℕ → Place
+placeIn S p zero = free p
+placeIn S p (suc zero) = ingress p
+placeIn S p (suc (suc k)) = cond (ltb k (S .queues)) (egress p k) (prefetched p (k - S .queues))
+
+unfoldable pub placeOf : Settings → ℕ → Place
+placeOf S l = placeIn S (l / row S) (l % row S)
+
+-- ---- credits: a cell for each port and each queue but 0, which has none
+
+unfoldable pub cell : Settings → ℕ → ℕ → ℕ
+cell S p r = p * (S .queues - 1) + r
+
+unfoldable pub creditAt : Settings → List ℕ → ℕ → ℕ → ℕ
+creditAt S xs p zero = 0
+creditAt S xs p (suc r) = getD xs (cell S p r) 0
+
+unfoldable pub setCredit : Settings → List ℕ → ℕ → ℕ → ℕ → List ℕ
+setCredit S xs p zero v = xs
+setCredit S xs p (suc r) v = set xs (cell S p r) v
+
+-- ---- the ledger
+
+pub record Ledger : Type 0 where
+  pub lists : List (List Packet)
+  pub arrival : List ℕ
+  pub outward : List ℕ
+  pub last : List ℕ
+  pub mapped : List ℕ
+
+abbrev pub listAt : Settings → Ledger → Place → List Packet
+listAt S L v = getD (L .lists) (place# S v) []
+
+abbrev pub arrivalOf : Settings → Ledger → ℕ → ℕ → ℕ
+arrivalOf S L p q = creditAt S (L .arrival) p q
+
+abbrev pub outwardOf : Settings → Ledger → ℕ → ℕ → ℕ
+outwardOf S L p q = creditAt S (L .outward) p q
+
+abbrev pub lastOf : Ledger → ℕ → ℕ
+lastOf L p = getD (L .last) p 0
+
+abbrev pub mapOf : Ledger → ℕ → ℕ
+mapOf L d = getD (L .mapped) d 0
+
+-- ---- lists change in two ways: the oldest is taken off, a last one is put on
+
+abbrev pub oldest : List Packet → Packet
+oldest ks = getD ks 0 (bare 0)
+
+unfoldable pub pop : ℕ → List (List Packet) → List (List Packet)
+pop a ls = set ls a (drop 1 (getD ls a []))
+
+unfoldable pub push : ℕ → Packet → List (List Packet) → List (List Packet)
+push b k ls = set ls b (getD ls b [] ++ (k ∷ []))
+
+-- ---- setters, one for each part of the ledger
+
+-- the oldest of place v goes to the end of place w, as k
+unfoldable pub move : Settings → Place → Place → Packet → Ledger → Ledger
+move S v w k L = record {
+  lists = push (place# S w) k (pop (place# S v) (L .lists));
+  arrival = L .arrival;
+  outward = L .outward;
+  last = L .last;
+  mapped = L .mapped;
+}
+
+unfoldable pub putArrival : Settings → ℕ → ℕ → ℕ → Ledger → Ledger
+putArrival S p q v L = record {
+  lists = L .lists;
+  arrival = setCredit S (L .arrival) p q v;
+  outward = L .outward;
+  last = L .last;
+  mapped = L .mapped;
+}
+
+unfoldable pub putOutward : Settings → ℕ → ℕ → ℕ → Ledger → Ledger
+putOutward S p q v L = record {
+  lists = L .lists;
+  arrival = L .arrival;
+  outward = setCredit S (L .outward) p q v;
+  last = L .last;
+  mapped = L .mapped;
+}
+
+unfoldable pub putLast : ℕ → ℕ → Ledger → Ledger
+putLast p q L = record {
+  lists = L .lists;
+  arrival = L .arrival;
+  outward = L .outward;
+  last = set (L .last) p q;
+  mapped = L .mapped;
+}
+
+unfoldable pub putMap : ℕ → ℕ → Ledger → Ledger
+putMap d p L = record {
+  lists = L .lists;
+  arrival = L .arrival;
+  outward = L .outward;
+  last = L .last;
+  mapped = set (L .mapped) d p;
+}
+
+-- ---- the starting ledger: every node free, in order; all arrival credit in hand; the last queue last served
+
+abbrev pub bares : ℕ → ℕ → List Packet
+bares x zero = []
+bares x (suc n) = bare x ∷ bares (suc x) n
+
+abbrev pub startLists : Settings → ℕ → ℕ → List (List Packet)
+startLists S p zero = []
+startLists S p (suc n) = (bares (entryId p 0) (S .nodes) ∷ []) ++ (replicate (1 + 2 * S .queues) [] ++ startLists S (suc p) n)
+
+unfoldable pub start : Settings → Ledger
+start S = record {
+  lists = startLists S 0 (S .ports);
+  arrival = replicate (S .ports * (S .queues - 1)) (S .credit);
+  outward = replicate (S .ports * (S .queues - 1)) 0;
+  last = replicate (S .ports) (S .queues - 1);
+  mapped = replicate ids 0;
+}

@@ -1,0 +1,9 @@
+pub mod Settings
+pub mod Rules
+pub mod Header
+pub mod Ledger
+pub mod Ready
+pub mod Calls
+pub mod Desk
+pub mod Sound
+pub mod Demand
