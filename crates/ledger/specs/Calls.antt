@@ -75,8 +75,8 @@ sideOf (suc q) = outside
 unfoldable pub served : Settings → Ledger → ℕ → ℕ → Packet → Ledger
 served S L p q k =
     putLast p q
-    (putArrival S (owner (k .node)) q (arrivalOf S L (owner (k .node)) q + k .price)
     (putOutward S p q (outwardOf S L p q - k .price)
+    (putArrival S (owner (k .node)) q (arrivalOf S L (owner (k .node)) q + k .price)
     (move S (prefetched p q) (free (owner (k .node))) (bare (k .node)) L)))
 
 abbrev pub serve : Settings → Ledger → ℕ → ℕ → Reply × Ledger

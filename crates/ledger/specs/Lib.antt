@@ -7,3 +7,4 @@ pub mod Calls
 pub mod Desk
 pub mod Sound
 pub mod Demand
+pub mod Answers

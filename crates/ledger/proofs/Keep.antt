@@ -1,0 +1,333 @@
+-- Each way in which a call changes the ledger keeps (b) to (g). Assumes nothing.
+use mathlib.Core.Path.{_≡_, refl, sym, ap, _∙_, subst}
+use mathlib.Core.Logic.{_≢_, _⊎_, inl, inr}
+use mathlib.Core.Bool.{Bool, true, false, cond, not, _&&_, _||_}
+use mathlib.Core.List.{List, [], _∷_, _++_}
+use Prim.Native.Nat.{ℕ, zero, suc, _+_, _-_, _*_, _/_, _%_, _^_, _≤_, _<_, zero-le, suc-le-suc}
+use native.Mathlib.Omega.{arith}
+use native.Mathlib.Decide.{ℕ-discrete}
+use lib.ListN.{length, getD, set, drop, length-set, length-append}
+use lib.Seq.{getD-set-same, getD-set-other}
+use lib.Dec.{eqb}
+use Rattle.ledger.specs.Settings.{Settings, ids, row}
+use Rattle.ledger.specs.Header.{price}
+use Rattle.ledger.specs.Ledger.{owner, isNode, Packet, bare, Place, free, ingress, egress, prefetched, place#, placeOf, Ledger, listAt, arrivalOf, outwardOf, lastOf, mapOf, oldest, pop, push, move, putArrival, putOutward, putLast, putMap, setCredit}
+use Rattle.ledger.specs.Ready.{bit}
+use Rattle.ledger.specs.Calls.{isEmpty, firstOf, arrived, served}
+use Rattle.ledger.specs.Sound.{All, Everywhere, sum, weigh, Shaped, InRange, one, Once, OwnPort, OwnQueue, Proper, WellRecorded, owes, due, owed, Orderly, Roomy}
+use Rattle.ledger.proofs.Tests.{eqb-yes, eqb-no, eqb-is, eqb-not}
+use Rattle.ledger.proofs.Lists.{drop-le, weigh-pop, weigh-push, length-pop, length-push, at-push-other, at-push, at-pop-other, at-pop, All-front, everywhere-map, everywhere-both, everywhere-pop, everywhere-push, counted}
+use Rattle.ledger.proofs.Places.{Place·In, place#-lt, place-number, place#-inj, place#-other, Node, node-of, length-credit, credit-none, credit-at, credit-other, credit-le}
+
+pub price-free : (beat len : ℕ) → price beat 0 len ≡ 0
+unfolding price
+price-free beat len = refl
+
+-- a bound on every entry of a table outlasts a change of one
+pub set-lt : (xs : List ℕ) (i v j m : ℕ) → v < m → getD xs j 0 < m → getD (set xs i v) j 0 < m
+set-lt [] i v j m h k = k
+set-lt (x ∷ xs) zero v zero m h k = h
+set-lt (x ∷ xs) zero v (suc j) m h k = k
+set-lt (x ∷ xs) (suc i) v zero m h k = k
+set-lt (x ∷ xs) (suc i) v (suc j) m h k = set-lt xs i v j m h k
+
+-- a node owes its price to its owner's queue, and nothing to any other
+pub owes-cases : (k : Packet) (p q : ℕ)
+    → ((owner (k .node) ≡ p) × (k .queue ≡ q) × (owes p q k ≡ k .price)) ⊎ (((owner (k .node) ≡ p) → (k .queue ≡ q) → ⊥) × (owes p q k ≡ 0))
+owes-cases k p q = go (eqb (owner (k .node)) p) refl (eqb (k .queue) q) refl
+  where
+    go : (a : Bool) → eqb (owner (k .node)) p ≡ a → (b : Bool) → eqb (k .queue) q ≡ b
+        → ((owner (k .node) ≡ p) × (k .queue ≡ q) × (cond (a && b) (k .price) 0 ≡ k .price)) ⊎ (((owner (k .node) ≡ p) → (k .queue ≡ q) → ⊥) × (cond (a && b) (k .price) 0 ≡ 0))
+    go true d true e = inl (eqb-yes (owner (k .node)) p d, eqb-yes (k .queue) q e, refl)
+    go true d false e = inr ((λ h i. eqb-no (k .queue) q e i), refl)
+    go false d b e = inr ((λ h i. eqb-no (owner (k .node)) p d h), refl)
+
+-- (d), (e) and (f) together: what a place asks of a node in it
+abbrev pub Fits : Settings → Place → Packet → Type 0
+Fits S v k = OwnPort v k × OwnQueue v k × WellRecorded S v k
+
+module _ (S : Settings) (roomy : Roomy S) (L : Ledger) (s : Orderly S L) where
+  pub some-queue : 0 < S .queues
+  some-queue = omega (arith, roomy .some-queues)
+
+  pub len : (v : Place) → Place·In S v → place# S v < length (L .lists)
+  len v h = omega (arith, place#-lt S v h, s .shaped .lists-long)
+
+  pub nodes : Everywhere (λ l k. Node S (k .node)) (L .lists)
+  nodes = everywhere-map (L .lists) (λ l k j. node-of S (k .node) (omega (arith, s .once (k .node)))) (counted (L .lists))
+
+  pub fits : Everywhere (λ l k. Fits S (placeOf S l) k) (L .lists)
+  fits =
+      everywhere-both (L .lists) (λ l k a b. (a, b .0, b .1)) (s .owned)
+      (everywhere-both {W = λ l k. OwnQueue (placeOf S l) k × WellRecorded S (placeOf S l) k} (L .lists) (λ l k a b. (a, b)) (s .queued) (s .proper))
+
+  -- what is known of the oldest node of a place
+  module _ (v : Place) (h : Place·In S v) (e : isEmpty (listAt S L v) ≡ false) where
+    pub first-fits : Fits S v (firstOf S L v)
+    first-fits =
+        subst (λ (u : Place). Fits S u (firstOf S L v)) (place-number S v h)
+        (All-front (λ k. Fits S (placeOf S (place# S v)) k) (listAt S L v) e (fits .holds (place# S v) (len v h)))
+
+    pub first-node : Node S (firstOf S L v .node)
+    first-node = All-front (λ k. Node S (k .node)) (listAt S L v) e (nodes .holds (place# S v) (len v h))
+
+    -- it goes to the end of place w, as k, which is the same node
+    module _ (w : Place) (h′ : Place·In S w) (k : Packet) (same : k .node ≡ firstOf S L v .node) where
+      abbrev moved : List (List Packet)
+      moved = push (place# S w) k (pop (place# S v) (L .lists))
+
+      to-len : place# S w < length (pop (place# S v) (L .lists))
+      to-len = omega (arith, length-pop (place# S v) (L .lists), len w h′)
+
+      weigh-moved : (f : ℕ → Packet → ℕ) → weigh f moved + f (place# S v) (firstOf S L v) ≡ weigh f (L .lists) + f (place# S w) k
+      weigh-moved f =
+          omega (arith, weigh-push f (place# S w) k (pop (place# S v) (L .lists)) to-len, weigh-pop f (place# S v) (L .lists) (len v h) e)
+
+      pub once-moved : Once S moved
+      once-moved y = omega (arith, weigh-moved (one y), s .once y, ap (λ (x : ℕ). bit (eqb x y)) same)
+
+      long-moved : length moved ≡ S .ports * row S
+      long-moved = length-push (place# S w) k (pop (place# S v) (L .lists)) ∙ length-pop (place# S v) (L .lists) ∙ s .shaped .lists-long
+
+      everywhere-moved : (P : ℕ → Packet → Type 0) → Everywhere P (L .lists) → P (place# S w) k → Everywhere P moved
+      everywhere-moved P a b = everywhere-push (place# S w) k (pop (place# S v) (L .lists)) to-len (everywhere-pop (place# S v) (L .lists) (len v h) a) b
+
+      at-w : (P : Place → Packet → Type 0) → P w k → P (placeOf S (place# S w)) k
+      at-w P a = rw (place-number S w h′) a
+
+      -- what is owed changes by what the node owes there and owed here
+      pub owed-moved : (p q : ℕ) → weigh (owed S p q) moved + due p q v (firstOf S L v) ≡ weigh (owed S p q) (L .lists) + due p q w k
+      owed-moved p q =
+          let e₁ = weigh-moved (owed S p q) in
+          rw (place-number S v h, place-number S w h′) at e₁
+
+      -- where the lists stand afterwards
+      module _ (apart : v ≢ w) where
+        pub from-moved : listAt S (move S v w k L) v ≡ drop 1 (listAt S L v)
+        unfolding move
+        from-moved =
+            at-push-other (place# S w) k (place# S v) (pop (place# S v) (L .lists)) (place#-other S v w h h′ apart)
+            ∙ at-pop (place# S v) (L .lists) (len v h)
+
+        pub to-moved : listAt S (move S v w k L) w ≡ listAt S L w ++ (k ∷ [])
+        unfolding move
+        to-moved =
+            at-push (place# S w) k (pop (place# S v) (L .lists)) to-len
+            ∙ ap (λ (ks : List Packet). ks ++ (k ∷ [])) (at-pop-other (place# S v) (place# S w) (L .lists) (place#-other S w v h′ h (λ i. apart (sym i))))
+
+        pub else-moved : (u : Place) → Place·In S u → u ≢ v → u ≢ w → listAt S (move S v w k L) u ≡ listAt S L u
+        unfolding move
+        else-moved u hu n m =
+            at-push-other (place# S w) k (place# S u) (pop (place# S v) (L .lists)) (place#-other S u w hu h′ m)
+            ∙ at-pop-other (place# S v) (place# S u) (L .lists) (place#-other S u v hu h n)
+
+        -- the prefetch lists stay within their slots
+        pub slots-moved : ((p q : ℕ) → prefetched p q ≡ w → length (listAt S L w) < S .slots)
+            → (p q : ℕ) → p < S .ports → q < S .queues → length (listAt S (move S v w k L) (prefetched p q)) ≤ S .slots
+        slots-moved f p q hp hq = go (ℕ-discrete (place# S (prefetched p q)) (place# S w)) (ℕ-discrete (place# S (prefetched p q)) (place# S v))
+          where
+            same-place : (u : Place) → Place·In S u → place# S (prefetched p q) ≡ place# S u → prefetched p q ≡ u
+            same-place u hu i = place#-inj S (prefetched p q) u (hp, hq) hu i
+
+            go : Dec (place# S (prefetched p q) ≡ place# S w) → Dec (place# S (prefetched p q) ≡ place# S v)
+                → length (listAt S (move S v w k L) (prefetched p q)) ≤ S .slots
+            go (yes i) d =
+                rw (i, to-moved, length-append (listAt S L w) (k ∷ []))
+                (omega (arith, f p q (same-place w h′ i)))
+            go (no i) (yes j) =
+                rw (j, from-moved)
+                (let a : length (listAt S L v) ≤ S .slots = rw j at (s .ranges .slots-in p q hp hq) in
+                omega (arith, drop-le (listAt S L v), a))
+            go (no i) (no j) =
+                rw (else-moved (prefetched p q) (hp, hq) (λ z. j (ap (place# S) z)) (λ z. i (ap (place# S) z))) (s .ranges .slots-in p q hp hq)
+
+        -- a movement that changes nothing else, between places where the node owes the same
+        pub keep-moved : ((p q : ℕ) → prefetched p q ≡ w → length (listAt S L w) < S .slots) → Fits S w k
+            → ((p q : ℕ) → due p q v (firstOf S L v) ≡ due p q w k) → Orderly S (move S v w k L)
+        unfolding move
+        keep-moved f ok same-due = record {
+          shaped = record {
+            lists-long = long-moved;
+            arrival-long = s .shaped .arrival-long;
+            outward-long = s .shaped .outward-long;
+            last-long = s .shaped .last-long;
+            mapped-long = s .shaped .mapped-long;
+          };
+          ranges = record {
+            last-in = s .ranges .last-in;
+            map-in = s .ranges .map-in;
+            arrival-in = s .ranges .arrival-in;
+            outward-in = s .ranges .outward-in;
+            slots-in = slots-moved f;
+          };
+          once = once-moved;
+          owned = everywhere-moved (λ l j. OwnPort (placeOf S l) j) (s .owned) (at-w OwnPort (ok .0));
+          queued = everywhere-moved (λ l j. OwnQueue (placeOf S l) j) (s .queued) (at-w OwnQueue (ok .1));
+          proper = everywhere-moved (λ l j. WellRecorded S (placeOf S l) j) (s .proper) (at-w (WellRecorded S) (ok .2));
+          paid = λ p q hp h0 hq. omega (arith, owed-moved p q, same-due p q, s .paid p q hp h0 hq);
+        }
+
+        -- a movement with which the arrival credit of one port and queue changes by as much as is owed
+        pub keep-traded : ((p q : ℕ) → prefetched p q ≡ w → length (listAt S L w) < S .slots) → Fits S w k
+            → (a t c : ℕ)
+            → ((p q : ℕ) → q < S .queues → arrivalOf S (putArrival S a t c L) p q + due p q w k ≡ arrivalOf S L p q + due p q v (firstOf S L v))
+            → Orderly S (putArrival S a t c (move S v w k L))
+        unfolding move putArrival
+        keep-traded f ok a t c traded = record {
+          shaped = record {
+            lists-long = long-moved;
+            arrival-long = length-credit S (L .arrival) a t c ∙ s .shaped .arrival-long;
+            outward-long = s .shaped .outward-long;
+            last-long = s .shaped .last-long;
+            mapped-long = s .shaped .mapped-long;
+          };
+          ranges = record {
+            last-in = s .ranges .last-in;
+            map-in = s .ranges .map-in;
+            arrival-in = λ p q hp hq. in-range p q hp hq;
+            outward-in = s .ranges .outward-in;
+            slots-in = slots-moved f;
+          };
+          once = once-moved;
+          owned = everywhere-moved (λ l j. OwnPort (placeOf S l) j) (s .owned) (at-w OwnPort (ok .0));
+          queued = everywhere-moved (λ l j. OwnQueue (placeOf S l) j) (s .queued) (at-w OwnQueue (ok .1));
+          proper = everywhere-moved (λ l j. WellRecorded S (placeOf S l) j) (s .proper) (at-w (WellRecorded S) (ok .2));
+          paid = paid-traded;
+        }
+          where
+            paid-traded : (p q : ℕ) → p < S .ports → 0 < q → q < S .queues → arrivalOf S (putArrival S a t c L) p q + weigh (owed S p q) moved ≡ S .credit
+            paid-traded p q hp h0 hq = omega (arith, owed-moved p q, traded p q hq, s .paid p q hp h0 hq)
+
+            in-range : (p q : ℕ) → p < S .ports → q < S .queues → arrivalOf S (putArrival S a t c L) p q ≤ 65535
+            in-range p zero hp hq = omega (arith, credit-none S (setCredit S (L .arrival) a t c) p)
+            in-range p (suc q) hp hq = omega (arith, paid-traded p (suc q) hp (suc-le-suc zero-le) hq, roomy .low-credit)
+
+  -- ---- outward credit, the mark and the map
+
+  pub keep-outward : (p q v : ℕ) → v ≤ 65535 → Orderly S (putOutward S p q v L)
+  unfolding putOutward
+  keep-outward p q v hv = record {
+    shaped = record {
+      lists-long = s .shaped .lists-long;
+      arrival-long = s .shaped .arrival-long;
+      outward-long = length-credit S (L .outward) p q v ∙ s .shaped .outward-long;
+      last-long = s .shaped .last-long;
+      mapped-long = s .shaped .mapped-long;
+    };
+    ranges = record {
+      last-in = s .ranges .last-in;
+      map-in = s .ranges .map-in;
+      arrival-in = s .ranges .arrival-in;
+      outward-in = λ p′ q′ hp′ hq′. credit-le S (L .outward) p q v p′ q′ 65535 hv (s .ranges .outward-in p′ q′ hp′ hq′);
+      slots-in = s .ranges .slots-in;
+    };
+    once = s .once;
+    owned = s .owned;
+    queued = s .queued;
+    proper = s .proper;
+    paid = s .paid;
+  }
+
+  pub keep-last : (p q : ℕ) → q < S .queues → Orderly S (putLast p q L)
+  unfolding putLast
+  keep-last p q hq = record {
+    shaped = record {
+      lists-long = s .shaped .lists-long;
+      arrival-long = s .shaped .arrival-long;
+      outward-long = s .shaped .outward-long;
+      last-long = length-set (L .last) p q ∙ s .shaped .last-long;
+      mapped-long = s .shaped .mapped-long;
+    };
+    ranges = record {
+      last-in = λ r hr. set-lt (L .last) p q r (S .queues) hq (s .ranges .last-in r hr);
+      map-in = s .ranges .map-in;
+      arrival-in = s .ranges .arrival-in;
+      outward-in = s .ranges .outward-in;
+      slots-in = s .ranges .slots-in;
+    };
+    once = s .once;
+    owned = s .owned;
+    queued = s .queued;
+    proper = s .proper;
+    paid = s .paid;
+  }
+
+  pub keep-mapped : (d p : ℕ) → p < S .ports → Orderly S (putMap d p L)
+  unfolding putMap
+  keep-mapped d p hp = record {
+    shaped = record {
+      lists-long = s .shaped .lists-long;
+      arrival-long = s .shaped .arrival-long;
+      outward-long = s .shaped .outward-long;
+      last-long = s .shaped .last-long;
+      mapped-long = length-set (L .mapped) d p ∙ s .shaped .mapped-long;
+    };
+    ranges = record {
+      last-in = s .ranges .last-in;
+      map-in = λ i hi. set-lt (L .mapped) d p i (S .ports) hp (s .ranges .map-in i hi);
+      arrival-in = s .ranges .arrival-in;
+      outward-in = s .ranges .outward-in;
+      slots-in = s .ranges .slots-in;
+    };
+    once = s .once;
+    owned = s .owned;
+    queued = s .queued;
+    proper = s .proper;
+    paid = s .paid;
+  }
+
+  -- ---- arrival credit trades with what is owed
+
+  price-zero : (k : Packet) → Proper S k → k .queue ≡ 0 → k .price ≡ 0
+  price-zero k h e = h .price-is ∙ ap (λ (q : ℕ). price (S .beat) q (k .len)) e ∙ price-free (S .beat) (k .len)
+
+  -- node k comes to owe, or owes no more, what the credit of its port and queue falls, or rises, by
+  module _ (k : Packet) (good : Proper S k) (home : owner (k .node) < S .ports) where
+    abbrev own : ℕ
+    own = owner (k .node)
+
+    -- queue 0 has no credit, and owes none
+    nothing-owed : (r : ℕ) → owes r 0 k ≡ 0
+    nothing-owed r = go (owes-cases k r 0)
+      where
+        go : ((own ≡ r) × (k .queue ≡ 0) × (owes r 0 k ≡ k .price)) ⊎ (((own ≡ r) → (k .queue ≡ 0) → ⊥) × (owes r 0 k ≡ 0)) → owes r 0 k ≡ 0
+        go (inl h) = h .2 ∙ price-zero k good (h .1)
+        go (inr h) = h .1
+
+    pub lowered : k .price ≤ arrivalOf S L own (k .queue) → (r t : ℕ) → t < S .queues
+        → arrivalOf S (putArrival S own (k .queue) (arrivalOf S L own (k .queue) - k .price) L) r t + owes r t k ≡ arrivalOf S L r t
+    unfolding putArrival
+    lowered afford r zero ht =
+        omega (arith, nothing-owed r, credit-none S (setCredit S (L .arrival) own (k .queue) (arrivalOf S L own (k .queue) - k .price)) r, credit-none S (L .arrival) r)
+    lowered afford r (suc t) ht = go (owes-cases k r (suc t))
+      where
+        lo : ℕ
+        lo = arrivalOf S L own (k .queue) - k .price
+
+        go : ((own ≡ r) × (k .queue ≡ suc t) × (owes r (suc t) k ≡ k .price)) ⊎ (((own ≡ r) → (k .queue ≡ suc t) → ⊥) × (owes r (suc t) k ≡ 0))
+            → arrivalOf S (putArrival S own (k .queue) lo L) r (suc t) + owes r (suc t) k ≡ arrivalOf S L r (suc t)
+        go (inl h) =
+            let same : arrivalOf S L own (k .queue) ≡ arrivalOf S L r (suc t) = ap (λ (a : ℕ). arrivalOf S L a (k .queue)) (h .0) ∙ ap (λ (b : ℕ). arrivalOf S L r b) (h .1) in
+            omega (arith, h .2, same, credit-at S (L .arrival) own (k .queue) lo (s .shaped .arrival-long) home (good .queue-in) r (suc t) (h .0) (h .1) (suc-le-suc zero-le))
+        go (inr h) = omega (arith, h .1, credit-other S (L .arrival) own (k .queue) lo (s .shaped .arrival-long) home (good .queue-in) r (suc t) ht (h .0))
+
+    pub raised : (q : ℕ) → k .queue ≡ q → (r t : ℕ) → t < S .queues
+        → arrivalOf S (putArrival S own q (arrivalOf S L own q + k .price) L) r t ≡ arrivalOf S L r t + owes r t k
+    unfolding putArrival
+    raised q kq r zero ht =
+        omega (arith, nothing-owed r, credit-none S (setCredit S (L .arrival) own q (arrivalOf S L own q + k .price)) r, credit-none S (L .arrival) r)
+    raised q kq r (suc t) ht = go (owes-cases k r (suc t))
+      where
+        hi : ℕ
+        hi = arrivalOf S L own q + k .price
+
+        hq : q < S .queues
+        hq = omega (arith, good .queue-in)
+
+        go : ((own ≡ r) × (k .queue ≡ suc t) × (owes r (suc t) k ≡ k .price)) ⊎ (((own ≡ r) → (k .queue ≡ suc t) → ⊥) × (owes r (suc t) k ≡ 0))
+            → arrivalOf S (putArrival S own q hi L) r (suc t) ≡ arrivalOf S L r (suc t) + owes r (suc t) k
+        go (inl h) =
+            let qt : q ≡ suc t = sym kq ∙ h .1 in
+            let same : arrivalOf S L own q ≡ arrivalOf S L r (suc t) = ap (λ (a : ℕ). arrivalOf S L a q) (h .0) ∙ ap (λ (b : ℕ). arrivalOf S L r b) qt in
+            omega (arith, h .2, same, credit-at S (L .arrival) own q hi (s .shaped .arrival-long) home hq r (suc t) (h .0) qt (suc-le-suc zero-le))
+        go (inr h) = omega (arith, h .1, credit-other S (L .arrival) own q hi (s .shaped .arrival-long) home hq r (suc t) ht (λ a b. h .0 a (kq ∙ b)))

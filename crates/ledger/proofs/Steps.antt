@@ -1,0 +1,170 @@
+-- Every act keeps (b) to (g). Assumes nothing.
+use mathlib.Core.Path.{_≡_, refl, sym, ap, _∙_, subst}
+use mathlib.Core.Logic.{_≢_, _⊎_, inl, inr}
+use mathlib.Core.Bool.{Bool, true, false, cond, not, _&&_, _||_}
+use mathlib.Core.List.{List, [], _∷_, _++_}
+use Prim.Native.Nat.{ℕ, zero, suc, _+_, _-_, _*_, _≤_, _<_}
+use native.Mathlib.Omega.{arith}
+use lib.ListN.{length}
+use lib.Dec.{eqb, ltb, leb}
+use Rattle.ledger.specs.Settings.{Settings, ids}
+use Rattle.ledger.specs.Rules.{Rule, refuse, guard, Clear}
+use Rattle.ledger.specs.Header.{fieldsOf, leastLength}
+use Rattle.ledger.specs.Ledger.{owner, Packet, bare, recorded, Place, free, ingress, egress, prefetched, Ledger, listAt, arrivalOf, outwardOf, lastOf, mapOf, move, putArrival, putOutward, putLast}
+use Rattle.ledger.specs.Ready.{covered, isReady, wordOf, readyWord, pick}
+use Rattle.ledger.specs.Calls.{Act, arrive, stitch, prefetch, credit, mapTo, turn, ready, whereIs, Reply, refused, idle, isEmpty, firstOf, arriving, arrived, served, serve, turned, rules, result, step, run}
+use Rattle.ledger.specs.Sound.{Proper, OwnPort, OwnQueue, WellRecorded, owes, due, Orderly, Roomy}
+use Rattle.ledger.proofs.Tests.{leb-yes, leb-no, ltb-no, or-left}
+use Rattle.ledger.proofs.Places.{Place·In}
+use Rattle.ledger.proofs.Keep.{Fits, some-queue, first-fits, first-node, keep-moved, keep-traded, keep-outward, keep-last, keep-mapped, lowered, raised}
+use Rattle.ledger.proofs.Header.{fields-in, queue-of-lt}
+use Rattle.ledger.proofs.Ready.{picked-ready}
+
+-- what holds of each refusal, and of the outcome where none applies, holds of what the rules decide
+pub guarded : {X : Type 0} (P : X → Type 0) (rs : List Rule) (no′ : ℕ → X) (out : X)
+    → ((n : ℕ) → P (no′ n)) → (Clear rs → P out) → P (guard rs no′ out)
+guarded P [] no′ out f g = g tt
+guarded P (refuse n true ∷ rs) no′ out f g = f n
+guarded P (refuse n false ∷ rs) no′ out f g = guarded P rs no′ out f (λ c. g (refl, c))
+
+-- where no rule applies, the outcome
+pub cleared : {X : Type 0} (rs : List Rule) (no′ : ℕ → X) (out : X) → Clear rs → guard rs no′ out ≡ out
+cleared [] no′ out c = refl
+cleared (refuse n true ∷ rs) no′ out c = absurd (Rattle.ledger.proofs.Tests.true≢false (c .0))
+cleared (refuse n false ∷ rs) no′ out c = cleared rs no′ out (c .1)
+
+covered-some : (q c : ℕ) (ks : List Packet) → covered q c ks ≡ true → isEmpty ks ≡ false
+covered-some q c [] e = sym e
+covered-some q c (k ∷ ks) e = refl
+
+module _ (S : Settings) (roomy : Roomy S) where
+  -- what is recorded of a header is proper, if its length is
+  pub recorded-proper : (x : ℕ) (h : List ℕ) → leastLength ≤ fieldsOf h .len → Proper S (recorded S x (fieldsOf h))
+  unfolding recorded
+  recorded-proper x h low =
+      let f = fields-in h in
+      record {
+        len-low = low;
+        len-high = f .len-in;
+        queue-in = queue-of-lt (S .queues) (fieldsOf h .queue) (omega (arith, roomy .some-queues));
+        dest-in = f .dest-in;
+        stamp-in = f .stamp-in;
+        poisoned-in = f .poisoned-in;
+        transaction-in = f .transaction-in;
+        price-is = refl;
+      }
+
+  pub ready-some : (L : Ledger) (p q : ℕ) → isReady S L p q ≡ true → isEmpty (listAt S L (prefetched p q)) ≡ false
+  unfolding isReady
+  ready-some L p q e = covered-some q (outwardOf S L p q) (listAt S L (prefetched p q)) e
+
+  module _ (L : Ledger) (s : Orderly S L) where
+    -- the queue that a turn serves, if the ready word isn't 0
+    pub picked-some : (p : ℕ) → p < S .ports → eqb (readyWord S L p) 0 ≡ false
+        → (pick (lastOf L p) (readyWord S L p) < S .queues) × (isEmpty (listAt S L (prefetched p (pick (lastOf L p) (readyWord S L p)))) ≡ false)
+    unfolding readyWord
+    picked-some p hp e =
+        let r = picked-ready (isReady S L p) (lastOf L p) (S .queues) (s .ranges .last-in p hp) (roomy .few-queues) e in
+        (r .0, ready-some L p (pick (lastOf L p) (wordOf (isReady S L p) (S .queues))) (r .1))
+
+    -- arrive
+    keep-arrived : (p : ℕ) (h : List ℕ) → p < S .ports → leastLength ≤ fieldsOf h .len
+        → arriving S L p h .price ≤ arrivalOf S L p (arriving S L p h .queue) → isEmpty (listAt S L (free p)) ≡ false
+        → Orderly S (arrived S L p (arriving S L p h))
+    unfolding arrived
+    keep-arrived p h hp low afford e =
+        let k : Packet = arriving S L p h in
+        let v-in : Place·In S (free p) = (hp, some-queue S roomy L s) in
+        let good : Proper S k = recorded-proper (firstOf S L (free p) .node) h low in
+        let same : k .node ≡ firstOf S L (free p) .node = unfold recorded in refl in
+        let own : owner (k .node) ≡ p = ap owner same ∙ first-fits S roomy L s (free p) v-in e .0 in
+        keep-traded S roomy L s (free p) v-in e (ingress p) v-in k same
+        (λ i. let z : _≡_ {A = ℕ} 0 1 = cc in omega arith)
+        (λ a b i. absurd (let z : _≡_ {A = ℕ} 0 1 = cc in omega arith))
+        (own, tt, good)
+        p (k .queue) (arrivalOf S L p (k .queue) - k .price)
+        (λ r t ht. omega (arith, low-by r t ht own good afford))
+      where
+        low-by : (r t : ℕ) → t < S .queues → owner (arriving S L p h .node) ≡ p → Proper S (arriving S L p h)
+            → arriving S L p h .price ≤ arrivalOf S L p (arriving S L p h .queue)
+            → arrivalOf S (putArrival S p (arriving S L p h .queue) (arrivalOf S L p (arriving S L p h .queue) - arriving S L p h .price) L) r t
+            + owes r t (arriving S L p h) ≡ arrivalOf S L r t
+        low-by r t ht own good afford =
+            let k : Packet = arriving S L p h in
+            subst (λ (a : ℕ). arrivalOf S (putArrival S a (k .queue) (arrivalOf S L a (k .queue) - k .price) L) r t + owes r t k ≡ arrivalOf S L r t) own
+            (lowered S roomy L s k good (omega arith) (rw own afford) r t ht)
+
+    -- stitch
+    keep-stitched : (p : ℕ) → p < S .ports → isEmpty (listAt S L (ingress p)) ≡ false
+        → Orderly S (move S (ingress p) (egress (mapOf L (firstOf S L (ingress p) .dest)) (firstOf S L (ingress p) .queue)) (firstOf S L (ingress p)) L)
+    keep-stitched p hp e =
+        let k : Packet = firstOf S L (ingress p) in
+        let v-in : Place·In S (ingress p) = (hp, some-queue S roomy L s) in
+        let f = first-fits S roomy L s (ingress p) v-in e in
+        keep-moved S roomy L s (ingress p) v-in e (egress (mapOf L (k .dest)) (k .queue)) (s .ranges .map-in (k .dest) (f .2 .dest-in), f .2 .queue-in) k refl
+        (λ i. let z : _≡_ {A = ℕ} 0 1 = cc in omega arith)
+        (λ a b i. absurd (let z : _≡_ {A = ℕ} 0 1 = cc in omega arith))
+        (tt, refl, f .2)
+        (λ a b. refl)
+
+    -- prefetch
+    keep-prefetched : (p q : ℕ) → p < S .ports → q < S .queues → isEmpty (listAt S L (egress p q)) ≡ false
+        → length (listAt S L (prefetched p q)) < S .slots → Orderly S (move S (egress p q) (prefetched p q) (firstOf S L (egress p q)) L)
+    keep-prefetched p q hp hq e few =
+        keep-moved S roomy L s (egress p q) (hp, hq) e (prefetched p q) (hp, hq) (firstOf S L (egress p q)) refl
+        (λ i. let z : _≡_ {A = ℕ} 0 1 = cc in omega arith)
+        (λ a b i. few)
+        (first-fits S roomy L s (egress p q) (hp, hq) e)
+        (λ a b. refl)
+
+    -- a turn that serves queue q
+    pub keep-served : (p q : ℕ) → p < S .ports → q < S .queues → isEmpty (listAt S L (prefetched p q)) ≡ false
+        → Orderly S (served S L p q (firstOf S L (prefetched p q)))
+    unfolding served
+    keep-served p q hp hq e =
+        let k : Packet = firstOf S L (prefetched p q) in
+        let f = first-fits S roomy L s (prefetched p q) (hp, hq) e in
+        let n = first-node S roomy L s (prefetched p q) (hp, hq) e in
+        let o : Orderly S (putArrival S (owner (k .node)) q (arrivalOf S L (owner (k .node)) q + k .price) (move S (prefetched p q) (free (owner (k .node))) (bare (k .node)) L)) =
+            keep-traded S roomy L s (prefetched p q) (hp, hq) e (free (owner (k .node))) (n .home, some-queue S roomy L s) (bare (k .node)) refl
+            (λ i. let z : _≡_ {A = ℕ} 0 1 = cc in omega arith)
+            (λ a b i. absurd (let z : _≡_ {A = ℕ} 0 1 = cc in omega arith))
+            (refl, tt, tt)
+            (owner (k .node)) q (arrivalOf S L (owner (k .node)) q + k .price)
+            (λ r t ht. omega (arith, raised S roomy L s k (f .2) (n .home) q (f .1) r t ht)) in
+        let u : Orderly S (putOutward S p q (outwardOf S L p q - k .price) (putArrival S (owner (k .node)) q (arrivalOf S L (owner (k .node)) q + k .price) (move S (prefetched p q) (free (owner (k .node))) (bare (k .node)) L))) =
+            keep-outward S roomy _ o p q (outwardOf S L p q - k .price) (omega (arith, s .ranges .outward-in p q hp hq)) in
+        keep-last S roomy _ u p q hq
+
+    keep-turned : (p w : ℕ) → p < S .ports
+        → (eqb w 0 ≡ false → (pick (lastOf L p) w < S .queues) × (isEmpty (listAt S L (prefetched p (pick (lastOf L p) w))) ≡ false))
+        → Orderly S (turned S L p w .1)
+    keep-turned p w hp some = go (eqb w 0) some
+      where
+        go : (b : Bool) → (b ≡ false → (pick (lastOf L p) w < S .queues) × (isEmpty (listAt S L (prefetched p (pick (lastOf L p) w))) ≡ false))
+            → Orderly S ((cond b (idle, L) (serve S L p (pick (lastOf L p) w))) .1)
+        go true f = s
+        go false f = keep-served p (pick (lastOf L p) w) hp (f refl .0) (f refl .1)
+
+    keep-result : (a : Act) → Clear (rules S L a) → Orderly S (result S L a .1)
+    keep-result (arrive p h) c =
+        keep-arrived p h (leb-no (S .ports) p (c .0)) (ltb-no (fieldsOf h .len) leastLength (c .1 .1 .1 .1 .0))
+        (ltb-no (arrivalOf S L p (arriving S L p h .queue)) (arriving S L p h .price) (c .1 .1 .1 .1 .1 .0)) (c .1 .1 .1 .1 .1 .1 .0)
+    keep-result (stitch p) c = keep-stitched p (leb-no (S .ports) p (c .0)) (c .1 .0)
+    keep-result (prefetch p q) c =
+        keep-prefetched p q (leb-no (S .ports) p (c .0)) (leb-no (S .queues) q (c .1 .0)) (c .1 .1 .0)
+        (leb-no (S .slots) (length (listAt S L (prefetched p q))) (c .1 .1 .1 .0))
+    keep-result (credit p q n) c = keep-outward S roomy L s p q (outwardOf S L p q + n) (ltb-no 65535 (outwardOf S L p q + n) (c .1 .1 .0))
+    keep-result (mapTo d p) c = keep-mapped S roomy L s d p (leb-no (S .ports) p (c .1 .0))
+    keep-result (turn p) c =
+        let hp : p < S .ports = leb-no (S .ports) p (c .0) in
+        keep-turned p (readyWord S L p) hp (picked-some p hp)
+    keep-result (ready p) c = s
+    keep-result (whereIs y) c = s
+
+    pub keep-step : (a : Act) → Orderly S (step S L a .1)
+    keep-step a = guarded (λ out. Orderly S (out .1)) (rules S L a) (λ n. (refused n, L)) (result S L a) (λ n. s) (keep-result a)
+
+  pub keep-run : (L : Ledger) → Orderly S L → (acts : List Act) → Orderly S (run S L acts)
+  keep-run L s [] = s
+  keep-run L s (a ∷ acts) = keep-run (step S L a .1) (keep-step L s a) acts
