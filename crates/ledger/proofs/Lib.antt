@@ -5,3 +5,5 @@ pub mod Header
 pub mod Ready
 pub mod Keep
 pub mod Steps
+pub mod Rows
+pub mod Waits

@@ -64,7 +64,7 @@ module _ (S : Settings) (roomy : Roomy S) where
         → (pick (lastOf L p) (readyWord S L p) < S .queues) × (isEmpty (listAt S L (prefetched p (pick (lastOf L p) (readyWord S L p)))) ≡ false)
     unfolding readyWord
     picked-some p hp e =
-        let r = picked-ready (isReady S L p) (lastOf L p) (S .queues) (s .ranges .last-in p hp) (roomy .few-queues) e in
+        let r = picked-ready (isReady S L p) (lastOf L p) (S .queues) (roomy .few-queues) e in
         (r .0, ready-some L p (pick (lastOf L p) (wordOf (isReady S L p) (S .queues))) (r .1))
 
     -- arrive

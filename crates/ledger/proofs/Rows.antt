@@ -1,0 +1,125 @@
+-- Settings that are in their rows: which beats there are, what each row says, and the bytes that a state takes. Assumes nothing.
+use mathlib.Core.Path.{_≡_, refl}
+use mathlib.Core.Logic.{_⊎_, inl, inr}
+use mathlib.Core.Bool.{Bool, true, cond, _&&_, _||_}
+use Prim.Native.Nat.{ℕ, zero, suc, _+_, _*_, _≤_, _<_}
+use native.Mathlib.Nat.{not-suc-le-zero}
+use native.Mathlib.Decide.{ℕ-discrete}
+use native.Mathlib.Omega.{arith}
+use lib.Dec.{eqb, leb}
+use lib.Count.{ones}
+use Rattle.ledger.specs.Settings.{Settings, isBeat, inRows, row, size}
+use Rattle.ledger.specs.Sound.{Roomy}
+use Rattle.ledger.proofs.Tests.{leb-yes, eqb-yes, eqb-not, and-left, and-right}
+
+leb-and : (m n : ℕ) (b : Bool) → (leb m n && b) ≡ true → (m ≤ n) × (b ≡ true)
+leb-and m n b e = (leb-yes m n (and-left (leb m n) b e), and-right (leb m n) b e)
+
+eqb-and : (m n : ℕ) (b : Bool) → (eqb m n && b) ≡ true → (m ≡ n) × (b ≡ true)
+eqb-and m n b e = (eqb-yes m n (and-left (eqb m n) b e), and-right (eqb m n) b e)
+
+eqb-or : {P : Type 0} (m n : ℕ) (b : Bool) → (b ≡ true → P) → (eqb m n || b) ≡ true → (m ≡ n) ⊎ P
+eqb-or {P} m n b f e = go (ℕ-discrete m n)
+  where
+    go : Dec (m ≡ n) → (m ≡ n) ⊎ P
+    go (yes d) = inl d
+    go (no d) = inr (f (rw (eqb-not m n d) at e))
+
+-- ---- the beats
+
+pub beat-range : (b : ℕ) → isBeat b ≡ true → (64 ≤ b) × (b ≤ 512)
+unfolding isBeat
+beat-range b e = let l = leb-and 64 b _ e in (l .0, leb-and b 512 _ (l .1) .0)
+
+everyBelow : (ℕ → Bool) → ℕ → Bool
+everyBelow f zero = true
+everyBelow f (suc n) = f n && everyBelow f n
+
+every-at : (f : ℕ → Bool) (n k : ℕ) → everyBelow f n ≡ true → k < n → f k ≡ true
+unfolding everyBelow
+every-at f zero k e h = absurd (not-suc-le-zero h)
+every-at f (suc n) k e h = go (ℕ-discrete k n) (every-at f n k (and-right (f n) (everyBelow f n) e))
+  where
+    go : Dec (k ≡ n) → (k < n → f k ≡ true) → f k ≡ true
+    go (yes d) rest = rw d (and-left (f n) (everyBelow f n) e)
+    go (no d) rest = rest (omega arith)
+
+abbrev pub OneOfFour : ℕ → Type 0
+OneOfFour b = (b ≡ 64) ⊎ ((b ≡ 128) ⊎ ((b ≡ 256) ⊎ (b ≡ 512)))
+
+oneOfFour : ℕ → Bool
+oneOfFour b = eqb b 64 || (eqb b 128 || (eqb b 256 || eqb b 512))
+
+fair : ℕ → Bool
+fair b = cond (isBeat b) (oneOfFour b) true
+
+-- the one test, computed: among the numbers up to 512, a beat is one of the four
+all-fair : everyBelow fair 513 ≡ true
+unfolding everyBelow fair oneOfFour isBeat ones
+all-fair = refl
+
+pub beat-values : (b : ℕ) → isBeat b ≡ true → OneOfFour b
+unfolding oneOfFour fair
+beat-values b e =
+    let h = beat-range b e in
+    let f : oneOfFour b ≡ true = rw e at (every-at fair 513 b all-fair (omega arith)) in
+    eqb-or b 64 _ (eqb-or b 128 _ (eqb-or b 256 _ (eqb-yes b 512))) f
+
+pub beat-is : (b : ℕ) → OneOfFour b → isBeat b ≡ true
+unfolding isBeat ones
+beat-is b (inl e) = rw e
+beat-is b (inr (inl e)) = rw e
+beat-is b (inr (inr (inl e))) = rw e
+beat-is b (inr (inr (inr e))) = rw e
+
+-- ---- the rows
+
+-- what each row says
+pub record Rows (S : Settings) : Type 0 where
+  pub four-ports : S .ports ≡ 4
+  pub all-queues : S .queues ≡ 24
+  pub some-nodes : 1 ≤ S .nodes
+  pub few-nodes : S .nodes ≤ 256
+  pub is-beat : isBeat (S .beat) ≡ true
+  pub some-slots : 1 ≤ S .slots
+  pub few-slots : S .slots ≤ 8
+  pub low-credit : S .credit ≤ 65535
+
+module _ (S : Settings) (h : inRows S ≡ true) where
+  pub rows : Rows S
+  unfolding inRows
+  rows =
+      let p = eqb-and (S .ports) 4 _ h in
+      let q = eqb-and (S .queues) 24 _ (p .1) in
+      let n = leb-and 1 (S .nodes) _ (q .1) in
+      let m = leb-and (S .nodes) 256 _ (n .1) in
+      let b = and-right (isBeat (S .beat)) _ (m .1) in
+      let d = leb-and 1 (S .slots) _ b in
+      let k = leb-and (S .slots) 8 _ (d .1) in
+      record {
+        four-ports = p .0;
+        all-queues = q .0;
+        some-nodes = n .0;
+        few-nodes = m .0;
+        is-beat = and-left (isBeat (S .beat)) _ (m .1);
+        some-slots = d .0;
+        few-slots = k .0;
+        low-credit = leb-yes (S .credit) 65535 (k .1);
+      }
+
+  pub this-build : (S .ports ≡ 4) × (S .queues ≡ 24)
+  this-build = (rows .four-ports, rows .all-queues)
+
+  pub roomy : Roomy S
+  roomy = let r = rows in let b = beat-range (S .beat) (rows .is-beat) in omega arith
+
+  -- twelve bytes of settings, four of the map, four marks, 92 cells of 4, 200 lists of 8, and 52 for each node index
+  pub size-is : size S ≡ 1988 + 52 * S .nodes
+  unfolding size row
+  size-is = rw (rows .four-ports, rows .all-queues) (omega arith)
+
+  pub size-bound : size S ≤ 65536
+  size-bound = let r = rows in omega (arith, size-is)
+
+pub size-rises : (S S′ : Settings) → inRows S ≡ true → inRows S′ ≡ true → S .nodes ≤ S′ .nodes → size S ≤ size S′
+size-rises S S′ h h′ k = omega (arith, size-is S h, size-is S′ h′)
