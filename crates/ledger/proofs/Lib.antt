@@ -7,3 +7,6 @@ pub mod Keep
 pub mod Steps
 pub mod Rows
 pub mod Waits
+pub mod Promises
+pub mod Answers
+pub mod Cards

@@ -1,0 +1,220 @@
+-- Demand 2 as theorems about the desk: refusals change nothing, sound arrivals, order, home. Assumes nothing.
+use mathlib.Core.Path.{_≡_, refl, sym, ap, _∙_, subst}
+use mathlib.Core.Logic.{_≢_, _⊎_, inl, inr}
+use mathlib.Core.Bool.{Bool, true, false, cond, not}
+use mathlib.Core.List.{List, [], _∷_, _++_, append-nil, append-assoc}
+use Prim.Native.Nat.{ℕ, zero, suc, _+_, _≤_, _<_, zero-le, suc-le-suc}
+use native.Mathlib.Omega.{arith}
+use native.Mathlib.Decide.{ℕ-discrete}
+use lib.ListN.{length, getD, drop, length-append, length-drop}
+use lib.Seq.{drop-append-le, drop-drop}
+use lib.Dec.{eqb, ltb}
+use Rattle.ledger.specs.Settings.{Settings, settings, inRows}
+use Rattle.ledger.specs.Rules.{Rule, refuse, guard, Clear}
+use Rattle.ledger.specs.Header.{headerRules}
+use Rattle.ledger.specs.Ledger.{owner, Packet, bare, recorded, Place, free, ingress, egress, prefetched, place#, placeOf, Ledger, listAt, arrivalOf, outwardOf, lastOf, mapOf, move, putArrival, putOutward, putLast, putMap, start}
+use Rattle.ledger.specs.Ready.{readyWord, pick}
+use Rattle.ledger.specs.Calls.{Act, arrive, stitch, prefetch, credit, mapTo, turn, ready, whereIs, Side, Reply, refused, done, entry, stitched, idle, leaves, word, found, sideOf, noPort, isEmpty, firstOf, arriving, arrived, served, serve, turned, rules, result, step, run}
+use Rattle.ledger.specs.Desk.{Desk, none, has, Call, setup, act, setupRules, onDesk, desk, after}
+use Rattle.ledger.specs.Sound.{All, OwnPort, Orderly, Roomy, Sound}
+use Rattle.ledger.specs.Demand.{isRefused}
+use Rattle.ledger.proofs.Tests.{true≢false, leb-no, ltb-no, ltb-yes, not-yes}
+use Rattle.ledger.proofs.Places.{Place·In, place#-inj, place-number}
+use Rattle.ledger.proofs.Keep.{some-queue, len, first-fits, first-node, from-moved, to-moved, else-moved}
+use Rattle.ledger.proofs.Rows.{roomy}
+use Rattle.ledger.proofs.Steps.{guarded, picked-some, keep-step, keep-run}
+
+-- ---- a refusal leaves the desk as it was
+
+pub result-given : (S : Settings) (L : Ledger) (a : Act) → isRefused (result S L a .0) ≡ false
+result-given S L (arrive p h) = refl
+result-given S L (stitch p) = refl
+result-given S L (prefetch p q) = refl
+result-given S L (credit p q n) = refl
+result-given S L (mapTo d p) = refl
+result-given S L (turn p) = go (eqb (readyWord S L p) 0)
+  where
+    go : (b : Bool) → isRefused ((cond b (idle, L) (serve S L p (pick (lastOf L p) (readyWord S L p)))) .0) ≡ false
+    go true = refl
+    go false = refl
+result-given S L (ready p) = refl
+result-given S L (whereIs y) = refl
+
+pub refusal-keeps : (S : Settings) (L : Ledger) (a : Act) → isRefused (step S L a .0) ≡ true → step S L a .1 ≡ L
+refusal-keeps S L a =
+    guarded (λ out. isRefused (out .0) ≡ true → out .1 ≡ L) (rules S L a) (λ n. (refused n, L)) (result S L a)
+    (λ n e. refl)
+    (λ c e. absurd (true≢false (sym e ∙ result-given S L a)))
+
+pub refusal-keeps-desk : (n : ℕ) (D : Desk) (c : Call) → isRefused (desk n D c .0) ≡ true → desk n D c .1 ≡ D
+refusal-keeps-desk n D (setup N b s k) =
+    guarded {X = Reply × Desk} (λ out. isRefused (out .0) ≡ true → out .1 ≡ D) (setupRules n (settings N b s k)) (λ r. (refused r, D))
+    (done, has (settings N b s k) (start (settings N b s k)))
+    (λ r e. refl)
+    (λ c e. absurd (true≢false (sym e)))
+refusal-keeps-desk n none (act a) = λ e. refl
+refusal-keeps-desk n (has S L) (act a) = λ e. ap (has S) (refusal-keeps S L a e)
+
+-- ---- a sound arrival is turned away only for want of credit or of a node
+
+-- no refusal tested before 10 applies (3 is the desk's: there is a ledger)
+abbrev pub SoundArrival : Settings → ℕ → List ℕ → Type 0
+SoundArrival S p h = Clear (noPort S p ∷ headerRules p h)
+
+-- why it may be turned away all the same
+pub data Wanting (S : Settings) (L : Ledger) (p : ℕ) (h : List ℕ) : Reply × Ledger → Type 0 where
+  no-credit : arrivalOf S L p (arriving S L p h .queue) < arriving S L p h .price → Wanting S L p h (refused 10, L)
+  no-node : listAt S L (free p) ≡ [] → Wanting S L p h (refused 11, L)
+  taken-in : (M : Ledger) → Wanting S L p h (entry (firstOf S L (free p) .node), M)
+
+empty-is : (ks : List Packet) → isEmpty ks ≡ true → ks ≡ []
+empty-is [] e = refl
+empty-is (k ∷ ks) e = absurd (true≢false (sym e))
+
+pub sound-arrival : (S : Settings) (L : Ledger) (p : ℕ) (h : List ℕ) → SoundArrival S p h → Wanting S L p h (step S L (arrive p h))
+sound-arrival S L p h c =
+    rw (c .0, c .1 .0, c .1 .1 .0, c .1 .1 .1 .0, c .1 .1 .1 .1 .0)
+    (go (ltb (arrivalOf S L p (arriving S L p h .queue)) (arriving S L p h .price)) refl (isEmpty (listAt S L (free p))) refl)
+  where
+    go : (a : Bool) → ltb (arrivalOf S L p (arriving S L p h .queue)) (arriving S L p h .price) ≡ a → (b : Bool) → isEmpty (listAt S L (free p)) ≡ b
+        → Wanting S L p h (guard (refuse 10 a ∷ refuse 11 b ∷ []) (λ n. (refused n, L)) (result S L (arrive p h)))
+    go true d b e = no-credit (ltb-yes (arrivalOf S L p (arriving S L p h .queue)) (arriving S L p h .price) d)
+    go false d true e = no-node (empty-is (listAt S L (free p)) e)
+    go false d false e = taken-in (arrived S L p (arriving S L p h))
+
+-- ---- queues keep their order
+
+-- a list in which nothing happens, or whose oldest leaves, or to which a last one comes
+pub data Orderly-change (xs ys : List Packet) : Type 0 where
+  same : ys ≡ xs → Orderly-change xs ys
+  oldest-left : isEmpty xs ≡ false → ys ≡ drop 1 xs → Orderly-change xs ys
+  last-came : (k : Packet) → ys ≡ xs ++ (k ∷ []) → Orderly-change xs ys
+
+module _ (S : Settings) (ok : Roomy S) (L : Ledger) (s : Orderly S L) where
+  moved-in-order : (v w : Place) → Place·In S v → Place·In S w → isEmpty (listAt S L v) ≡ false → v ≢ w → (k : Packet) → k .node ≡ firstOf S L v .node
+      → (u : Place) → Place·In S u → Orderly-change (listAt S L u) (listAt S (move S v w k L) u)
+  moved-in-order v w hv hw e d k n u hu = go (ℕ-discrete (place# S u) (place# S v)) (ℕ-discrete (place# S u) (place# S w))
+    where
+      go : Dec (place# S u ≡ place# S v) → Dec (place# S u ≡ place# S w) → Orderly-change (listAt S L u) (listAt S (move S v w k L) u)
+      go (yes i) j = oldest-left (rw i e) (rw i (from-moved S ok L s v hv e w hw k n d))
+      go (no i) (yes j) = last-came k (rw j (to-moved S ok L s v hv e w hw k n d))
+      go (no i) (no j) = same (else-moved S ok L s v hv e w hw k n d u hu (λ z. i (ap (place# S) z)) (λ z. j (ap (place# S) z)))
+
+  abbrev InOrder : Ledger → Type 0
+  InOrder M = (u : Place) → Place·In S u → Orderly-change (listAt S L u) (listAt S M u)
+
+  served-in-order : (p q : ℕ) → p < S .ports → q < S .queues → isEmpty (listAt S L (prefetched p q)) ≡ false → InOrder (served S L p q (firstOf S L (prefetched p q)))
+  unfolding served putLast putOutward putArrival
+  served-in-order p q hp hq e =
+      let n = first-node S ok L s (prefetched p q) (hp, hq) e in
+      moved-in-order (prefetched p q) (free (owner (firstOf S L (prefetched p q) .node))) (hp, hq) (n .home, some-queue S ok L s) e
+      (λ i. let z : _≡_ {A = ℕ} 0 1 = cc in omega arith) (bare (firstOf S L (prefetched p q) .node)) refl
+
+  result-in-order : (a : Act) → Clear (rules S L a) → InOrder (result S L a .1)
+  result-in-order (arrive p h) c =
+      let v-in : Place·In S (free p) = (leb-no (S .ports) p (c .0), some-queue S ok L s) in
+      unfold arrived putArrival in
+      moved-in-order (free p) (ingress p) v-in v-in (c .1 .1 .1 .1 .1 .1 .0)
+      (λ i. let z : _≡_ {A = ℕ} 0 1 = cc in omega arith) (arriving S L p h) (unfold recorded in refl)
+  result-in-order (stitch p) c =
+      let v-in : Place·In S (ingress p) = (leb-no (S .ports) p (c .0), some-queue S ok L s) in
+      let k : Packet = firstOf S L (ingress p) in
+      let f = first-fits S ok L s (ingress p) v-in (c .1 .0) in
+      moved-in-order (ingress p) (egress (mapOf L (k .dest)) (k .queue)) v-in (s .ranges .map-in (k .dest) (f .2 .dest-in), f .2 .queue-in) (c .1 .0)
+      (λ i. let z : _≡_ {A = ℕ} 0 1 = cc in omega arith) k refl
+  result-in-order (prefetch p q) c =
+      let hp : p < S .ports = leb-no (S .ports) p (c .0) in
+      let hq : q < S .queues = leb-no (S .queues) q (c .1 .0) in
+      moved-in-order (egress p q) (prefetched p q) (hp, hq) (hp, hq) (c .1 .1 .0)
+      (λ i. let z : _≡_ {A = ℕ} 0 1 = cc in omega arith) (firstOf S L (egress p q)) refl
+  result-in-order (credit p q n) c = λ u hu. unfold putOutward in same refl
+  result-in-order (mapTo d p) c = λ u hu. unfold putMap in same refl
+  result-in-order (turn p) c = go (eqb (readyWord S L p) 0) (picked-some S ok L s p (leb-no (S .ports) p (c .0)))
+    where
+      t : ℕ
+      t = pick (lastOf L p) (readyWord S L p)
+
+      go : (b : Bool) → (b ≡ false → (t < S .queues) × (isEmpty (listAt S L (prefetched p t)) ≡ false)) → InOrder ((cond b (idle, L) (serve S L p t)) .1)
+      go true f = λ u hu. same refl
+      go false f = served-in-order p t (leb-no (S .ports) p (c .0)) (f refl .0) (f refl .1)
+  result-in-order (ready p) c = λ u hu. same refl
+  result-in-order (whereIs y) c = λ u hu. same refl
+
+  pub act-in-order : (a : Act) → InOrder (step S L a .1)
+  act-in-order a = guarded (λ out. InOrder (out .1)) (rules S L a) (λ n. (refused n, L)) (result S L a) (λ n u hu. same refl) (result-in-order a)
+
+-- over any acts: of what stood there and what came, in the order in which it came, the oldest left
+pub record First-in-first-out (xs ys : List Packet) : Type 0 where
+  pub came : List Packet
+  pub left : ℕ
+  pub enough : left ≤ length (xs ++ came)
+  pub what-stays : ys ≡ drop left (xs ++ came)
+
+one-change : (xs ys : List Packet) → Orderly-change xs ys → First-in-first-out xs ys
+one-change xs ys (same e) = record { came = []; left = 0; enough = zero-le; what-stays = e ∙ sym (append-nil xs) }
+one-change xs ys (oldest-left n e) = record { came = []; left = 1; enough = rw (append-nil xs) (some xs n); what-stays = e ∙ ap (drop 1) (sym (append-nil xs)) }
+  where
+    some : (ks : List Packet) → isEmpty ks ≡ false → 1 ≤ length ks
+    some [] d = absurd (true≢false d)
+    some (k ∷ ks) d = suc-le-suc zero-le
+one-change xs ys (last-came k e) = record { came = k ∷ []; left = 0; enough = zero-le; what-stays = e }
+
+then-too : (xs ys zs : List Packet) → First-in-first-out xs ys → First-in-first-out ys zs → First-in-first-out xs zs
+then-too xs ys zs f g =
+    let line : ys ++ g .came ≡ drop (f .left) (xs ++ (f .came ++ g .came)) =
+        ap (λ (l : List Packet). l ++ g .came) (f .what-stays)
+        ∙ sym (drop-append-le (f .left) (xs ++ f .came) (g .came) (f .enough))
+        ∙ ap (drop (f .left)) (append-assoc xs (f .came) (g .came)) in
+    record {
+      came = f .came ++ g .came;
+      left = f .left + g .left;
+      enough =
+          omega (
+            arith,
+            g .enough,
+            f .enough,
+            ap length line,
+            length-drop (f .left) (xs ++ (f .came ++ g .came)),
+            length-append xs (f .came),
+            length-append xs (f .came ++ g .came),
+            length-append (f .came) (g .came),
+          );
+      what-stays = g .what-stays ∙ ap (drop (g .left)) line ∙ drop-drop (g .left) (f .left) (xs ++ (f .came ++ g .came));
+    }
+
+pub run-in-order : (S : Settings) → Roomy S → (L : Ledger) → Orderly S L → (acts : List Act) (u : Place) → Place·In S u
+    → First-in-first-out (listAt S L u) (listAt S (run S L acts) u)
+run-in-order S ok L s [] u hu = one-change (listAt S L u) (listAt S L u) (same refl)
+run-in-order S ok L s (a ∷ acts) u hu =
+    then-too (listAt S L u) (listAt S (step S L a .1) u) (listAt S (run S (step S L a .1) acts) u)
+    (one-change (listAt S L u) (listAt S (step S L a .1) u) (act-in-order S ok L s a u hu))
+    (run-in-order S ok (step S L a .1) (keep-step S ok L s a) acts u hu)
+
+-- ---- nodes go home to their owner
+
+-- only a port's own nodes stand in its free list, after any acts
+pub home-only : (S : Settings) → Roomy S → (L : Ledger) → Orderly S L → (acts : List Act) (p : ℕ) → p < S .ports
+    → All (λ k. owner (k .node) ≡ p) (listAt S (run S L acts) (free p))
+home-only S ok L s acts p hp =
+    let t = keep-run S ok L s acts in
+    let v-in : Place·In S (free p) = (hp, some-queue S ok L s) in
+    let a = t .owned .holds (place# S (free p)) (len S ok (run S L acts) t (free p) v-in) in
+    subst (λ (u : Place). All (λ k. OwnPort u k) (listAt S (run S L acts) (free p))) (place-number S (free p) v-in) a
+
+-- the packet that leaves was its list's oldest, and its node goes to the back of its owner's free list
+pub sent-home : (S : Settings) → Roomy S → (L : Ledger) → Orderly S L → (p q : ℕ) → p < S .ports → q < S .queues
+    → isEmpty (listAt S L (prefetched p q)) ≡ false
+    → (k : Packet) → k ≡ firstOf S L (prefetched p q)
+    → listAt S (served S L p q k) (free (owner (k .node))) ≡ listAt S L (free (owner (k .node))) ++ (bare (k .node) ∷ [])
+unfolding served putLast putOutward putArrival
+sent-home S ok L s p q hp hq e k i =
+    rw i
+    (to-moved S ok L s (prefetched p q) (hp, hq) e (free (owner (firstOf S L (prefetched p q) .node)))
+    (first-node S ok L s (prefetched p q) (hp, hq) e .home, some-queue S ok L s) (bare (firstOf S L (prefetched p q) .node)) refl
+    (λ j. let z : _≡_ {A = ℕ} 0 1 = cc in omega arith))
+
+-- ---- soundness over any calls, setup among them
+
+abbrev pub Fine : Desk → Type 0
+Fine none = Unit {0}
+Fine (has S L) = Sound S L
