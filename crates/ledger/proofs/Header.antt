@@ -1,18 +1,73 @@
--- stub
-use mathlib.Core.Path.{_≡_}
+-- The laws of a header's fields, of the queue it means and of its price. Assumes nothing.
+use mathlib.Core.Path.{_≡_, refl}
+use mathlib.Core.Bool.{Bool, true, false}
 use mathlib.Core.List.{List}
-use Prim.Native.Nat.{ℕ, _≤_, _<_, _^_}
-use Rattle.ledger.specs.Header.{fieldsOf, queueOf}
+use Prim.Native.Nat.{ℕ, zero, suc, _+_, _-_, _/_, _^_, _≤_, _<_}
+use native.Mathlib.Nat.{div-lt-iff-lt-mul, le-of-suc-le-suc}
+use native.Mathlib.Omega.{arith}
+use lib.Dec.{ltb}
+use Rattle.numbers.specs.Bytes.{number}
+use Rattle.numbers.proofs.Bytes.{number-lt}
+use Rattle.numbers.proofs.Fields.{bits-lt}
+use Rattle.ledger.specs.Header.{fieldsOf, leastLength, queueOf, price}
+use Rattle.ledger.proofs.Tests.{ltb-is, ltb-not, ltb-yes}
 
+-- every field is as small as its width says, whatever the bytes are
 pub record FieldsIn (h : List ℕ) : Type 0 where
-  pub dest-in : fieldsOf h .dest < 2 ^ 2
-  pub len-in : fieldsOf h .len < 2 ^ 13
-  pub poisoned-in : fieldsOf h .poisoned < 2
-  pub stamp-in : fieldsOf h .stamp < 2 ^ 32
-  pub transaction-in : fieldsOf h .transaction < 256
+  pub dest : fieldsOf h .dest < 2 ^ 2
+  pub source : fieldsOf h .source < 2 ^ 2
+  pub queue : fieldsOf h .queue < 2 ^ 5
+  pub len : fieldsOf h .len < 2 ^ 13
+  pub poisoned : fieldsOf h .poisoned < 2
+  pub reserved : fieldsOf h .reserved < 2
+  pub stamp : fieldsOf h .stamp < 2 ^ 32
+  pub offered : fieldsOf h .offered < 256
+  pub transaction : fieldsOf h .transaction < 256
+  pub check : fieldsOf h .check < 256
 
 pub fields-in : (h : List ℕ) → FieldsIn h
-fields-in h = ?
+unfolding fieldsOf
+fields-in h = record {
+  dest = bits-lt 22 2 (number 3 h 0);
+  source = bits-lt 20 2 (number 3 h 0);
+  queue = bits-lt 15 5 (number 3 h 0);
+  len = bits-lt 2 13 (number 3 h 0);
+  poisoned = bits-lt 1 1 (number 3 h 0);
+  reserved = bits-lt 0 1 (number 3 h 0);
+  stamp = number-lt 4 h 3;
+  offered = number-lt 1 h 7;
+  transaction = number-lt 1 h 8;
+  check = number-lt 1 h 9;
+}
+
+pub queue-of-same : (n q : ℕ) → q < n → queueOf n q ≡ q
+unfolding queueOf
+queue-of-same n q h = rw (ltb-is q n h)
+
+pub queue-of-none : (n q : ℕ) → n ≤ q → queueOf n q ≡ 0
+unfolding queueOf
+queue-of-none n q h = rw (ltb-not q n h)
 
 pub queue-of-lt : (n q : ℕ) → 0 < n → queueOf n q < n
-queue-of-lt n q h = ?
+unfolding queueOf
+queue-of-lt n q some = go (ltb q n) refl
+  where
+    go : (t : Bool) → ltb q n ≡ t → queueOf n q < n
+    go true e = rw e (ltb-yes q n e)
+    go false e = rw e some
+
+pub price-free : (beat len : ℕ) → price beat 0 len ≡ 0
+unfolding price
+price-free beat len = refl
+
+pub price-some : (beat q len : ℕ) → 0 < q → price beat q len ≡ (len - leastLength + (beat - 1)) / beat
+unfolding price
+price-some beat zero len h = absurd (omega arith)
+price-some beat (suc q) len h = refl
+
+-- the longest packet at the smallest beat
+pub price-le : (beat q len : ℕ) → 64 ≤ beat → len < 2 ^ 13 → price beat q len ≤ 128
+unfolding price
+price-le beat zero len wide short = omega arith
+price-le beat (suc q) len wide short =
+    le-of-suc-le-suc (div-lt-iff-lt-mul (omega arith) .1 (omega arith))

@@ -17,11 +17,8 @@ use Rattle.ledger.specs.Calls.{isEmpty, firstOf, arrived, served}
 use Rattle.ledger.specs.Sound.{All, Everywhere, sum, weigh, Shaped, InRange, one, Once, OwnPort, OwnQueue, Proper, WellRecorded, owes, due, owed, Orderly, Roomy}
 use Rattle.ledger.proofs.Tests.{eqb-yes, eqb-no, eqb-is, eqb-not}
 use Rattle.ledger.proofs.Lists.{drop-le, weigh-pop, weigh-push, length-pop, length-push, at-push-other, at-push, at-pop-other, at-pop, All-front, everywhere-map, everywhere-both, everywhere-pop, everywhere-push, counted}
+use Rattle.ledger.proofs.Header.{price-free}
 use Rattle.ledger.proofs.Places.{Place·In, place#-lt, place-number, place#-inj, place#-other, Node, node-of, length-credit, credit-none, credit-at, credit-other, credit-le}
-
-pub price-free : (beat len : ℕ) → price beat 0 len ≡ 0
-unfolding price
-price-free beat len = refl
 
 -- a bound on every entry of a table outlasts a change of one
 pub set-lt : (xs : List ℕ) (i v j m : ℕ) → v < m → getD xs j 0 < m → getD (set xs i v) j 0 < m

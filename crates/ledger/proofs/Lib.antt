@@ -3,9 +3,12 @@ pub mod Lists
 pub mod Places
 pub mod Header
 pub mod Ready
+pub mod Rows
 pub mod Keep
 pub mod Steps
-pub mod Rows
+pub mod Find
+pub mod Start
+pub mod Decide
 pub mod Waits
 pub mod Promises
 pub mod Answers

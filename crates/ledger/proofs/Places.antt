@@ -124,7 +124,7 @@ module _ (S : Settings) where
     pub credit-same : 0 < q → creditAt S (setCredit S xs p q v) p q ≡ v
     unfolding creditAt setCredit
     credit-same = (elim q as (λ j. j < S .queues → 0 < j → creditAt S (setCredit S xs p j v) p j ≡ v) [
-      zero ↦ λ h k. absurd (omega arith)
+      | zero ↦ λ h k. absurd (omega arith)
       | suc r ↦ λ h k. getD-set-same xs (cell S p r) v 0 (omega (arith, cell-lt p r hp h))
     ]) hq
 

@@ -12,16 +12,18 @@ use lib.Dec.{eqb, ltb}
 use Rattle.ledger.specs.Settings.{Settings, settings, inRows}
 use Rattle.ledger.specs.Rules.{Rule, refuse, guard, Clear}
 use Rattle.ledger.specs.Header.{headerRules}
-use Rattle.ledger.specs.Ledger.{owner, Packet, bare, recorded, Place, free, ingress, egress, prefetched, place#, placeOf, Ledger, listAt, arrivalOf, outwardOf, lastOf, mapOf, move, putArrival, putOutward, putLast, putMap, start}
+use Rattle.ledger.specs.Ledger.{owner, isNode, Packet, bare, recorded, Place, free, ingress, egress, prefetched, place#, placeOf, Ledger, listAt, arrivalOf, outwardOf, lastOf, mapOf, move, putArrival, putOutward, putLast, putMap, start}
 use Rattle.ledger.specs.Ready.{readyWord, pick}
 use Rattle.ledger.specs.Calls.{Act, arrive, stitch, prefetch, credit, mapTo, turn, ready, whereIs, Side, Reply, refused, done, entry, stitched, idle, leaves, word, found, sideOf, noPort, isEmpty, firstOf, arriving, arrived, served, serve, turned, rules, result, step, run}
 use Rattle.ledger.specs.Desk.{Desk, none, has, Call, setup, act, setupRules, onDesk, desk, after}
 use Rattle.ledger.specs.Sound.{All, OwnPort, Orderly, Roomy, Sound}
 use Rattle.ledger.specs.Demand.{isRefused}
-use Rattle.ledger.proofs.Tests.{true≢false, leb-no, ltb-no, ltb-yes, not-yes}
+use Rattle.ledger.proofs.Tests.{true≢false, leb-no, leb-not, ltb-yes, eqb-yes, eqb-no, not-yes}
 use Rattle.ledger.proofs.Places.{Place·In, place#-inj, place-number}
 use Rattle.ledger.proofs.Keep.{some-queue, len, first-fits, first-node, from-moved, to-moved, else-moved}
 use Rattle.ledger.proofs.Rows.{roomy}
+use Rattle.ledger.proofs.Find.{where-right, one-place}
+use Rattle.ledger.proofs.Start.{start-sound}
 use Rattle.ledger.proofs.Steps.{guarded, picked-some, keep-step, keep-run}
 
 -- ---- a refusal leaves the desk as it was
@@ -54,6 +56,19 @@ refusal-keeps-desk n D (setup N b s k) =
     (λ c e. absurd (true≢false (sym e)))
 refusal-keeps-desk n none (act a) = λ e. refl
 refusal-keeps-desk n (has S L) (act a) = λ e. ap (has S) (refusal-keeps S L a e)
+
+-- ---- with nothing ready a turn is idle and nothing changes; else it isn't idle
+
+pub idle-keeps : (S : Settings) (L : Ledger) (p : ℕ) → p < S .ports
+    → ((readyWord S L p ≡ 0) × (step S L (turn p) ≡ (idle, L)))
+    ⊎ ((readyWord S L p ≢ 0) × (step S L (turn p) ≡ serve S L p (pick (lastOf L p) (readyWord S L p))))
+idle-keeps S L p hp = rw (leb-not (S .ports) p hp) (go (eqb (readyWord S L p) 0) refl)
+  where
+    go : (b : Bool) → eqb (readyWord S L p) 0 ≡ b
+        → ((readyWord S L p ≡ 0) × (cond b (idle, L) (serve S L p (pick (lastOf L p) (readyWord S L p))) ≡ (idle, L)))
+        ⊎ ((readyWord S L p ≢ 0) × (cond b (idle, L) (serve S L p (pick (lastOf L p) (readyWord S L p))) ≡ serve S L p (pick (lastOf L p) (readyWord S L p))))
+    go true e = inl (eqb-yes (readyWord S L p) 0 e, refl)
+    go false e = inr (eqb-no (readyWord S L p) 0 e, refl)
 
 -- ---- a sound arrival is turned away only for want of credit or of a node
 
@@ -162,9 +177,9 @@ one-change xs ys (last-came k e) = record { came = k ∷ []; left = 0; enough = 
 then-too : (xs ys zs : List Packet) → First-in-first-out xs ys → First-in-first-out ys zs → First-in-first-out xs zs
 then-too xs ys zs f g =
     let line : ys ++ g .came ≡ drop (f .left) (xs ++ (f .came ++ g .came)) =
-        ap (λ (l : List Packet). l ++ g .came) (f .what-stays)
-        ∙ sym (drop-append-le (f .left) (xs ++ f .came) (g .came) (f .enough))
-        ∙ ap (drop (f .left)) (append-assoc xs (f .came) (g .came)) in
+    ap (λ (l : List Packet). l ++ g .came) (f .what-stays)
+    ∙ sym (drop-append-le (f .left) (xs ++ f .came) (g .came) (f .enough))
+    ∙ ap (drop (f .left)) (append-assoc xs (f .came) (g .came)) in
     record {
       came = f .came ++ g .came;
       left = f .left + g .left;
@@ -218,3 +233,44 @@ sent-home S ok L s p q hp hq e k i =
 abbrev pub Fine : Desk → Type 0
 Fine none = Unit {0}
 Fine (has S L) = Sound S L
+
+pub fine-call : (n : ℕ) (D : Desk) → Fine D → (c : Call) → Fine (desk n D c .1)
+fine-call n D f (setup N b s k) =
+    guarded {X = Reply × Desk} (λ out. Fine (out .1)) (setupRules n (settings N b s k)) (λ r. (refused r, D))
+    (done, has (settings N b s k) (start (settings N b s k)))
+    (λ r. f)
+    (λ c. start-sound (settings N b s k) (not-yes (inRows (settings N b s k)) (c .0)))
+fine-call n none f (act a) = tt
+fine-call n (has S L) f (act a) = record { rows = f .rows; orderly = keep-step S (roomy S (f .rows)) L (f .orderly) a }
+
+pub fine-calls : (n : ℕ) (D : Desk) → Fine D → (cs : List Call) → Fine (after n D cs)
+fine-calls n D f [] = f
+fine-calls n D f (c ∷ cs) = fine-calls n (desk n D c .1) (fine-call n D f c) cs
+
+-- ---- each node stands in one place, after any calls
+
+-- node y stands at position i of place v, and nowhere else
+pub record OnePlace (S : Settings) (L : Ledger) (y : ℕ) : Type 0 where
+  pub place : Place
+  pub position : ℕ
+  pub on-switch : Place·In S place
+  pub within : position < length (listAt S L place)
+  pub there : getD (listAt S L place) position (bare 0) .node ≡ y
+  pub only : (w : Place) (j : ℕ) → Place·In S w → j < length (listAt S L w) → getD (listAt S L w) j (bare 0) .node ≡ y → (place ≡ w) × (position ≡ j)
+
+pub each-in-one-place : (S : Settings) (L : Ledger) → Sound S L → (y : ℕ) → isNode S y ≡ true → OnePlace S L y
+each-in-one-place S L f y e =
+    let w = where-right S (roomy S (f .rows)) L (f .orderly) y e in
+    record {
+      place = w .0;
+      position = w .1;
+      on-switch = w .3;
+      within = w .4;
+      there = w .5;
+      only = λ v j hv hj d. one-place S (roomy S (f .rows)) L (f .orderly) (w .0) v (w .1) j (w .3) hv (w .4) hj (w .5 ∙ sym d);
+    }
+
+-- whatever was called before, from any memory
+pub ever-in-one-place : (n : ℕ) (D : Desk) → Fine D → (cs : List Call) (S : Settings) (L : Ledger) → after n D cs ≡ has S L
+    → (y : ℕ) → isNode S y ≡ true → OnePlace S L y
+ever-in-one-place n D f cs S L e y i = each-in-one-place S L (subst Fine e (fine-calls n D f cs)) y i

@@ -45,12 +45,12 @@ module _ (S : Settings) (roomy : Roomy S) where
       let f = fields-in h in
       record {
         len-low = low;
-        len-high = f .len-in;
+        len-high = f .len;
         queue-in = queue-of-lt (S .queues) (fieldsOf h .queue) (omega (arith, roomy .some-queues));
-        dest-in = f .dest-in;
-        stamp-in = f .stamp-in;
-        poisoned-in = f .poisoned-in;
-        transaction-in = f .transaction-in;
+        dest-in = f .dest;
+        stamp-in = f .stamp;
+        poisoned-in = f .poisoned;
+        transaction-in = f .transaction;
         price-is = refl;
       }
 
@@ -126,14 +126,14 @@ module _ (S : Settings) (roomy : Roomy S) where
         let f = first-fits S roomy L s (prefetched p q) (hp, hq) e in
         let n = first-node S roomy L s (prefetched p q) (hp, hq) e in
         let o : Orderly S (putArrival S (owner (k .node)) q (arrivalOf S L (owner (k .node)) q + k .price) (move S (prefetched p q) (free (owner (k .node))) (bare (k .node)) L)) =
-            keep-traded S roomy L s (prefetched p q) (hp, hq) e (free (owner (k .node))) (n .home, some-queue S roomy L s) (bare (k .node)) refl
-            (λ i. let z : _≡_ {A = ℕ} 0 1 = cc in omega arith)
-            (λ a b i. absurd (let z : _≡_ {A = ℕ} 0 1 = cc in omega arith))
-            (refl, tt, tt)
-            (owner (k .node)) q (arrivalOf S L (owner (k .node)) q + k .price)
-            (λ r t ht. omega (arith, raised S roomy L s k (f .2) (n .home) q (f .1) r t ht)) in
+        keep-traded S roomy L s (prefetched p q) (hp, hq) e (free (owner (k .node))) (n .home, some-queue S roomy L s) (bare (k .node)) refl
+        (λ i. let z : _≡_ {A = ℕ} 0 1 = cc in omega arith)
+        (λ a b i. absurd (let z : _≡_ {A = ℕ} 0 1 = cc in omega arith))
+        (refl, tt, tt)
+        (owner (k .node)) q (arrivalOf S L (owner (k .node)) q + k .price)
+        (λ r t ht. omega (arith, raised S roomy L s k (f .2) (n .home) q (f .1) r t ht)) in
         let u : Orderly S (putOutward S p q (outwardOf S L p q - k .price) (putArrival S (owner (k .node)) q (arrivalOf S L (owner (k .node)) q + k .price) (move S (prefetched p q) (free (owner (k .node))) (bare (k .node)) L))) =
-            keep-outward S roomy _ o p q (outwardOf S L p q - k .price) (omega (arith, s .ranges .outward-in p q hp hq)) in
+        keep-outward S roomy _ o p q (outwardOf S L p q - k .price) (omega (arith, s .ranges .outward-in p q hp hq)) in
         keep-last S roomy _ u p q hq
 
     keep-turned : (p w : ℕ) → p < S .ports

@@ -77,8 +77,8 @@ module _ (S : Settings) (ok : Roomy S) (p q : ℕ) (hp : p < S .ports) (hq : q <
   spared-arrived L s r h hr e =
       let v-in : Place·In S (free r) = (hr, some-queue S ok L s) in
       let g = grown-moved L s (free r) (ingress r) v-in v-in e
-          (λ i. let z : _≡_ {A = ℕ} 0 1 = cc in omega arith) (λ i. let z : _≡_ {A = ℕ} 0 1 = cc in omega arith)
-          (arriving S L r h) (unfold recorded in refl) in
+      (λ i. let z : _≡_ {A = ℕ} 0 1 = cc in omega arith) (λ i. let z : _≡_ {A = ℕ} 0 1 = cc in omega arith)
+      (arriving S L r h) (unfold recorded in refl) in
       record { more = g .0; grown = g .1; funded = unfold move in omega arith }
 
   -- a turn that serves another queue
@@ -88,7 +88,7 @@ module _ (S : Settings) (ok : Roomy S) (p q : ℕ) (hp : p < S .ports) (hq : q <
   spared-served L s r t hr ht e n =
       let k : Packet = firstOf S L (prefetched r t) in
       let g = grown-moved L s (prefetched r t) (free (owner (k .node))) (hr, ht) (first-node S ok L s (prefetched r t) (hr, ht) e .home, some-queue S ok L s) e
-          (λ i. n (cc) (cc)) (λ i. let z : _≡_ {A = ℕ} 0 1 = cc in omega arith) (bare (k .node)) refl in
+      (λ i. n (cc) (cc)) (λ i. let z : _≡_ {A = ℕ} 0 1 = cc in omega arith) (bare (k .node)) refl in
       record {
         more = g .0;
         grown = g .1;
@@ -330,7 +330,7 @@ module _ (S : Settings) (ok : Roomy S) (p q : ℕ) (hp : p < S .ports) (hq : q <
       a-turn = o .a-turn;
       it-leaves = o .it-leaves;
       until-then = λ i. elim i as (λ j. j ≤ suc (o .moment) → (ahead : List Packet) × Stands S p q k ahead (run S L (take j (a ∷ acts)))) [
-        zero ↦ λ l. here k n L w
+        | zero ↦ λ l. here k n L w
         | suc j ↦ λ l. o .until-then j (le-of-suc-le-suc l)
       ];
     }
@@ -344,7 +344,7 @@ module _ (S : Settings) (ok : Roomy S) (p q : ℕ) (hp : p < S .ports) (hq : q <
       a-turn = turn-is a i;
       it-leaves = ap (λ (b : Act). step S L b .0) (sym (turn-is a i)) ∙ e;
       until-then = λ j. elim j as (λ j. j ≤ 0 → (ahead : List Packet) × Stands S p q k ahead (run S L (take j (a ∷ acts)))) [
-        zero ↦ λ h. here k n L w
+        | zero ↦ λ h. here k n L w
         | suc j ↦ λ h. absurd (omega arith)
       ];
     }

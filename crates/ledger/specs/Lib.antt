@@ -8,3 +8,4 @@ pub mod Desk
 pub mod Sound
 pub mod Demand
 pub mod Answers
+pub mod Cards

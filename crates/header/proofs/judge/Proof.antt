@@ -1,0 +1,92 @@
+-- `header::judge` meets its contract: each way out by the law of its verdict. Assumes nothing.
+use mathlib.Core.Path.{_≡_, sym, ap, _∙_}
+use mathlib.Core.List.{List}
+use Prim.Native.Nat.{ℕ}
+use native.Mathlib.Omega.{arith}
+use borrow.Author.Needs.{needs}
+use lib.ListN.{take, length-take}
+use Rattle.crc.specs.Crc.{crc8}
+use Rattle.ledger.specs.Header.{Fields}
+use Rattle.header.specs.Parse.{fields, wrongSize, parsed, headerOf, readOf}
+use Rattle.header.proofs.Reading.{parsed-size}
+use Rattle.header.proofs.Verdicts.{of-size, of-sum, of-source, of-length, of-good}
+use Rattle.header.proofs.judge.Statement.{statement}
+use Rattle.header.proofs.judge.Tie as tie
+
+-- the size was wrong
+missed : (c : tie.After-enum-told) → parsed (c .before .before .before .before .args .h .now) ≡ wrongSize
+missed c = sym (c .before .before .parse .ensures) ∙ ap readOf (c .enum-told .given .1)
+
+-- or it was right: the bytes, and the fields that were found in them
+abbrev bytes : tie.After-f → List ℕ
+bytes c = c .before .before .before .before .args .h .now
+
+abbrev fields-found : tie.After-f → Fields
+fields-found c = headerOf (c .f .given .0 .0)
+
+found : (c : tie.After-f) → parsed (bytes c) ≡ fields (fields-found c)
+found c = sym (c .before .before .parse .ensures) ∙ ap readOf (c .f .given .1)
+
+summed : (c : tie.After-checksum) → c .checksum .result ≡ crc8 (take 9 (bytes (c .before .before .before)))
+summed c = c .checksum .ensures
+
+-- the test of the checksum was passed
+passed : (c : tie.Else1) → fields-found (c .before .before .before .before .before) .check ≡ crc8 (take 9 (bytes (c .before .before .before .before .before)))
+passed c = c .if1 .left ∙ summed (c .before .before)
+
+parse-requires : tie.Need-parse-requires
+parse-requires c κs = search needs
+
+enum-known-f : tie.Need-enum-known-f
+enum-known-f c = search needs
+
+enum-told : tie.Need-enum-told
+enum-told c = search needs
+
+returns : tie.Need-returns
+returns c = of-size (c .before .before .before .before .args .port) (c .before .before .before .before .args .h .now) (missed c)
+
+slice-aggregate-checksum : tie.Need-slice-aggregate-checksum
+slice-aggregate-checksum c =
+    let ten = parsed-size _ _ (found (c .before .before)) in
+    simp length-take (omega arith)
+
+checksum-requires : tie.Need-checksum-requires
+checksum-requires c κs = search needs
+
+returns-2 : tie.Need-returns-2
+returns-2 c = of-sum _ _ _ (found (c .before .before .before .before .before)) (λ e. c .if1 .taken (e ∙ sym (summed (c .before .before))))
+
+cast-if2 : tie.Need-cast-if2
+cast-if2 c = search needs
+
+returns-3 : tie.Need-returns-3
+returns-3 c =
+    let tested = c .before .before in
+    of-source _ _ _ (found (tested .before .before .before .before .before)) (passed tested) (c .if2 .taken)
+
+returns-4 : tie.Need-returns-4
+returns-4 c =
+    let tested = c .before .before .before .before in
+    of-length _ _ _ (found (tested .before .before .before .before .before)) (passed tested) (c .before .before .if2 .left) (omega arith)
+
+returns-5 : tie.Need-returns-5
+returns-5 c =
+    let tested = c .before .before .before .before in
+    of-good _ _ _ (found (tested .before .before .before .before .before)) (passed tested) (c .before .before .if2 .left) (omega arith)
+
+pub judge-spec : {M : Type 1} → statement M
+judge-spec =
+    tie.close
+    (tie.spec
+    parse-requires
+    enum-known-f
+    enum-told
+    returns
+    slice-aggregate-checksum
+    checksum-requires
+    returns-2
+    cast-if2
+    returns-3
+    returns-4
+    returns-5)

@@ -1,0 +1,37 @@
+-- What reading bytes as a header gives, and what the code's answer means. Assumes nothing.
+use mathlib.Core.Bool.{cond}
+use mathlib.Core.List.{List}
+use Prim.Native.Nat.{ℕ}
+use lib.ListN.{length}
+use lib.Dec.{eqb}
+use Rattle.ledger.specs.Header.{Fields, fieldsOf, headerSize}
+use Rattle.header.specs.declared.HeaderFields.{HeaderFields}
+use Rattle.header.specs.declared.Parsed.{Parsed}
+use Rattle.header.specs.declared.Parsed.the-variants.{Header, WrongSize}
+
+pub data Read : Type 0 where
+  fields : Fields → Read
+  wrongSize : Read
+
+-- any ten bytes have fields
+unfoldable pub parsed : List ℕ → Read
+parsed h = cond (eqb (length h) headerSize) (fields (fieldsOf h)) wrongSize
+
+-- the code's fields are the definition's, each under its own name
+abbrev pub headerOf : HeaderFields → Fields
+headerOf f = record {
+  dest = f .dest;
+  source = f .source;
+  queue = f .queue;
+  len = f .len;
+  poisoned = f .poisoned;
+  reserved = f .reserved;
+  stamp = f .stamp;
+  offered = f .offered;
+  transaction = f .transaction;
+  check = f .check;
+}
+
+abbrev pub readOf : Parsed → Read
+readOf (Header f) = fields (headerOf f)
+readOf WrongSize = wrongSize

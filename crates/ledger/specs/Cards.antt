@@ -1,0 +1,103 @@
+-- Paper 01, "Bench cards": the starred cards, a single table. The claim that they hold is that of proofs/Cards.antt. Assumes nothing.
+use mathlib.Core.Path.{_≡_}
+use mathlib.Core.List.{List, [], _∷_, _++_, map}
+use Prim.Native.Nat.{ℕ, zero, suc, _+_, _*_, _/_, _%_}
+use lib.ListN.{drop}
+use Rattle.crc.specs.Crc.{crc8}
+use Rattle.ledger.specs.Ledger.{Packet}
+use Rattle.ledger.specs.Calls.{arrive, stitch, prefetch, credit, turn, ready, inside, outside, Reply, refused, done, entry, stitched, idle, leaves, word, found}
+use Rattle.ledger.specs.Desk.{none, Call, setup, act, replies}
+
+-- a header of these fields, timestamp and transaction 0, with its checksum
+abbrev pub sealed : List ℕ → List ℕ
+sealed bs = bs ++ (crc8 bs ∷ [])
+
+abbrev pub header : ℕ → ℕ → ℕ → ℕ → List ℕ
+header dest source queue len =
+    sealed ((dest * 64 + source * 16 + queue / 2) ∷ (queue % 2 * 128 + len / 64) ∷ (len % 64 * 4) ∷ 0 ∷ 0 ∷ 0 ∷ 0 ∷ 0 ∷ 0 ∷ [])
+
+abbrev pub zeros : ℕ → List ℕ
+zeros zero = []
+zeros (suc n) = 0 ∷ zeros n
+
+-- a packet of queue q at port 0, of the least length, brought into the prefetch slots of port 0
+abbrev pub brought : ℕ → List Call
+brought q = act (arrive 0 (header 0 0 q 12)) ∷ act (stitch 0) ∷ act (prefetch 0 q) ∷ []
+
+-- two of them, so that the queue stays ready when one leaves, and credit for both
+abbrev pub twice : ℕ → List Call
+twice q = brought q ++ (brought q ++ (act (credit 0 q 9) ∷ []))
+
+-- the same for n queues from q on
+abbrev pub all-twice : ℕ → ℕ → List Call
+all-twice q zero = []
+all-twice q (suc n) = twice q ++ all-twice (suc q) n
+
+-- n turns of port 0, and which queues are ready after each
+abbrev pub turns : ℕ → List Call
+turns zero = []
+turns (suc n) = act (turn 0) ∷ act (ready 0) ∷ turns n
+
+-- the queue by which a packet leaves, or the ready word; 100 for any other reply
+abbrev pub seen : Reply → ℕ
+seen (refused n) = 100
+seen done = 100
+seen (entry x) = 100
+seen (stitched b) = 100
+seen idle = 100
+seen (leaves k s) = k .queue
+seen (word w n) = w
+seen (found v i) = 100
+
+-- A memory of 65,536 zero bytes, which is no switch state, is called so. A card says what the replies are;
+-- or, after so many replies, by which queues packets leave and which queues are ready then.
+pub data Card : Type 0 where
+  says : List Call → List Reply → Card
+  serves : List Call → ℕ → List ℕ → Card
+
+abbrev pub Holds : Card → Type 0
+Holds (says calls rs) = replies 65536 none calls ≡ rs
+Holds (serves calls before qs) = map seen (drop before (replies 65536 none calls)) ≡ qs
+
+abbrev pub twelve : List ℕ
+twelve = 0 ∷ 0 ∷ 0x30 ∷ 0 ∷ 0 ∷ 0 ∷ 0 ∷ 0 ∷ 0 ∷ 0x72 ∷ []
+
+abbrev pub spoilt : List ℕ
+spoilt = 0 ∷ 0 ∷ 0x30 ∷ 0 ∷ 0 ∷ 0 ∷ 0 ∷ 0 ∷ 0 ∷ 0x73 ∷ []
+
+-- destination 1, source 2, queue 23, length 8191, flags 0
+abbrev pub full : List ℕ
+full = sealed (0x6B ∷ 0xFF ∷ 0xFC ∷ 0 ∷ 0 ∷ 0 ∷ 0 ∷ 0 ∷ 0 ∷ [])
+
+abbrev pub full-record : Reply
+full-record = stitched (0x10 ∷ 0 ∷ 0x1F ∷ 0xFF ∷ 23 ∷ 0 ∷ 0 ∷ 0 ∷ 0 ∷ 0 ∷ [])
+
+abbrev pub twelve-record : Reply
+twelve-record = stitched (0 ∷ 0 ∷ 0 ∷ 0x0C ∷ 0 ∷ 0 ∷ 0 ∷ 0 ∷ 0 ∷ 0 ∷ [])
+
+-- the packet of node x that is recorded of twelve
+abbrev pub small : ℕ → Packet
+small x = record { node = x; len = 12; queue = 0; dest = 0; stamp = 0; poisoned = 0; transaction = 0; price = 0 }
+
+abbrev pub cards : List Card
+cards =
+    says (setup 1 64 1 16 ∷ act (arrive 0 (zeros 10)) ∷ act (arrive 1 (zeros 10)) ∷ [])
+    (done ∷ refused 9 ∷ refused 8 ∷ [])
+    ∷ says (setup 1 64 1 16 ∷ act (arrive 0 twelve) ∷ act (stitch 0) ∷ act (arrive 0 spoilt) ∷ [])
+    (done ∷ entry 0 ∷ twelve-record ∷ refused 7 ∷ [])
+    ∷ says (setup 1 64 1 200 ∷ act (arrive 2 full) ∷ act (stitch 2) ∷ act (prefetch 0 23) ∷ act (turn 0) ∷ act (credit 0 23 128) ∷ act (turn 0)
+    ∷ act (arrive 2 full) ∷ act (stitch 2) ∷ act (prefetch 0 23) ∷ act (turn 0) ∷ [])
+    (done ∷ entry 4096 ∷ full-record ∷ entry 4096 ∷ idle ∷ done
+    ∷ leaves (record { node = 4096; len = 8191; queue = 23; dest = 1; stamp = 0; poisoned = 0; transaction = 0; price = 128 }) outside
+    ∷ entry 4096 ∷ full-record ∷ entry 4096 ∷ idle ∷ [])
+    ∷ says (setup 1 64 1 16 ∷ act (arrive 0 twelve) ∷ act (arrive 0 twelve) ∷ act (stitch 0) ∷ act (prefetch 0 0) ∷ act (turn 0) ∷ act (arrive 0 twelve) ∷ [])
+    (done ∷ entry 0 ∷ refused 11 ∷ twelve-record ∷ entry 0 ∷ leaves (small 0) inside ∷ entry 0 ∷ [])
+    ∷ says (setup 1 64 1 0 ∷ act (credit 0 1 65535) ∷ act (credit 0 1 0) ∷ act (credit 0 1 1) ∷ [])
+    (done ∷ done ∷ done ∷ refused 14 ∷ [])
+    ∷ says (setup 256 64 1 0 ∷ setup 0 64 1 0 ∷ setup 257 64 1 0 ∷ [])
+    (done ∷ refused 2 ∷ refused 2 ∷ [])
+    ∷ says (setup 2 64 1 16 ∷ (brought 0 ++ (act (prefetch 0 0) ∷ [])))
+    (done ∷ entry 0 ∷ twelve-record ∷ entry 0 ∷ refused 12 ∷ [])
+    ∷ serves (setup 9 64 2 16 ∷ (brought 5 ++ (act (credit 0 5 9) ∷ act (turn 0) ∷ (twice 2 ++ (twice 5 ++ (twice 9 ++ turns 3)))))) 27 (9 ∷ 548 ∷ 2 ∷ 548 ∷ 5 ∷ 548 ∷ [])
+    ∷ serves (setup 49 64 2 16 ∷ (brought 5 ++ (act (credit 0 5 9) ∷ act (turn 0) ∷ (all-twice 0 24 ++ turns 24)))) 220 (5 ∷ 16777215 ∷ [])
+    ∷ []
