@@ -17,7 +17,7 @@ use Rattle.ledger.specs.Ledger.{owner, Packet, bare, recorded, Place, fr
 use Rattle.ledger.specs.Ready.{bit, covered, isReady, wordOf, readyWord, pick}
 use Rattle.ledger.specs.Calls.{Act, arrive, stitch, prefetch, credit, mapTo, turn, ready, whereIs, Reply, refused, idle, leaves, sideOf, isEmpty, firstOf, arriving, arrived, served, serve, turned, rules, result, step, run}
 use Rattle.ledger.specs.Sound.{sum, Proper, Orderly, Roomy, Sound}
-use Rattle.ledger.specs.Demand.{isRefused, isTurn, turnsOf, Stands, LeavesWithin, NobodyStarves, NobodyStarves24}
+use Rattle.ledger.specs.Demand.{isRefused, isTurn, turnsOf, InHand, Stands, LeavesWithin, NobodyStarves, NobodyStarves24}
 use Rattle.ledger.proofs.Tests.{true≢false, leb-is, leb-no, leb-not, eqb-is, eqb-yes, eqb-no, ltb-no, or-is, or-is-right}
 use Rattle.ledger.proofs.Places.{Place·In, place#-inj, bit-le, cell-lt, credit-same, credit-other}
 use Rattle.ledger.proofs.Keep.{some-queue, first-fits, first-node, from-moved, to-moved, else-moved}
@@ -98,7 +98,7 @@ module _ (S : Settings) (ok : Roomy S) (p q : ℕ) (hp : p < S .ports) (hq : q <
   -- ---- waiting: packet k leaves within n turns of port p
 
   abbrev Afford : List Packet → Ledger → Type 0
-  Afford ks L = (q ≡ 0) ⊎ (sum (λ k. k .price) ks ≤ outwardOf S L p q)
+  Afford ks L = InHand S L p q ks
 
   record Waits (k : Packet) (n : ℕ) (L : Ledger) : Type 0 where
     ahead : List Packet

@@ -53,6 +53,10 @@ pub record LeavesWithin (S : Settings) (p q : ℕ) (k : Packet) (n : ℕ) (L : L
   pub it-leaves : step S (run S L (take moment acts)) (turn p) .0 ≡ leaves k (sideOf q)
   pub until-then : (i : ℕ) → i ≤ moment → (ahead : List Packet) × Stands S p q k ahead (run S L (take i acts))
 
+-- credit in hand for all of these packets: queue 0 needs none
+abbrev pub InHand : Settings → Ledger → ℕ → ℕ → List Packet → Type 0
+InHand S L p q ks = (q ≡ 0) ⊎ (sum (λ k. k .price) ks ≤ outwardOf S L p q)
+
 -- Nobody starves. Packet k stands in the prefetch slots of port p and queue q behind `ahead`, and there is credit in hand for all of these.
 -- Then, whatever acts come, if port p has queues × (length ahead + 1) turns among them, k leaves at one of these turns.
 unfoldable pub NobodyStarves : Type 0
@@ -60,7 +64,7 @@ NobodyStarves =
     (S : Settings) → Roomy S → (L : Ledger) → Orderly S L
     → (p q : ℕ) → p < S .ports → q < S .queues
     → (ahead : List Packet) (k : Packet) → Stands S p q k ahead L
-    → (q ≡ 0) ⊎ (sum (λ k. k .price) (ahead ++ (k ∷ [])) ≤ outwardOf S L p q)
+    → InHand S L p q (ahead ++ (k ∷ []))
     → (acts : List Act) → S .queues * (length ahead + 1) ≤ turnsOf S p L acts
     → LeavesWithin S p q k (S .queues * (length ahead + 1)) L acts
 
@@ -70,6 +74,6 @@ NobodyStarves24 =
     (S : Settings) (L : Ledger) → Sound S L
     → (p q n : ℕ) → p < 4 → q < 24
     → (ahead : List Packet) (k : Packet) → Stands S p q k ahead L → length ahead ≡ n
-    → (q ≡ 0) ⊎ (sum (λ k. k .price) (ahead ++ (k ∷ [])) ≤ outwardOf S L p q)
+    → InHand S L p q (ahead ++ (k ∷ []))
     → (acts : List Act) → 24 * (n + 1) ≤ turnsOf S p L acts
     → LeavesWithin S p q k (24 * (n + 1)) L acts
