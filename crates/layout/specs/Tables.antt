@@ -1,0 +1,115 @@
+-- The state as a row of tables in lent bytes. A table has an element width in bytes and a number of elements; its start is the sum of
+-- the sizes of the tables before it. Nothing else knows an offset. Assumes nothing.
+use mathlib.Core.List.{List, [], _∷_}
+use Prim.Native.Nat.{ℕ, _+_, _-_, _*_}
+use lib.ListN.{take}
+use Rattle.numbers.specs.Bytes.{number, store}
+use Rattle.ledger.specs.Settings.{Settings, ids, row}
+use Rattle.ledger.specs.Sound.{sum, Roomy}
+use mathlib.Core.Path.{_≡_}
+use Rattle.layout.specs.declared.Shape.{Shape}
+use Rattle.layout.specs.declared.Table.{Table}
+use Rattle.layout.specs.declared.Table.the-variants.{Setting, Mapped, Last, Arrival, Outward, Head, Tail, Count, Next, Length, Stamp, Queue, Dest, Poisoned, Transaction, Price}
+
+-- the tables in their order
+abbrev pub turnOf : Table → ℕ
+turnOf Setting = 0
+turnOf Mapped = 1
+turnOf Last = 2
+turnOf Arrival = 3
+turnOf Outward = 4
+turnOf Head = 5
+turnOf Tail = 6
+turnOf Count = 7
+turnOf Next = 8
+turnOf Length = 9
+turnOf Stamp = 10
+turnOf Queue = 11
+turnOf Dest = 12
+turnOf Poisoned = 13
+turnOf Transaction = 14
+turnOf Price = 15
+
+-- bytes of an element
+abbrev pub width : Table → ℕ
+width Setting = 2
+width Mapped = 1
+width Last = 1
+width Arrival = 2
+width Outward = 2
+width Head = 2
+width Tail = 2
+width Count = 4
+width Next = 2
+width Length = 2
+width Stamp = 4
+width Queue = 1
+width Dest = 1
+width Poisoned = 1
+width Transaction = 1
+width Price = 1
+
+-- elements: of credits one for each port and queue but 0, of lists' ends and counts one for each list, of records one for each node
+abbrev pub cells : Settings → ℕ
+cells S = S .ports * (S .queues - 1)
+
+abbrev pub lists : Settings → ℕ
+lists S = S .ports * row S
+
+abbrev pub all : Settings → ℕ
+all S = S .ports * S .nodes
+
+abbrev pub many : Settings → Table → ℕ
+many S Setting = 6
+many S Mapped = ids
+many S Last = S .ports
+many S Arrival = cells S
+many S Outward = cells S
+many S Head = lists S
+many S Tail = lists S
+many S Count = lists S
+many S Next = all S
+many S Length = all S
+many S Stamp = all S
+many S Queue = all S
+many S Dest = all S
+many S Poisoned = all S
+many S Transaction = all S
+many S Price = all S
+
+abbrev pub bytesOf : Settings → Table → ℕ
+bytesOf S t = many S t * width t
+
+abbrev pub sizes : Settings → List ℕ
+sizes S =
+    bytesOf S Setting ∷ bytesOf S Mapped ∷ bytesOf S Last ∷ bytesOf S Arrival ∷ bytesOf S Outward
+    ∷ bytesOf S Head ∷ bytesOf S Tail ∷ bytesOf S Count
+    ∷ bytesOf S Next ∷ bytesOf S Length ∷ bytesOf S Stamp ∷ bytesOf S Queue ∷ bytesOf S Dest ∷ bytesOf S Poisoned ∷ bytesOf S Transaction ∷ bytesOf S Price
+    ∷ []
+
+-- where a table starts
+unfoldable pub startOf : Settings → Table → ℕ
+startOf S t = sum (λ n. n) (take (turnOf t) (sizes S))
+
+-- element i of a table, and memory with v there
+unfoldable pub get : Settings → List ℕ → Table → ℕ → ℕ
+get S m t i = number (width t) m (startOf S t + i * width t)
+
+unfoldable pub put : Settings → Table → ℕ → ℕ → List ℕ → List ℕ
+put S t i v m = store (width t) m (startOf S t + i * width t) v
+
+-- ---- the code's Shape
+
+-- the settings that a shape was made from
+abbrev pub settingsOf : Shape → Settings
+settingsOf s = record { ports = s .ports; queues = s .queues; nodes = s .nodes; beat = s .beat; slots = s .slots; credit = s .credit }
+
+-- a shape holds what its settings say, and they are a switch's
+pub record Laid (s : Shape) : Type 0 where
+  pub roomy : Roomy (settingsOf s)
+  pub cells-are : s .cells ≡ cells (settingsOf s)
+  pub lists-are : s .lists ≡ lists (settingsOf s)
+  pub all-are : s .all ≡ all (settingsOf s)
+  pub arrival-at : s .arrival ≡ startOf (settingsOf s) Arrival
+  pub head-at : s .head ≡ startOf (settingsOf s) Head
+  pub next-at : s .next ≡ startOf (settingsOf s) Next
