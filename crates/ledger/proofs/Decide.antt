@@ -19,7 +19,7 @@ use Rattle.ledger.proofs.Find.{once-by-test}
 
 -- ---- decisions of parts
 
-and-dec : {A B : Type 0} → Dec A → Dec B → Dec (A × B)
+pub and-dec : {A B : Type 0} → Dec A → Dec B → Dec (A × B)
 and-dec (yes a) (yes b) = yes (a, b)
 and-dec (yes a) (no n) = no (λ p. n (p .1))
 and-dec (no n) d = no (λ p. n (p .0))
@@ -29,7 +29,7 @@ imp-dec : {A B : Type 0} → Dec A → Dec B → Dec (A → B)
 imp-dec (yes a) d = map-dec (λ b x. b) (λ f. f a) d
 imp-dec (no n) d = yes (λ a. absurd (n a))
 
-below-dec : (P : ℕ → Type 0) (n : ℕ) → ((i : ℕ) → Dec (P i)) → Dec ((i : ℕ) → i < n → P i)
+pub below-dec : (P : ℕ → Type 0) (n : ℕ) → ((i : ℕ) → Dec (P i)) → Dec ((i : ℕ) → i < n → P i)
 below-dec P zero d = yes (λ i h. absurd (not-suc-le-zero h))
 below-dec P (suc n) d =
     map-dec (λ p i. (elim i as (λ j. j < suc n → P j) [ zero ↦ λ h. p .0 | suc j ↦ λ h. p .1 j (le-of-suc-le-suc h) ]))

@@ -1,0 +1,4 @@
+pub mod Ends
+pub mod Writes
+pub mod Image
+pub mod Memory

@@ -1,0 +1,49 @@
+-- What a call answers and leaves in memory, for every memory and every call: M. And the picture, by which a memory is a desk.
+-- Assumes nothing.
+use mathlib.Core.Path.{_≡_}
+use mathlib.Core.List.{List, _++_}
+use Prim.Native.Nat.{ℕ, _<_}
+use native.Mathlib.Decide.{map-dec, decLe, ℕ-discrete}
+use lib.ListN.{length}
+use Rattle.ledger.specs.Settings.{Settings, settings, size}
+use Rattle.ledger.specs.Rules.{guard}
+use Rattle.ledger.specs.Calls.{Act, Reply, refused, done, rules, result}
+use Rattle.ledger.specs.Desk.{Desk, none, has, Call, setup, act, setupRules}
+use Rattle.ledger.proofs.Decide.{and-dec, below-dec, sound-dec}
+use Rattle.layout.specs.declared.Table.the-variants.{Tail}
+use Rattle.layout.specs.Tables.{lists, get}
+use Rattle.layout.specs.Picture.{settingsIn, nodesOf, ledgerIn, lastD, Hangs, StateOf, State}
+use Rattle.memory.specs.Writes.{write}
+use Rattle.memory.specs.Image.{setupMem}
+
+-- whether a memory is a switch state can be decided
+pub state-dec : (m : List ℕ) → Dec (State m)
+state-dec m =
+    map-dec
+    (λ t. record { long = t .0; hangs = t .1 .0; sound = t .1 .1 })
+    (λ s. (s .long, (s .hangs, s .sound)))
+    (and-dec (decLe (size (settingsIn m)) (length m))
+    (and-dec (below-dec (Hangs (settingsIn m) m) (lists (settingsIn m)) (λ l. ℕ-discrete (lastD (nodesOf (settingsIn m) m l) (get (settingsIn m) m Tail l)) (get (settingsIn m) m Tail l)))
+    (sound-dec (settingsIn m) (ledgerIn (settingsIn m) m))))
+
+-- the desk that a memory pictures: none where it is no switch state
+abbrev pub deskOf : (m : List ℕ) → Dec (State m) → Desk
+deskOf m (yes s) = has (settingsIn m) (ledgerIn (settingsIn m) m)
+deskOf m (no n) = none
+
+unfoldable pub picture : List ℕ → Desk
+picture m = deskOf m (state-dec m)
+
+-- an act on memory that is a switch state: refused as the desk's rules say on the ledger that it pictures, with no byte changed; else done
+unfoldable pub acted : Settings → List ℕ → Act → Reply × List ℕ
+acted S m a = guard (rules S (ledgerIn S m) a) (λ n. (refused n, m)) (result S (ledgerIn S m) a .0, write S m a)
+
+-- on any memory: refusal 3 exactly where it is no switch state
+abbrev pub tested : (m : List ℕ) → Dec (State m) → Act → Reply × List ℕ
+tested m (yes s) a = acted (settingsIn m) m a
+tested m (no n) a = (refused 3, m)
+
+-- every call, on every memory
+unfoldable pub M : Call → List ℕ → Reply × List ℕ
+M (setup N b d k) m = guard (setupRules (length m) (settings N b d k)) (λ r. (refused r, m)) (done, setupMem (settings N b d k) m)
+M (act a) m = tested m (state-dec m) a

@@ -1,0 +1,71 @@
+-- What each act writes: an explicit nest of puts into the memory that it was handed. Assumes nothing.
+use mathlib.Core.Bool.{cond}
+use mathlib.Core.List.{List}
+use Prim.Native.Nat.{ℕ, zero, suc, _+_, _-_}
+use lib.Dec.{eqb}
+use Rattle.ledger.specs.Settings.{Settings}
+use Rattle.ledger.specs.Header.{fieldsOf}
+use Rattle.ledger.specs.Ledger.{owner, Packet, recorded, Place, free, ingress, egress, prefetched, place#, cell, arrivalOf, outwardOf, lastOf, mapOf}
+use Rattle.ledger.specs.Ready.{readyWord, pick}
+use Rattle.ledger.specs.Calls.{Act, arrive, stitch, prefetch, credit, mapTo, turn, ready, whereIs}
+use Rattle.layout.specs.declared.Table.{Table}
+use Rattle.layout.specs.declared.Table.the-variants.{Mapped, Last, Arrival, Outward, Head, Length, Stamp, Queue, Dest, Poisoned, Transaction, Price}
+use Rattle.layout.specs.Tables.{get, put}
+use Rattle.layout.specs.Picture.{slot, packetAt, ledgerIn}
+use Rattle.memory.specs.Ends.{popMem, pushMem}
+
+-- the first node of a place's list
+abbrev pub headOf : Settings → List ℕ → Place → ℕ
+headOf S m v = get S m Head (place# S v)
+
+-- memory with the first node of place v behind the last of place w
+unfoldable pub moveMem : Settings → Place → Place → List ℕ → List ℕ
+moveMem S v w m = pushMem S (place# S w) (headOf S m v) (popMem S (place# S v) m)
+
+-- memory with all that is recorded of packet k
+unfoldable pub recordMem : Settings → Packet → List ℕ → List ℕ
+recordMem S k m =
+    put S Price (slot S (k .node)) (k .price)
+    (put S Transaction (slot S (k .node)) (k .transaction)
+    (put S Poisoned (slot S (k .node)) (k .poisoned)
+    (put S Dest (slot S (k .node)) (k .dest)
+    (put S Queue (slot S (k .node)) (k .queue)
+    (put S Stamp (slot S (k .node)) (k .stamp)
+    (put S Length (slot S (k .node)) (k .len) m))))))
+
+-- memory with credit v for port p and queue q in a table of credits; queue 0 has none
+unfoldable pub creditMem : Settings → Table → ℕ → ℕ → ℕ → List ℕ → List ℕ
+creditMem S t p zero v m = m
+creditMem S t p (suc r) v m = put S t (cell S p r) v m
+
+-- an arrival of packet k, whose node is the first free one
+unfoldable pub arriveMem : Settings → ℕ → Packet → List ℕ → List ℕ
+arriveMem S p k m =
+    creditMem S Arrival p (k .queue) (arrivalOf S (ledgerIn S m) p (k .queue) - k .price)
+    (pushMem S (place# S (ingress p)) (k .node) (recordMem S k (popMem S (place# S (free p)) m)))
+
+-- packet k, the first of its queue's slots, leaves port p by queue q
+unfoldable pub serveMem : Settings → ℕ → ℕ → Packet → List ℕ → List ℕ
+serveMem S p q k m =
+    put S Last p q
+    (creditMem S Outward p q (outwardOf S (ledgerIn S m) p q - k .price)
+    (creditMem S Arrival (owner (k .node)) q (arrivalOf S (ledgerIn S m) (owner (k .node)) q + k .price)
+    (moveMem S (prefetched p q) (free (owner (k .node))) m)))
+
+abbrev pub turnMem : Settings → ℕ → ℕ → List ℕ → List ℕ
+turnMem S p w m =
+    let q = pick (lastOf (ledgerIn S m) p) w in
+    cond (eqb w 0) m (serveMem S p q (packetAt S m (headOf S m (prefetched p q))) m)
+
+-- each act where no refusal applies
+abbrev pub write : Settings → List ℕ → Act → List ℕ
+write S m (arrive p h) = arriveMem S p (recorded S (headOf S m (free p)) (fieldsOf h)) m
+write S m (stitch p) =
+    let k = packetAt S m (headOf S m (ingress p)) in
+    moveMem S (ingress p) (egress (mapOf (ledgerIn S m) (k .dest)) (k .queue)) m
+write S m (prefetch p q) = moveMem S (egress p q) (prefetched p q) m
+write S m (credit p q n) = creditMem S Outward p q (outwardOf S (ledgerIn S m) p q + n) m
+write S m (mapTo d p) = put S Mapped d p m
+write S m (turn p) = turnMem S p (readyWord S (ledgerIn S m) p) m
+write S m (ready p) = m
+write S m (whereIs y) = m

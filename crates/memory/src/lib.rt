@@ -1,0 +1,1 @@
+// What each call writes, and that this is the desk's step: definitions and theorems alone, no code.
