@@ -41,7 +41,7 @@ Place·In S (egress p q) = (p < S .ports) × (q < S .queues)
 Place·In S (prefetched p q) = (p < S .ports) × (q < S .queues)
 
 module _ (S : Settings) where
-  column-lt : (v : Place) → Place·In S v → column S v < row S
+  pub column-lt : (v : Place) → Place·In S v → column S v < row S
   unfolding row
   column-lt (free p) h = omega arith
   column-lt (ingress p) h = omega arith

@@ -1,0 +1,4 @@
+pub mod Paint
+pub mod Picture
+pub mod Image
+pub mod Square

@@ -1,0 +1,387 @@
+-- The square: for every memory and every call, what the memory pictures after the call is what the desk has after it, and the replies agree.
+-- Assumes nothing.
+use mathlib.Core.Path.{_≡_, refl, sym, ap, _∙_, subst}
+use mathlib.Core.Logic.{_≢_}
+use mathlib.Core.Bool.{Bool, true, false, cond, not}
+use mathlib.Core.List.{List, [], _∷_}
+use Prim.Native.Nat.{ℕ, zero, suc, _+_, _-_, _*_, _%_, _≤_, _<_}
+use native.Mathlib.Omega.{arith}
+use lib.ListN.{length, getD}
+use lib.Dec.{eqb}
+use Rattle.ledger.specs.Settings.{Settings, settings, inRows, ids, row, size}
+use Rattle.ledger.specs.Rules.{Rule, refuse, guard, Clear}
+use Rattle.ledger.specs.Header.{fieldsOf, leastLength, price}
+use Rattle.ledger.specs.Ledger.{owner, isNode, Packet, bare, recorded, Place, free, ingress, egress, prefetched, place#, column, portOf, Ledger, listAt, arrivalOf, outwardOf, lastOf, mapOf, creditAt, oldest, pop, push, move, putArrival, putOutward, putLast, putMap, start}
+use Rattle.ledger.specs.Ready.{bit, readyWord, pick}
+use Rattle.ledger.specs.Calls.{Act, arrive, stitch, prefetch, credit, mapTo, turn, ready, whereIs, Reply, refused, done, idle, isEmpty, firstOf, arriving, arrived, served, serve, turned, rules, result, step}
+use Rattle.ledger.specs.Desk.{Desk, none, has, Call, setup, act, setupRules, onDesk, desk}
+use Rattle.ledger.specs.Sound.{weigh, one, Proper, Orderly, Roomy, Sound}
+use Rattle.ledger.proofs.Tests.{leb-no, ltb-no, eqb-is, eqb-not, or-left, not-yes}
+use Rattle.ledger.proofs.Places.{Place·In, place#-lt, row-mod, column-lt, Node, node-is, credit-none, credit-same}
+use Rattle.ledger.proofs.Header.{price-free}
+use Rattle.ledger.proofs.Keep.{some-queue, first-fits, first-node}
+use Rattle.ledger.proofs.Rows.{roomy}
+use Rattle.ledger.proofs.Steps.{guarded, cleared, recorded-proper, picked-some, keep-served, keep-step}
+use Rattle.layout.specs.declared.Table.the-variants.{Mapped, Last, Arrival, Outward, Head}
+use Rattle.layout.specs.Tables.{lists, get, put}
+use Rattle.layout.specs.Picture.{settingsIn, packetAt, nodeIn, ledgerIn, StateOf, State}
+use Rattle.memory.specs.Ends.{popMem, pushMem, Tidy}
+use Rattle.memory.specs.Writes.{headOf, moveMem, recordMem, creditMem, arriveMem, serveMem, turnMem, write}
+use Rattle.memory.specs.Image.{setupMem}
+use Rattle.memory.specs.Memory.{state-dec, picture, acted, tested, M}
+use Rattle.memory.proofs.Picture.{picture-is, picture-none, picture-state}
+use Rattle.memory.proofs.Image.{setup-picture}
+use Rattle.memory.proofs.Paint.{Kept, kept-then, withLists, pop-paint, pop-kept, pop-item, pop-node, pop-gone, pop-packet, push-paint, push-kept, record-paint, record-kept, record-packet, arrival-paint, arrival-kept, outward-paint, outward-kept, last-paint, last-kept, map-paint, map-kept}
+
+-- ---- how a list shows a node: a free list shows it bare, any other with its record
+
+module _ (S : Settings) (m : List ℕ) where
+  held-in : (v : Place) → Place·In S v → column S v ≢ 0 → (x : ℕ) → nodeIn S m (place# S v) x ≡ packetAt S m x
+  unfolding nodeIn place#
+  held-in v h n x = rw (row-mod (row S) (portOf v) (column S v) (column-lt S v h), eqb-not (column S v) 0 n)
+
+  free-in : (p : ℕ) → Place·In S (free p) → (x : ℕ) → nodeIn S m (place# S (free p)) x ≡ bare x
+  unfolding nodeIn place#
+  free-in p h x = rw (row-mod (row S) p 0 (column-lt S (free p) h))
+
+module _ (S : Settings) (ok : Roomy S) (m : List ℕ) (s : StateOf S m) where
+  abbrev L : Ledger
+  L = ledgerIn S m
+
+  o : Orderly S L
+  o = s .sound .orderly
+
+  pub tidy-of : Tidy S m
+  tidy-of = record { long = s .long; hangs = s .hangs; once = λ y. omega (arith, o .once y) }
+
+  -- the first node of a place that holds packets
+  pub first-held : (v : Place) → Place·In S v → column S v ≢ 0 → isEmpty (listAt S L v) ≡ false → firstOf S L v ≡ packetAt S m (headOf S m v)
+  first-held v h n e = pop-item S ok m tidy-of (place# S v) (place#-lt S v h) e ∙ held-in S m v h n (headOf S m v)
+
+  first-free : (p : ℕ) → Place·In S (free p) → isEmpty (listAt S L (free p)) ≡ false → firstOf S L (free p) .node ≡ headOf S m (free p)
+  first-free p h e = ap (λ (k : Packet). k .node) (pop-item S ok m tidy-of (place# S (free p)) (place#-lt S (free p) h) e ∙ free-in S m p h (headOf S m (free p)))
+
+  -- a movement
+  module _ (v w : Place) (hv : Place·In S v) (hw : Place·In S w) (e : isEmpty (listAt S L v) ≡ false) where
+    abbrev m₁ : List ℕ
+    m₁ = popMem S (place# S v) m
+
+    t₁ : Tidy S m₁
+    t₁ = pop-kept S ok m tidy-of (place# S v) (place#-lt S v hv) e .tidy
+
+    x-node : isNode S (headOf S m v) ≡ true
+    x-node = pop-node S ok m tidy-of (place# S v) (place#-lt S v hv) e
+
+    x-gone : weigh (one (headOf S m v)) (ledgerIn S m₁ .lists) ≡ 0
+    x-gone = pop-gone S ok m tidy-of (place# S v) (place#-lt S v hv) e
+
+    move-paint : (k : Packet) → nodeIn S m₁ (place# S w) (headOf S m v) ≡ k → ledgerIn S (moveMem S v w m) ≡ move S v w k L
+    unfolding move moveMem
+    move-paint k i =
+        push-paint S ok m₁ t₁ (headOf S m v) x-node x-gone (place# S w) (place#-lt S w hw)
+        ∙ ap (λ (j : Packet). withLists (push (place# S w) j) (ledgerIn S m₁)) i
+        ∙ ap (withLists (push (place# S w) k)) (pop-paint S ok m tidy-of (place# S v) (place#-lt S v hv) e)
+
+    move-kept : Kept S m (moveMem S v w m)
+    unfolding moveMem
+    move-kept =
+        kept-then S m m₁ _ (pop-kept S ok m tidy-of (place# S v) (place#-lt S v hv) e)
+        (push-kept S ok m₁ t₁ (headOf S m v) x-node x-gone (place# S w) (place#-lt S w hw))
+
+    -- between places that hold packets, the packet as it was
+    held-paint : column S v ≢ 0 → column S w ≢ 0 → ledgerIn S (moveMem S v w m) ≡ move S v w (firstOf S L v) L
+    held-paint nv nw =
+        move-paint (firstOf S L v)
+        (held-in S m₁ w hw nw (headOf S m v)
+        ∙ pop-packet S ok m tidy-of (place# S v) (place#-lt S v hv) e (headOf S m v) x-node
+        ∙ sym (first-held v hv nv e))
+
+  -- ---- arrive
+
+  module _ (p : ℕ) (h : List ℕ) (hp : p < S .ports) (low : leastLength ≤ fieldsOf h .len)
+      (afford : arriving S L p h .price ≤ arrivalOf S L p (arriving S L p h .queue)) (e : isEmpty (listAt S L (free p)) ≡ false) where
+    v-in : Place·In S (free p)
+    v-in = (hp, some-queue S ok L o)
+
+    abbrev k : Packet
+    k = recorded S (headOf S m (free p)) (fieldsOf h)
+
+    k-is : arriving S L p h ≡ k
+    k-is = ap (λ (x : ℕ). recorded S x (fieldsOf h)) (first-free p v-in e)
+
+    k-node : k .node ≡ headOf S m (free p)
+    unfolding recorded
+    k-node = refl
+
+    good : Proper S k
+    good = recorded-proper S ok (headOf S m (free p)) h low
+
+    abbrev n₁ : List ℕ
+    n₁ = popMem S (place# S (free p)) m
+
+    abbrev n₂ : List ℕ
+    n₂ = recordMem S k n₁
+
+    abbrev n₃ : List ℕ
+    n₃ = pushMem S (place# S (ingress p)) (k .node) n₂
+
+    k-on : isNode S (k .node) ≡ true
+    k-on = rw k-node (x-node (free p) (ingress p) v-in v-in e)
+
+    k-gone : weigh (one (k .node)) (ledgerIn S n₁ .lists) ≡ 0
+    k-gone = rw k-node (x-gone (free p) (ingress p) v-in v-in e)
+
+    s₁ : Tidy S n₁
+    s₁ = t₁ (free p) (ingress p) v-in v-in e
+
+    s₂ : Kept S n₁ n₂
+    s₂ = record-kept S ok n₁ s₁ (k .node) k-on k-gone k refl
+
+    same₂ : ledgerIn S n₂ ≡ ledgerIn S n₁
+    same₂ = record-paint S ok n₁ s₁ (k .node) k-on k-gone k refl
+
+    gone₂ : weigh (one (k .node)) (ledgerIn S n₂ .lists) ≡ 0
+    gone₂ = rw same₂ k-gone
+
+    s₃ : Kept S n₂ n₃
+    s₃ = push-kept S ok n₂ (s₂ .tidy) (k .node) k-on gone₂ (place# S (ingress p)) (place#-lt S (ingress p) v-in)
+
+    lists₃ : ledgerIn S n₃ ≡ move S (free p) (ingress p) k L
+    unfolding move
+    lists₃ =
+        push-paint S ok n₂ (s₂ .tidy) (k .node) k-on gone₂ (place# S (ingress p)) (place#-lt S (ingress p) v-in)
+        ∙ ap (λ (j : Packet). withLists (push (place# S (ingress p)) j) (ledgerIn S n₂))
+        (held-in S n₂ (ingress p) v-in (omega arith) (k .node) ∙ record-packet S ok n₁ s₁ k k-on good)
+        ∙ ap (withLists (push (place# S (ingress p)) k)) (same₂ ∙ pop-paint S ok m tidy-of (place# S (free p)) (place#-lt S (free p) v-in) e)
+
+    few : arrivalOf S L p (k .queue) - k .price < 65536
+    few = omega (arith, o .ranges .arrival-in p (k .queue) hp (good .queue-in))
+
+    arrive-paint : ledgerIn S (arriveMem S p k m) ≡ arrived S L p (arriving S L p h)
+    unfolding arriveMem arrived
+    arrive-paint =
+        arrival-paint S ok n₃ (s₃ .tidy) p (k .queue) (arrivalOf S L p (k .queue) - k .price) hp (good .queue-in) few
+        ∙ ap (putArrival S p (k .queue) (arrivalOf S L p (k .queue) - k .price)) lists₃
+        ∙ ap (λ (j : Packet). arrived S L p j) (sym k-is)
+
+    arrive-kept : Kept S m (arriveMem S p k m)
+    unfolding arriveMem
+    arrive-kept =
+        kept-then S m n₁ _ (pop-kept S ok m tidy-of (place# S (free p)) (place#-lt S (free p) v-in) e)
+        (kept-then S n₁ n₂ _ s₂ (kept-then S n₂ n₃ _ s₃
+        (arrival-kept S ok n₃ (s₃ .tidy) p (k .queue) (arrivalOf S L p (k .queue) - k .price) hp (good .queue-in) few)))
+
+  -- ---- a turn that serves queue q
+
+  module _ (p q : ℕ) (hp : p < S .ports) (hq : q < S .queues) (e : isEmpty (listAt S L (prefetched p q)) ≡ false) where
+    abbrev j : Packet
+    j = firstOf S L (prefetched p q)
+
+    home : Place·In S (free (owner (j .node)))
+    home = (first-node S ok L o (prefetched p q) (hp, hq) e .home, some-queue S ok L o)
+
+    j-is : j ≡ packetAt S m (headOf S m (prefetched p q))
+    j-is = first-held (prefetched p q) (hp, hq) (omega arith) e
+
+    j-node : j .node ≡ headOf S m (prefetched p q)
+    j-node = ap (λ (k : Packet). k .node) j-is ∙ (unfold packetAt in refl)
+
+    fits : (j .queue ≡ q) × Proper S j
+    fits = let f = first-fits S ok L o (prefetched p q) (hp, hq) e in (f .1, f .2)
+
+    abbrev given : ℕ
+    given = arrivalOf S L (owner (j .node)) q + j .price
+
+    -- the credit that goes back fits: it stands in a sound ledger afterwards
+    given-fits : given < 65536
+    given-fits = go q hq (fits .0) (λ h. after-in h)
+      where
+        after-in : 0 < q → arrivalOf S L (owner (j .node)) q + j .price ≤ 65535
+        after-in h =
+            let k = keep-served S ok L o p q hp hq e .ranges .arrival-in (owner (j .node)) q (home .0) hq in
+            let c = credit-same S (L .arrival) (owner (j .node)) q given (o .shaped .arrival-long) (home .0) hq h in
+            unfold served putLast putOutward putArrival move in omega (arith, k, c)
+
+        go : (t : ℕ) → t < S .queues → j .queue ≡ t → (0 < t → arrivalOf S L (owner (j .node)) t + j .price ≤ 65535) → arrivalOf S L (owner (j .node)) t + j .price < 65536
+        go zero h i f =
+            omega (arith, credit-none S (L .arrival) (owner (j .node)), fits .1 .price-is ∙ ap (λ (t : ℕ). price (S .beat) t (j .len)) i ∙ price-free (S .beat) (j .len))
+        go (suc t) h i f = omega (arith, f (omega arith))
+
+    abbrev left : ℕ
+    left = outwardOf S L p q - j .price
+
+    left-fits : left < 65536
+    left-fits = omega (arith, o .ranges .outward-in p q hp hq)
+
+    abbrev q₁ : List ℕ
+    q₁ = moveMem S (prefetched p q) (free (owner (j .node))) m
+
+    abbrev q₂ : List ℕ
+    q₂ = creditMem S Arrival (owner (j .node)) q given q₁
+
+    abbrev q₃ : List ℕ
+    q₃ = creditMem S Outward p q left q₂
+
+    k₁ : Kept S m q₁
+    k₁ = move-kept (prefetched p q) (free (owner (j .node))) (hp, hq) home e
+
+    k₂ : Kept S q₁ q₂
+    k₂ = arrival-kept S ok q₁ (k₁ .tidy) (owner (j .node)) q given (home .0) hq given-fits
+
+    k₃ : Kept S q₂ q₃
+    k₃ = outward-kept S ok q₂ (k₂ .tidy) p q left hp hq left-fits
+
+    lists₁ : ledgerIn S q₁ ≡ move S (prefetched p q) (free (owner (j .node))) (bare (j .node)) L
+    lists₁ =
+        move-paint (prefetched p q) (free (owner (j .node))) (hp, hq) home e (bare (j .node))
+        (free-in S (popMem S (place# S (prefetched p q)) m) (owner (j .node)) home (headOf S m (prefetched p q)) ∙ ap bare (sym j-node))
+
+    serve-paint : ledgerIn S (serveMem S p q j m) ≡ served S L p q j
+    unfolding serveMem served
+    serve-paint =
+        last-paint S ok q₃ (k₃ .tidy) p q hp hq
+        ∙ ap (putLast p q)
+        (outward-paint S ok q₂ (k₂ .tidy) p q left hp hq left-fits
+        ∙ ap (putOutward S p q left)
+        (arrival-paint S ok q₁ (k₁ .tidy) (owner (j .node)) q given (home .0) hq given-fits
+        ∙ ap (putArrival S (owner (j .node)) q given) lists₁))
+
+    serve-kept : Kept S m (serveMem S p q j m)
+    unfolding serveMem
+    serve-kept = kept-then S m q₁ _ k₁ (kept-then S q₁ q₂ _ k₂ (kept-then S q₂ q₃ _ k₃ (last-kept S ok q₃ (k₃ .tidy) p q hp hq)))
+
+  -- ---- every act
+
+  record Painted (m′ : List ℕ) (L′ : Ledger) : Type 0 where
+    kept : Kept S m m′
+    shows : ledgerIn S m′ ≡ L′
+
+  same : Painted m L
+  same = record { kept = record { settings = refl; same-length = refl; tidy = tidy-of }; shows = refl }
+
+  turn-painted : (p w : ℕ) → p < S .ports
+      → (eqb w 0 ≡ false → (pick (lastOf L p) w < S .queues) × (isEmpty (listAt S L (prefetched p (pick (lastOf L p) w))) ≡ false))
+      → Painted (turnMem S p w m) (turned S L p w .1)
+  turn-painted p w hp some = go (eqb w 0) some
+    where
+      t : ℕ
+      t = pick (lastOf L p) w
+
+      serves : t < S .queues → isEmpty (listAt S L (prefetched p t)) ≡ false
+          → Painted (serveMem S p t (packetAt S m (headOf S m (prefetched p t))) m) (serve S L p t .1)
+      serves h e =
+          subst (λ (k : Packet). Painted (serveMem S p t k m) (serve S L p t .1)) (j-is p t hp h e)
+          (record { kept = serve-kept p t hp h e; shows = serve-paint p t hp h e })
+
+      go : (b : Bool) → (b ≡ false → (t < S .queues) × (isEmpty (listAt S L (prefetched p t)) ≡ false))
+          → Painted (cond b m (serveMem S p t (packetAt S m (headOf S m (prefetched p t))) m)) (cond b (idle, L) (serve S L p t) .1)
+      go true f = same
+      go false f = serves (f refl .0) (f refl .1)
+
+  painted : (a : Act) → Clear (rules S L a) → Painted (write S m a) (result S L a .1)
+  painted (arrive p h) c =
+      let hp = leb-no (S .ports) p (c .0) in
+      let low = ltb-no (fieldsOf h .len) leastLength (c .1 .1 .1 .1 .0) in
+      let afford = ltb-no (arrivalOf S L p (arriving S L p h .queue)) (arriving S L p h .price) (c .1 .1 .1 .1 .1 .0) in
+      let e = c .1 .1 .1 .1 .1 .1 .0 in
+      record { kept = arrive-kept p h hp low afford e; shows = arrive-paint p h hp low afford e }
+  painted (stitch p) c =
+      let hp = leb-no (S .ports) p (c .0) in
+      let v-in : Place·In S (ingress p) = (hp, some-queue S ok L o) in
+      let f = first-fits S ok L o (ingress p) v-in (c .1 .0) in
+      let w-in : (k : Packet) → firstOf S L (ingress p) ≡ k → Place·In S (egress (mapOf L (k .dest)) (k .queue)) =
+          λ k i. subst (λ (k : Packet). Place·In S (egress (mapOf L (k .dest)) (k .queue))) i (o .ranges .map-in (firstOf S L (ingress p) .dest) (f .2 .dest-in), f .2 .queue-in) in
+      let k-is = first-held (ingress p) v-in (omega arith) (c .1 .0) in
+      subst (λ (k : Packet). Painted (moveMem S (ingress p) (egress (mapOf L (k .dest)) (k .queue)) m) (result S L (stitch p) .1)) k-is
+      (record {
+        kept = move-kept (ingress p) (egress (mapOf L (firstOf S L (ingress p) .dest)) (firstOf S L (ingress p) .queue)) v-in (w-in (firstOf S L (ingress p)) refl) (c .1 .0);
+        shows = held-paint (ingress p) (egress (mapOf L (firstOf S L (ingress p) .dest)) (firstOf S L (ingress p) .queue)) v-in (w-in (firstOf S L (ingress p)) refl) (c .1 .0) (omega arith) (omega arith);
+      })
+  painted (prefetch p q) c =
+      let hp = leb-no (S .ports) p (c .0) in
+      let hq = leb-no (S .queues) q (c .1 .0) in
+      record {
+        kept = move-kept (egress p q) (prefetched p q) (hp, hq) (hp, hq) (c .1 .1 .0);
+        shows = held-paint (egress p q) (prefetched p q) (hp, hq) (hp, hq) (c .1 .1 .0) (omega arith) (omega arith);
+      }
+  painted (credit p q n) c =
+      let hp = leb-no (S .ports) p (c .0) in
+      let hq = leb-no (S .queues) q (or-left (lib.Dec.leb (S .queues) q) (eqb q 0) (c .1 .0)) in
+      let v : outwardOf S L p q + n < 65536 = omega (arith, ltb-no 65535 (outwardOf S L p q + n) (c .1 .1 .0)) in
+      record {
+        kept = outward-kept S ok m tidy-of p q (outwardOf S L p q + n) hp hq v;
+        shows = outward-paint S ok m tidy-of p q (outwardOf S L p q + n) hp hq v;
+      }
+  painted (mapTo d p) c =
+      let hd = leb-no ids d (c .0) in
+      let hp = leb-no (S .ports) p (c .1 .0) in
+      record { kept = map-kept S ok m tidy-of d p hd hp; shows = map-paint S ok m tidy-of d p hd hp }
+  painted (turn p) c =
+      let hp = leb-no (S .ports) p (c .0) in
+      turn-painted p (readyWord S L p) hp (picked-some S ok L o p hp)
+  painted (ready p) c = same
+  painted (whereIs y) c = same
+
+  -- after an accepted act memory is a state again, and shows what the desk has
+  write-state : (a : Act) → Clear (rules S L a) → StateOf S (write S m a)
+  write-state a c =
+      let w = painted a c in
+      record {
+        long = omega (arith, s .long, w .kept .same-length);
+        hangs = w .kept .tidy .hangs;
+        sound = record {
+          rows = s .sound .rows;
+          orderly = subst (Orderly S) (sym (w .shows))
+              (subst (Orderly S) (ap (λ (r : Reply × Ledger). r .1) (cleared (rules S L a) (λ n. (refused n, L)) (result S L a) c)) (keep-step S ok L o a));
+        };
+      }
+
+-- ---- every call, on every memory
+
+guard-map : {X Y : Type 0} (f : X → Y) (rs : List Rule) (no′ : ℕ → X) (out : X) → f (guard rs no′ out) ≡ guard rs (λ n. f (no′ n)) (f out)
+guard-map f [] no′ out = refl
+guard-map f (refuse n true ∷ rs) no′ out = refl
+guard-map f (refuse n false ∷ rs) no′ out = guard-map f rs no′ out
+
+-- two guards with the same rules agree where their outcomes do
+guard-same : {X : Type 0} (rs : List Rule) (no₁ no₂ : ℕ → X) (out₁ out₂ : X) → ((n : ℕ) → no₁ n ≡ no₂ n) → (Clear rs → out₁ ≡ out₂)
+    → guard rs no₁ out₁ ≡ guard rs no₂ out₂
+guard-same [] no₁ no₂ out₁ out₂ f g = g tt
+guard-same (refuse n true ∷ rs) no₁ no₂ out₁ out₂ f g = f n
+guard-same (refuse n false ∷ rs) no₁ no₂ out₁ out₂ f g = guard-same rs no₁ no₂ out₁ out₂ f (λ c. g (refl, c))
+
+-- a reply and a memory, as a reply and a desk
+abbrev pub pictured : Reply × List ℕ → Reply × Desk
+pictured out = (out .0, picture (out .1))
+
+acted-square : (m : List ℕ) → State m → (a : Act) → pictured (acted (settingsIn m) m a) ≡ desk (length m) (picture m) (act a)
+unfolding acted
+acted-square m s a =
+    let S : Settings = settingsIn m in
+    let ok : Roomy S = roomy S (s .sound .rows) in
+    let D = picture-state m s in
+    rw D
+    (guard-map pictured (rules S (ledgerIn S m) a) (λ n. (refused n, m)) (result S (ledgerIn S m) a .0, write S m a)
+    ∙ guard-same (rules S (ledgerIn S m) a)
+    (λ n. pictured (refused n, m)) (λ n. onDesk S (refused n, ledgerIn S m))
+    (pictured (result S (ledgerIn S m) a .0, write S m a)) (onDesk S (result S (ledgerIn S m) a))
+    (λ n. ap (λ (E : Desk). (refused n, E)) D)
+    (λ c.
+      let w = painted S ok m s a c in
+      ap (λ (E : Desk). (result S (ledgerIn S m) a .0, E))
+      (picture-is S (write S m a) (result S (ledgerIn S m) a .1) (w .kept .settings) (write-state S ok m s a c) (w .shows)))
+    ∙ sym (guard-map (onDesk S) (rules S (ledgerIn S m) a) (λ n. (refused n, ledgerIn S m)) (result S (ledgerIn S m) a)))
+
+pub square : (c : Call) (m : List ℕ) → pictured (M c m) ≡ desk (length m) (picture m) c
+unfolding M
+square (setup N b d k) m =
+    let S : Settings = settings N b d k in
+    guard-map pictured (setupRules (length m) S) (λ r. (refused r, m)) (done, setupMem S m)
+    ∙ guard-same (setupRules (length m) S) (λ r. pictured (refused r, m)) (λ r. (refused r, picture m)) (pictured (done, setupMem S m)) (done, has S (start S))
+    (λ r. refl)
+    (λ c. ap (λ (E : Desk). (done, E)) (setup-picture S m (not-yes (inRows S) (c .0)) (ltb-no (length m) (size S) (c .1 .0))))
+square (act a) m = go (state-dec m)
+  where
+    go : (d : Dec (State m)) → pictured (tested m d a) ≡ desk (length m) (picture m) (act a)
+    go (yes s) = acted-square m s a
+    go (no n) = rw (picture-none m n)
