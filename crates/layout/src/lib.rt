@@ -1,4 +1,11 @@
 // The state in lent bytes: a row of tables. A Shape holds what the settings fix, so that a call computes it once.
+ghost use mathlib.Core.Path.{_≡_};
+ghost use Rattle.ledger.specs.Settings.{size};
+ghost use Rattle.ledger.specs.Sound.{Roomy};
+ghost use Rattle.layout.specs.Tables.{startOf, get, put, settingsOf, Laid};
+ghost use Rattle.layout.specs.Picture.{slot};
+ghost use Rattle.layout.specs.Access.{Reads, settingsFrom, Made};
+
 pub enum Table {
     Setting,
     Mapped,
@@ -32,4 +39,130 @@ pub struct Shape {
     pub arrival: usize,
     pub head: usize,
     pub next: usize,
+}
+
+// The shape of a switch with these settings.
+pub fn shape_of(
+    ports: usize,
+    queues: usize,
+    nodes: usize,
+    beat: usize,
+    slots: usize,
+    credit: usize,
+) -> Shape
+    requires { ⌜ Roomy (settingsFrom ports queues nodes beat slots credit) ⌝ }
+    ensures { λ r. ⌜ Made (settingsFrom ports queues nodes beat slots credit) r ⌝ }
+{
+    let cells = ports * (queues - 1);
+    let lists = ports * (2 + 2 * queues);
+    let all = ports * nodes;
+    let arrival = 16 + ports;
+    let head = arrival + 4 * cells;
+    let next = head + 8 * lists;
+    Shape {
+        ports,
+        queues,
+        nodes,
+        beat,
+        slots,
+        credit,
+        cells,
+        lists,
+        all,
+        arrival,
+        head,
+        next,
+    }
+}
+
+// Where a table starts.
+pub fn start_of(s: Shape, t: Table) -> usize
+    requires { ⌜ Laid s ⌝ }
+    ensures { λ r. ⌜ r ≡ startOf (settingsOf s) t ⌝ }
+{
+    let cells = s.cells;
+    let lists = s.lists;
+    let all = s.all;
+    let head = s.head;
+    let next = s.next;
+    match t {
+        Table::Setting => 0,
+        Table::Mapped => 12,
+        Table::Last => 16,
+        Table::Arrival => s.arrival,
+        Table::Outward => s.arrival + 2 * cells,
+        Table::Head => head,
+        Table::Tail => head + 2 * lists,
+        Table::Count => head + 4 * lists,
+        Table::Next => next,
+        Table::Length => next + 2 * all,
+        Table::Stamp => next + 4 * all,
+        Table::Queue => next + 8 * all,
+        Table::Dest => next + 9 * all,
+        Table::Poisoned => next + 10 * all,
+        Table::Transaction => next + 11 * all,
+        Table::Price => next + 12 * all,
+    }
+}
+
+// The bytes of a state: where the last table ends.
+pub fn size_of(s: Shape) -> usize
+    requires { ⌜ Laid s ⌝ }
+    ensures { λ r. ⌜ r ≡ size (settingsOf s) ⌝ }
+{
+    let all = s.all;
+    s.next + 13 * all
+}
+
+// The element of a node in the tables of nodes.
+pub fn slot_of(s: Shape, x: u16) -> usize
+    requires { ⌜ Laid s ⌝ }
+    ensures { λ r. ⌜ r ≡ slot (settingsOf s) x ⌝ }
+{
+    let id = x as usize;
+    id / 2048 * s.nodes + id % 2048
+}
+
+// Element i of a table: a read for each width.
+pub fn get1(m: &[u8], s: Shape, t: Table, i: usize) -> u8
+    requires { ⌜ Reads 1 s t i (now m) ⌝ }
+    ensures { λ r. ⌜ r ≡ get (settingsOf s) (now (m .entry)) t i ⌝ }
+{
+    numbers::read1(m, start_of(s, t) + i)
+}
+
+pub fn get2(m: &[u8], s: Shape, t: Table, i: usize) -> u16
+    requires { ⌜ Reads 2 s t i (now m) ⌝ }
+    ensures { λ r. ⌜ r ≡ get (settingsOf s) (now (m .entry)) t i ⌝ }
+{
+    numbers::read2(m, start_of(s, t) + i * 2)
+}
+
+pub fn get4(m: &[u8], s: Shape, t: Table, i: usize) -> u32
+    requires { ⌜ Reads 4 s t i (now m) ⌝ }
+    ensures { λ r. ⌜ r ≡ get (settingsOf s) (now (m .entry)) t i ⌝ }
+{
+    numbers::read4(m, start_of(s, t) + i * 4)
+}
+
+// v stored as element i of a table: a write for each width.
+pub fn put1(m: &mut [u8], s: Shape, t: Table, i: usize, v: u8)
+    requires { ⌜ Reads 1 s t i (now m) ⌝ }
+    ensures { λ _. ⌜ now (m .exit) ≡ put (settingsOf s) t i v (now (m .entry)) ⌝ }
+{
+    numbers::write1(m, start_of(s, t) + i, v);
+}
+
+pub fn put2(m: &mut [u8], s: Shape, t: Table, i: usize, v: u16)
+    requires { ⌜ Reads 2 s t i (now m) ⌝ }
+    ensures { λ _. ⌜ now (m .exit) ≡ put (settingsOf s) t i v (now (m .entry)) ⌝ }
+{
+    numbers::write2(m, start_of(s, t) + i * 2, v);
+}
+
+pub fn put4(m: &mut [u8], s: Shape, t: Table, i: usize, v: u32)
+    requires { ⌜ Reads 4 s t i (now m) ⌝ }
+    ensures { λ _. ⌜ now (m .exit) ≡ put (settingsOf s) t i v (now (m .entry)) ⌝ }
+{
+    numbers::write4(m, start_of(s, t) + i * 4, v);
 }

@@ -1,21 +1,29 @@
--- What each write does to the picture, a law each. Assumes nothing.
+-- What each write does to the picture, a law each, in the ledger's own words. Assumes nothing.
 use mathlib.Core.Path.{_≡_, refl, sym, ap, _∙_, subst}
 use mathlib.Core.Logic.{_≢_}
-use mathlib.Core.Bool.{Bool, true, false, cond}
+use mathlib.Core.Bool.{Bool, true, false}
 use mathlib.Core.List.{List, [], _∷_}
-use Prim.Native.Nat.{ℕ, zero, suc, _+_, _-_, _*_, _%_, _≤_, _<_}
+use Prim.Native.Nat.{ℕ, zero, suc, _+_, _-_, _*_, _≤_, _<_}
 use native.Mathlib.Omega.{arith}
 use lib.ListN.{length, getD, set}
-use lib.Dec.{eqb}
-use Rattle.ledger.specs.Settings.{Settings, ids, row, size}
-use Rattle.ledger.specs.Ledger.{isNode, Packet, bare, Place, free, place#, cell, Ledger, oldest, pop, push, setCredit, putArrival, putOutward, putLast, putMap}
+use Rattle.ledger.specs.Settings.{Settings, ids, size}
+use Rattle.ledger.specs.Ledger.{isNode, Packet, place#, cell, Ledger, oldest, pop, push, setCredit, putArrival, putOutward, putLast, putMap}
 use Rattle.ledger.specs.Sound.{weigh, one, Proper, Roomy}
 use Rattle.ledger.specs.Calls.{isEmpty}
-use Rattle.layout.specs.declared.Table.the-variants.{Mapped, Last, Arrival, Outward, Head, Count}
-use Rattle.layout.specs.Tables.{lists, cells, get, put}
+use Rattle.ledger.proofs.Tests.{true≢false}
+use Rattle.ledger.proofs.Places.{cell-lt}
+use Rattle.ledger.proofs.Header.{price-le}
+use Rattle.layout.specs.declared.Table.{Table}
+use Rattle.layout.specs.declared.Table.the-variants.{Setting, Mapped, Last, Arrival, Outward, Head, Count, Length, Stamp, Queue, Dest, Poisoned, Transaction, Price}
+use Rattle.layout.specs.Tables.{turnOf, width, many, lists, cells, get, put}
 use Rattle.layout.specs.Picture.{settingsIn, slot, packetAt, nodeIn, ledgerIn}
-use Rattle.memory.specs.Ends.{popMem, pushMem, Tidy}
+use Rattle.layout.proofs.Tables.{length-put, get-put, get-put-else, settings-put}
+use Rattle.memory.specs.Ends.{popMem, pushMem, Tidy, IsRecord, withLists}
 use Rattle.memory.specs.Writes.{recordMem, creditMem}
+use Rattle.memory.proofs.Chains.{list-length, list-empty, slot-record, differ}
+use Rattle.memory.proofs.Pop as take-off
+use Rattle.memory.proofs.Push as put-on
+use Rattle.memory.proofs.Records.{record-ledger, record-tidy, column-tidy, arrival-put, outward-put, last-put, mapped-put}
 
 -- what every write keeps: the settings, the length, and that the lists are tidy
 pub record Kept (S : Settings) (m m′ : List ℕ) : Type 0 where
@@ -26,70 +34,240 @@ pub record Kept (S : Settings) (m m′ : List ℕ) : Type 0 where
 pub kept-then : (S : Settings) (m m′ m″ : List ℕ) → Kept S m m′ → Kept S m′ m″ → Kept S m m″
 kept-then S m m′ m″ a b = record { settings = b .settings ∙ a .settings; same-length = b .same-length ∙ a .same-length; tidy = b .tidy }
 
--- a ledger with its lists changed
-abbrev pub withLists : (List (List Packet) → List (List Packet)) → Ledger → Ledger
-withLists f L = record { lists = f (L .lists); arrival = L .arrival; outward = L .outward; last = L .last; mapped = L .mapped }
+-- a list with something in it has a count
+pub counted-some : (S : Settings) (m : List ℕ) (l : ℕ) → l < lists S → isEmpty (getD (ledgerIn S m .lists) l []) ≡ false → 0 < get S m Count l
+counted-some S m l h e = go (get S m Count l) refl
+  where
+    go : (n : ℕ) → get S m Count l ≡ n → 0 < n
+    go zero i = absurd (true≢false (sym (ap isEmpty (list-empty S m l h i)) ∙ e))
+    go (suc n) i = omega arith
 
 module _ (S : Settings) (ok : Roomy S) (m : List ℕ) (t : Tidy S m) where
   -- taking off
   module _ (a : ℕ) (ha : a < lists S) (some : isEmpty (getD (ledgerIn S m .lists) a []) ≡ false) where
-    pub pop-paint : ledgerIn S (popMem S a m) ≡ withLists (pop a) (ledgerIn S m)
-    pop-paint = ?
+    pub pop-paint : ledgerIn S (popMem S a m) ≡ withLists (pop a (ledgerIn S m .lists)) (ledgerIn S m)
+    pop-paint = take-off.pop-ledger S m a t ha (counted-some S m a ha some)
 
     pub pop-kept : Kept S m (popMem S a m)
-    pop-kept = ?
+    pop-kept = record {
+      settings = take-off.settings-pop S m a ha;
+      same-length = take-off.length-popMem S m a;
+      tidy = take-off.pop-tidy S m a t ha (counted-some S m a ha some);
+    }
 
     pub pop-item : oldest (getD (ledgerIn S m .lists) a []) ≡ nodeIn S m a (get S m Head a)
-    pop-item = ?
+    pop-item = take-off.pop-item S m a t ha (counted-some S m a ha some)
 
     pub pop-node : isNode S (get S m Head a) ≡ true
-    pop-node = ?
+    pop-node = take-off.pop-node S m a t ha (counted-some S m a ha some)
 
     pub pop-gone : weigh (one (get S m Head a)) (ledgerIn S (popMem S a m) .lists) ≡ 0
-    pop-gone = ?
+    pop-gone = take-off.pop-gone S m a t ha (counted-some S m a ha some)
 
     pub pop-packet : (x : ℕ) → isNode S x ≡ true → packetAt S (popMem S a m) x ≡ packetAt S m x
-    pop-packet x n = ?
+    pop-packet x n = take-off.pop-packet S m a ha x n
 
   -- a node that stands nowhere
   module _ (x : ℕ) (n : isNode S x ≡ true) (gone : weigh (one x) (ledgerIn S m .lists) ≡ 0) where
-    pub push-paint : (b : ℕ) → b < lists S → ledgerIn S (pushMem S b x m) ≡ withLists (push b (nodeIn S m b x)) (ledgerIn S m)
-    push-paint b hb = ?
+    pub push-paint : (b : ℕ) → b < lists S → ledgerIn S (pushMem S b x m) ≡ withLists (push b (nodeIn S m b x) (ledgerIn S m .lists)) (ledgerIn S m)
+    push-paint b hb = put-on.push-ledger S m b x ok t hb n
 
     pub push-kept : (b : ℕ) → b < lists S → Kept S m (pushMem S b x m)
-    push-kept b hb = ?
+    push-kept b hb = record {
+      settings = put-on.settings-push S m b x ok t hb n;
+      same-length = put-on.length-pushMem S m b x ok t hb n;
+      tidy = put-on.push-tidy S m b x ok t hb n gone;
+    }
 
-    pub record-paint : (k : Packet) → k .node ≡ x → ledgerIn S (recordMem S k m) ≡ ledgerIn S m
-    record-paint k e = ?
+  -- credits, marks and the map: a table before the lists'
+  column-kept : (r : Table) (i v : ℕ) → i < many S r → turnOf r < turnOf Head → r ≢ Setting → Kept S m (put S r i v m)
+  column-kept r i v h low n = record { settings = settings-put S m r i v h n; same-length = length-put S r i v m; tidy = column-tidy S m r i v t h low }
 
-    pub record-kept : (k : Packet) → k .node ≡ x → Kept S m (recordMem S k m)
-    record-kept k e = ?
-
-  -- a record is read back as it was written
-  pub record-packet : (k : Packet) → isNode S (k .node) ≡ true → Proper S k → packetAt S (recordMem S k m) (k .node) ≡ k
-  record-packet k n good = ?
-
-  -- credits, marks and the map
   pub arrival-paint : (p q v : ℕ) → p < S .ports → q < S .queues → v < 65536 → ledgerIn S (creditMem S Arrival p q v m) ≡ putArrival S p q v (ledgerIn S m)
-  arrival-paint p q v hp hq hv = ?
+  unfolding creditMem putArrival setCredit
+  arrival-paint p zero v hp hq hv = refl
+  arrival-paint p (suc r) v hp hq hv = arrival-put S m (cell S p r) v t (cell-lt S p r hp hq) hv
 
   pub arrival-kept : (p q v : ℕ) → p < S .ports → q < S .queues → v < 65536 → Kept S m (creditMem S Arrival p q v m)
-  arrival-kept p q v hp hq hv = ?
+  unfolding creditMem
+  arrival-kept p zero v hp hq hv = record { settings = refl; same-length = refl; tidy = t }
+  arrival-kept p (suc r) v hp hq hv = column-kept Arrival (cell S p r) v (cell-lt S p r hp hq) (omega arith) (differ Arrival Setting (λ e. omega arith))
 
   pub outward-paint : (p q v : ℕ) → p < S .ports → q < S .queues → v < 65536 → ledgerIn S (creditMem S Outward p q v m) ≡ putOutward S p q v (ledgerIn S m)
-  outward-paint p q v hp hq hv = ?
+  unfolding creditMem putOutward setCredit
+  outward-paint p zero v hp hq hv = refl
+  outward-paint p (suc r) v hp hq hv = outward-put S m (cell S p r) v t (cell-lt S p r hp hq) hv
 
   pub outward-kept : (p q v : ℕ) → p < S .ports → q < S .queues → v < 65536 → Kept S m (creditMem S Outward p q v m)
-  outward-kept p q v hp hq hv = ?
+  unfolding creditMem
+  outward-kept p zero v hp hq hv = record { settings = refl; same-length = refl; tidy = t }
+  outward-kept p (suc r) v hp hq hv = column-kept Outward (cell S p r) v (cell-lt S p r hp hq) (omega arith) (differ Outward Setting (λ e. omega arith))
 
   pub last-paint : (p q : ℕ) → p < S .ports → q < S .queues → ledgerIn S (put S Last p q m) ≡ putLast p q (ledgerIn S m)
-  last-paint p q hp hq = ?
+  unfolding putLast
+  last-paint p q hp hq = last-put S m p q t hp (omega (arith, ok .few-queues))
 
   pub last-kept : (p q : ℕ) → p < S .ports → q < S .queues → Kept S m (put S Last p q m)
-  last-kept p q hp hq = ?
+  last-kept p q hp hq = column-kept Last p q hp (omega arith) (differ Last Setting (λ e. omega arith))
 
   pub map-paint : (d p : ℕ) → d < ids → p < S .ports → ledgerIn S (put S Mapped d p m) ≡ putMap d p (ledgerIn S m)
-  map-paint d p hd hp = ?
+  unfolding putMap
+  map-paint d p hd hp = mapped-put S m d p t hd (omega (arith, ok .few-ports))
 
   pub map-kept : (d p : ℕ) → d < ids → p < S .ports → Kept S m (put S Mapped d p m)
-  map-kept d p hd hp = ?
+  map-kept d p hd hp = column-kept Mapped d p hd (omega arith) (differ Mapped Setting (λ e. omega arith))
+
+-- ---- a record: seven puts for a node that stands nowhere
+
+module _ (S : Settings) (x : ℕ) (n : isNode S x ≡ true) where
+  -- memory in which the node stands nowhere, reached from m by writing records of x
+  record Nowhere (m m′ : List ℕ) : Type 0 where
+    kept : Kept S m m′
+    shows : ledgerIn S m′ ≡ ledgerIn S m
+    gone : weigh (one x) (ledgerIn S m′ .lists) ≡ 0
+
+  one-put : (m m′ : List ℕ) (r : Table) (v : ℕ) → IsRecord r → Nowhere m m′ → Nowhere m (put S r (slot S x) v m′)
+  one-put m m′ r v k w =
+      let same : ledgerIn S (put S r (slot S x) v m′) ≡ ledgerIn S m′ = record-ledger S m′ r x v (w .kept .tidy) k n (w .gone) in
+      record {
+        kept = kept-then S m m′ _ (w .kept) (record {
+          settings = settings-put S m′ r (slot S x) v (slot-record S x r n k) (differ r Setting (λ e. omega arith));
+          same-length = length-put S r (slot S x) v m′;
+          tidy = record-tidy S m′ r x v (w .kept .tidy) k n (w .gone);
+        });
+        shows = same ∙ w .shows;
+        gone = rw same (w .gone);
+      }
+
+  written : (m : List ℕ) → Tidy S m → weigh (one x) (ledgerIn S m .lists) ≡ 0 → (k : Packet) → k .node ≡ x → Nowhere m (recordMem S k m)
+  unfolding recordMem
+  written m t gone k e =
+      subst (λ (y : ℕ). Nowhere m (put S Price (slot S y) (k .price) (put S Transaction (slot S y) (k .transaction) (put S Poisoned (slot S y) (k .poisoned)
+      (put S Dest (slot S y) (k .dest) (put S Queue (slot S y) (k .queue) (put S Stamp (slot S y) (k .stamp) (put S Length (slot S y) (k .len) m)))))))) (sym e)
+      (one-put m _ Price (k .price) (omega arith)
+      (one-put m _ Transaction (k .transaction) (omega arith)
+      (one-put m _ Poisoned (k .poisoned) (omega arith)
+      (one-put m _ Dest (k .dest) (omega arith)
+      (one-put m _ Queue (k .queue) (omega arith)
+      (one-put m _ Stamp (k .stamp) (omega arith)
+      (one-put m _ Length (k .len) (omega arith)
+      (record { kept = record { settings = refl; same-length = refl; tidy = t }; shows = refl; gone = gone }))))))))
+
+module _ (S : Settings) (ok : Roomy S) (m : List ℕ) (t : Tidy S m) where
+  module _ (x : ℕ) (n : isNode S x ≡ true) (gone : weigh (one x) (ledgerIn S m .lists) ≡ 0) where
+    pub record-paint : (k : Packet) → k .node ≡ x → ledgerIn S (recordMem S k m) ≡ ledgerIn S m
+    record-paint k e = written S x n m t gone k e .shows
+
+    pub record-kept : (k : Packet) → k .node ≡ x → Kept S m (recordMem S k m)
+    record-kept k e = written S x n m t gone k e .kept
+
+  -- a record is read back as it was written
+  module _ (k : Packet) (n : isNode S (k .node) ≡ true) (good : Proper S k) where
+    abbrev i : ℕ
+    i = slot S (k .node)
+
+    skip : (m′ : List ℕ) (r a : Table) (v : ℕ) → IsRecord r → IsRecord a → turnOf r ≢ turnOf a → get S (put S r i v m′) a i ≡ get S m′ a i
+    skip m′ r a v hr ha d = get-put-else S m′ r i v a i (slot-record S (k .node) r n hr) (slot-record S (k .node) a n ha) (λ e j. differ r a d e)
+
+    abbrev m₁ : List ℕ
+    m₁ = put S Length i (k .len) m
+
+    abbrev m₂ : List ℕ
+    m₂ = put S Stamp i (k .stamp) m₁
+
+    abbrev m₃ : List ℕ
+    m₃ = put S Queue i (k .queue) m₂
+
+    abbrev m₄ : List ℕ
+    m₄ = put S Dest i (k .dest) m₃
+
+    abbrev m₅ : List ℕ
+    m₅ = put S Poisoned i (k .poisoned) m₄
+
+    abbrev m₆ : List ℕ
+    m₆ = put S Transaction i (k .transaction) m₅
+
+    abbrev m₇ : List ℕ
+    m₇ = put S Price i (k .price) m₆
+
+    long : (m′ : List ℕ) (r : Table) (v : ℕ) → size S ≤ length m′ → size S ≤ length (put S r i v m′)
+    long m′ r v h = rw (length-put S r i v m′) h
+
+    l₁ : size S ≤ length m₁
+    l₁ = long m Length (k .len) (t .long)
+
+    l₂ : size S ≤ length m₂
+    l₂ = long m₁ Stamp (k .stamp) l₁
+
+    l₃ : size S ≤ length m₃
+    l₃ = long m₂ Queue (k .queue) l₂
+
+    l₄ : size S ≤ length m₄
+    l₄ = long m₃ Dest (k .dest) l₃
+
+    l₅ : size S ≤ length m₅
+    l₅ = long m₄ Poisoned (k .poisoned) l₄
+
+    l₆ : size S ≤ length m₆
+    l₆ = long m₅ Transaction (k .transaction) l₅
+
+    slot-in : (r : Table) → IsRecord r → i < many S r
+    slot-in r h = slot-record S (k .node) r n h
+
+    cheap : k .price < 256
+    cheap = omega (arith, good .price-is, price-le (S .beat) (k .queue) (k .len) (ok .low-beat) (good .len-high))
+
+    f₇ : get S m₇ Price i ≡ k .price
+    f₇ = get-put S m₆ Price i (k .price) l₆ (slot-in Price (omega arith)) cheap
+
+    f₆ : get S m₇ Transaction i ≡ k .transaction
+    f₆ =
+        skip m₆ Price Transaction (k .price) (omega arith) (omega arith) (λ e. omega arith)
+        ∙ get-put S m₅ Transaction i (k .transaction) l₅ (slot-in Transaction (omega arith)) (good .transaction-in)
+
+    s₅ : (a : Table) → IsRecord a → turnOf a < turnOf Transaction → get S m₇ a i ≡ get S m₅ a i
+    s₅ a h b = skip m₆ Price a (k .price) (omega arith) h (λ e. omega arith) ∙ skip m₅ Transaction a (k .transaction) (omega arith) h (λ e. omega arith)
+
+    f₅ : get S m₇ Poisoned i ≡ k .poisoned
+    f₅ = s₅ Poisoned (omega arith) (omega arith) ∙ get-put S m₄ Poisoned i (k .poisoned) l₄ (slot-in Poisoned (omega arith)) (omega (arith, good .poisoned-in))
+
+    s₃ : (a : Table) → IsRecord a → turnOf a < turnOf Dest → get S m₇ a i ≡ get S m₃ a i
+    s₃ a h b =
+        s₅ a h (omega arith)
+        ∙ skip m₄ Poisoned a (k .poisoned) (omega arith) h (λ e. omega arith)
+        ∙ skip m₃ Dest a (k .dest) (omega arith) h (λ e. omega arith)
+
+    f₄ : get S m₇ Dest i ≡ k .dest
+    f₄ =
+        s₅ Dest (omega arith) (omega arith)
+        ∙ skip m₄ Poisoned Dest (k .poisoned) (omega arith) (omega arith) (λ e. omega arith)
+        ∙ get-put S m₃ Dest i (k .dest) l₃ (slot-in Dest (omega arith)) (omega (arith, good .dest-in))
+
+    f₃ : get S m₇ Queue i ≡ k .queue
+    f₃ = s₃ Queue (omega arith) (omega arith) ∙ get-put S m₂ Queue i (k .queue) l₂ (slot-in Queue (omega arith)) (omega (arith, good .queue-in, ok .few-queues))
+
+    f₂ : get S m₇ Stamp i ≡ k .stamp
+    f₂ =
+        s₃ Stamp (omega arith) (omega arith)
+        ∙ skip m₂ Queue Stamp (k .queue) (omega arith) (omega arith) (λ e. omega arith)
+        ∙ get-put S m₁ Stamp i (k .stamp) l₁ (slot-in Stamp (omega arith)) (good .stamp-in)
+
+    f₁ : get S m₇ Length i ≡ k .len
+    f₁ =
+        s₃ Length (omega arith) (omega arith)
+        ∙ skip m₂ Queue Length (k .queue) (omega arith) (omega arith) (λ e. omega arith)
+        ∙ skip m₁ Stamp Length (k .stamp) (omega arith) (omega arith) (λ e. omega arith)
+        ∙ get-put S m Length i (k .len) (t .long) (slot-in Length (omega arith)) (omega (arith, good .len-high))
+
+    pub record-packet : packetAt S (recordMem S k m) (k .node) ≡ k
+    unfolding packetAt recordMem
+    record-packet = λ d. record {
+      node = k .node;
+      len = f₁ d;
+      queue = f₃ d;
+      dest = f₄ d;
+      stamp = f₂ d;
+      poisoned = f₅ d;
+      transaction = f₆ d;
+      price = f₇ d;
+    }

@@ -25,13 +25,13 @@ use Rattle.ledger.proofs.Steps.{guarded, cleared, recorded-proper, picked-some,
 use Rattle.layout.specs.declared.Table.the-variants.{Mapped, Last, Arrival, Outward, Head}
 use Rattle.layout.specs.Tables.{lists, get, put}
 use Rattle.layout.specs.Picture.{settingsIn, packetAt, nodeIn, ledgerIn, StateOf, State}
-use Rattle.memory.specs.Ends.{popMem, pushMem, Tidy}
+use Rattle.memory.specs.Ends.{popMem, pushMem, Tidy, withLists}
 use Rattle.memory.specs.Writes.{headOf, moveMem, recordMem, creditMem, arriveMem, serveMem, turnMem, write}
 use Rattle.memory.specs.Image.{setupMem}
 use Rattle.memory.specs.Memory.{state-dec, picture, acted, tested, M}
 use Rattle.memory.proofs.Picture.{picture-is, picture-none, picture-state}
 use Rattle.memory.proofs.Image.{setup-picture}
-use Rattle.memory.proofs.Paint.{Kept, kept-then, withLists, pop-paint, pop-kept, pop-item, pop-node, pop-gone, pop-packet, push-paint, push-kept, record-paint, record-kept, record-packet, arrival-paint, arrival-kept, outward-paint, outward-kept, last-paint, last-kept, map-paint, map-kept}
+use Rattle.memory.proofs.Paint.{Kept, kept-then, pop-paint, pop-kept, pop-item, pop-node, pop-gone, pop-packet, push-paint, push-kept, record-paint, record-kept, record-packet, arrival-paint, arrival-kept, outward-paint, outward-kept, last-paint, last-kept, map-paint, map-kept}
 
 -- ---- how a list shows a node: a free list shows it bare, any other with its record
 
@@ -79,8 +79,8 @@ module _ (S : Settings) (ok : Roomy S) (m : List ℕ) (s : StateOf S m) where
     unfolding move moveMem
     move-paint k i =
         push-paint S ok m₁ t₁ (headOf S m v) x-node x-gone (place# S w) (place#-lt S w hw)
-        ∙ ap (λ (j : Packet). withLists (push (place# S w) j) (ledgerIn S m₁)) i
-        ∙ ap (withLists (push (place# S w) k)) (pop-paint S ok m tidy-of (place# S v) (place#-lt S v hv) e)
+        ∙ ap (λ (j : Packet). withLists (push (place# S w) j (ledgerIn S m₁ .lists)) (ledgerIn S m₁)) i
+        ∙ ap (λ (N : Ledger). withLists (push (place# S w) k (N .lists)) N) (pop-paint S ok m tidy-of (place# S v) (place#-lt S v hv) e)
 
     move-kept : Kept S m (moveMem S v w m)
     unfolding moveMem
@@ -150,9 +150,9 @@ module _ (S : Settings) (ok : Roomy S) (m : List ℕ) (s : StateOf S m) where
     unfolding move
     lists₃ =
         push-paint S ok n₂ (s₂ .tidy) (k .node) k-on gone₂ (place# S (ingress p)) (place#-lt S (ingress p) v-in)
-        ∙ ap (λ (j : Packet). withLists (push (place# S (ingress p)) j) (ledgerIn S n₂))
+        ∙ ap (λ (j : Packet). withLists (push (place# S (ingress p)) j (ledgerIn S n₂ .lists)) (ledgerIn S n₂))
         (held-in S n₂ (ingress p) v-in (omega arith) (k .node) ∙ record-packet S ok n₁ s₁ k k-on good)
-        ∙ ap (withLists (push (place# S (ingress p)) k)) (same₂ ∙ pop-paint S ok m tidy-of (place# S (free p)) (place#-lt S (free p) v-in) e)
+        ∙ ap (λ (N : Ledger). withLists (push (place# S (ingress p)) k (N .lists)) N) (same₂ ∙ pop-paint S ok m tidy-of (place# S (free p)) (place#-lt S (free p) v-in) e)
 
     few : arrivalOf S L p (k .queue) - k .price < 65536
     few = omega (arith, o .ranges .arrival-in p (k .queue) hp (good .queue-in))

@@ -1,16 +1,17 @@
--- The two ways in which the lists of a memory change: the first node of a list is taken off, a node is put behind the last.
--- Assumes nothing.
+-- The ends of the lists in a memory: a first node taken off, a last one put on. Assumes nothing.
+use mathlib.Core.Path.{_≡_}
 use mathlib.Core.Bool.{cond}
 use mathlib.Core.List.{List}
 use Prim.Native.Nat.{ℕ, _+_, _-_, _≤_, _<_}
 use lib.ListN.{length}
 use lib.Dec.{eqb}
 use Rattle.ledger.specs.Settings.{Settings, size}
-use Rattle.ledger.specs.Ledger.{isNode}
+use Rattle.ledger.specs.Ledger.{isNode, Packet, Ledger}
 use Rattle.ledger.specs.Ready.{bit}
 use Rattle.ledger.specs.Sound.{weigh, one}
+use Rattle.layout.specs.declared.Table.{Table}
 use Rattle.layout.specs.declared.Table.the-variants.{Head, Tail, Count, Next}
-use Rattle.layout.specs.Tables.{lists, get, put}
+use Rattle.layout.specs.Tables.{turnOf, lists, get, put}
 use Rattle.layout.specs.Picture.{slot, ledgerIn, Hangs}
 
 -- memory with the first node of list a taken off
@@ -21,7 +22,7 @@ popMem S a m = put S Count a (get S m Count a - 1) (put S Head a (get S m Next (
 unfoldable pub link : Settings → ℕ → ℕ → List ℕ → List ℕ
 link S b x m = cond (eqb (get S m Count b) 0) (put S Head b x m) (put S Next (slot S (get S m Tail b)) x m)
 
--- memory with node x put behind the last of list b
+-- memory with node x put on at the end of list b
 unfoldable pub pushMem : Settings → ℕ → ℕ → List ℕ → List ℕ
 pushMem S b x m = put S Count b (get S m Count b + 1) (put S Tail b x (link S b x m))
 
@@ -30,3 +31,31 @@ pub record Tidy (S : Settings) (m : List ℕ) : Type 0 where
   pub long : size S ≤ length m
   pub hangs : (l : ℕ) → l < lists S → Hangs S m l
   pub once : (y : ℕ) → weigh (one y) (ledgerIn S m .lists) ≤ bit (isNode S y)
+
+-- the tables of what is recorded for nodes are those after the links
+abbrev pub IsRecord : Table → Type 0
+IsRecord t = turnOf Next < turnOf t
+
+-- ---- a ledger with one part changed
+
+abbrev pub withLists : List (List Packet) → Ledger → Ledger
+withLists ls L = record { lists = ls; arrival = L .arrival; outward = L .outward; last = L .last; mapped = L .mapped }
+
+abbrev pub withArrival : List ℕ → Ledger → Ledger
+withArrival xs L = record { lists = L .lists; arrival = xs; outward = L .outward; last = L .last; mapped = L .mapped }
+
+abbrev pub withOutward : List ℕ → Ledger → Ledger
+withOutward xs L = record { lists = L .lists; arrival = L .arrival; outward = xs; last = L .last; mapped = L .mapped }
+
+abbrev pub withLast : List ℕ → Ledger → Ledger
+withLast xs L = record { lists = L .lists; arrival = L .arrival; outward = L .outward; last = xs; mapped = L .mapped }
+
+abbrev pub withMapped : List ℕ → Ledger → Ledger
+withMapped xs L = record { lists = L .lists; arrival = L .arrival; outward = L .outward; last = L .last; mapped = xs }
+
+-- what is no list is the same in both ledgers
+pub record SameRest (L L′ : Ledger) : Type 0 where
+  pub arrival : L′ .arrival ≡ L .arrival
+  pub outward : L′ .outward ≡ L .outward
+  pub last : L′ .last ≡ L .last
+  pub mapped : L′ .mapped ≡ L .mapped
