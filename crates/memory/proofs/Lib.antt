@@ -3,6 +3,8 @@ pub mod Pop
 pub mod Push
 pub mod Records
 pub mod Paint
+pub mod Fill
+pub mod Written
 pub mod Picture
 pub mod Image
 pub mod Square

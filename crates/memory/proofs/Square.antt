@@ -379,7 +379,7 @@ square (setup N b d k) m =
     guard-map pictured (setupRules (length m) S) (λ r. (refused r, m)) (done, setupMem S m)
     ∙ guard-same (setupRules (length m) S) (λ r. pictured (refused r, m)) (λ r. (refused r, picture m)) (pictured (done, setupMem S m)) (done, has S (start S))
     (λ r. refl)
-    (λ c. ap (λ (E : Desk). (done, E)) (setup-picture S m (not-yes (inRows S) (c .0)) (ltb-no (length m) (size S) (c .1 .0))))
+    (λ c. ap (λ (E : Desk). (done, E)) (setup-picture S (not-yes (inRows S) (c .0)) m))
 square (act a) m = go (state-dec m)
   where
     go : (d : Dec (State m)) → pictured (tested m d a) ≡ desk (length m) (picture m) (act a)

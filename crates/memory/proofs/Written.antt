@@ -1,0 +1,161 @@
+-- What memory holds once `written` has run over zero bytes. Assumes nothing.
+use mathlib.Core.Path.{_≡_, refl, _∙_}
+use mathlib.Core.List.{List, _++_}
+use Prim.Native.Nat.{ℕ, zero, suc, _+_, _-_, _*_, _^_, _≤_, _<_}
+use native.Mathlib.Nat.{le-refl}
+use native.Mathlib.Omega.{arith}
+use lib.ListN.{length}
+use Rattle.ledger.specs.Settings.{Settings, ids, row, size}
+use Rattle.ledger.specs.Ledger.{entryId}
+use Rattle.ledger.specs.Sound.{Roomy}
+use Rattle.ledger.proofs.Places.{row-lt, row-inj}
+use Rattle.layout.specs.declared.Table.{Table}
+use Rattle.layout.specs.declared.Table.the-variants.{Setting, Mapped, Last, Arrival, Outward, Head, Tail, Count, Next}
+use Rattle.layout.specs.Tables.{turnOf, width, many, cells, lists, get}
+use Rattle.memory.specs.Image.{fill, settingAt, written}
+use Rattle.memory.proofs.Fill.{Fits, length-fill, fill-append, fill-else, fill-other, fill-get, length-links, links-append, links-other, links-get}
+
+-- ---- `written` by its parts: the tables in their order, so that what is written of a table is not touched later
+
+abbrev settled : Settings → List ℕ → List ℕ
+settled S m = fill S Setting (λ i. i) (settingAt S) 6 m
+
+abbrev marked : Settings → List ℕ → List ℕ
+marked S m = fill S Last (λ p. p) (λ p. S .queues - 1) (S .ports) (settled S m)
+
+abbrev credited : Settings → List ℕ → List ℕ
+credited S m = fill S Arrival (λ c. c) (λ c. S .credit) (cells S) (marked S m)
+
+abbrev headed : Settings → List ℕ → List ℕ
+headed S m = fill S Head (λ p. p * row S) (λ p. entryId p 0) (S .ports) (credited S m)
+
+abbrev tailed : Settings → List ℕ → List ℕ
+tailed S m = fill S Tail (λ p. p * row S) (λ p. entryId p (S .nodes - 1)) (S .ports) (headed S m)
+
+abbrev counted : Settings → List ℕ → List ℕ
+counted S m = fill S Count (λ p. p * row S) (λ p. S .nodes) (S .ports) (tailed S m)
+
+pub written-length : (S : Settings) (m : List ℕ) → length (written S m) ≡ length m
+unfolding written
+written-length S m = simp (length-links, length-fill)
+
+-- ---- a state that nothing was done to since setup
+
+pub record Fresh (S : Settings) (m : List ℕ) : Type 0 where
+  pub setting-at : (i : ℕ) → i < 6 → get S m Setting i ≡ settingAt S i
+  pub mapped-at : (d : ℕ) → d < ids → get S m Mapped d ≡ 0
+  pub last-at : (p : ℕ) → p < S .ports → get S m Last p ≡ S .queues - 1
+  pub arrival-at : (c : ℕ) → c < cells S → get S m Arrival c ≡ S .credit
+  pub outward-at : (c : ℕ) → c < cells S → get S m Outward c ≡ 0
+  pub head-at : (p : ℕ) → p < S .ports → get S m Head (p * row S) ≡ entryId p 0
+  pub tail-at : (p : ℕ) → p < S .ports → get S m Tail (p * row S) ≡ entryId p (S .nodes - 1)
+  pub count-at : (p : ℕ) → p < S .ports → get S m Count (p * row S) ≡ S .nodes
+  pub count-else : (p c : ℕ) → p < S .ports → suc c < row S → get S m Count (p * row S + suc c) ≡ 0
+  pub next-at : (p i : ℕ) → p < S .ports → suc i < S .nodes → get S m Next (p * S .nodes + i) ≡ entryId p (suc i)
+
+pub row-pos : (S : Settings) → 0 < row S
+unfolding row
+row-pos S = omega arith
+
+module _ (S : Settings) where
+  -- the free list of a port is its first
+  first-lt : (p : ℕ) → p < S .ports → p * row S < lists S
+  first-lt p h = omega (arith, row-lt (row S) (S .ports) p 0 h (row-pos S))
+
+  firsts-fit : (t : Table) (f : ℕ → ℕ) → many S t ≡ lists S → ((p : ℕ) → p < S .ports → f p < 256 ^ width t) → Fits S t (λ p. p * row S) f (S .ports)
+  firsts-fit t f e small = record {
+    in-table = λ p h. omega (arith, first-lt p h);
+    apart = λ p q h k d. row-inj (row S) p q 0 0 (row-pos S) (row-pos S) (omega arith) .0;
+    small = small;
+  }
+
+  module _ (r : Roomy S) where
+    settings-fit : Fits S Setting (λ i. i) (settingAt S) 6
+    settings-fit = record { in-table = λ i h. h; apart = λ i j h k e. e; small = λ i h. small i }
+      where
+        small : (i : ℕ) → settingAt S i < 65536
+        small zero = omega arith
+        small (suc zero) = omega arith
+        small (suc (suc zero)) = omega arith
+        small (suc (suc (suc zero))) = omega arith
+        small (suc (suc (suc (suc zero)))) = omega arith
+        small (suc (suc (suc (suc (suc i))))) = omega arith
+
+    marks-fit : Fits S Last (λ p. p) (λ p. S .queues - 1) (S .ports)
+    marks-fit = record { in-table = λ p h. h; apart = λ p q h k e. e; small = λ p h. omega arith }
+
+    credits-fit : Fits S Arrival (λ c. c) (λ c. S .credit) (cells S)
+    credits-fit = record { in-table = λ c h. h; apart = λ c d h k e. e; small = λ c h. omega arith }
+
+    heads-fit : Fits S Head (λ p. p * row S) (λ p. entryId p 0) (S .ports)
+    heads-fit = firsts-fit Head (λ p. entryId p 0) refl (λ p h. omega arith)
+
+    tails-fit : Fits S Tail (λ p. p * row S) (λ p. entryId p (S .nodes - 1)) (S .ports)
+    tails-fit = firsts-fit Tail (λ p. entryId p (S .nodes - 1)) refl (λ p h. omega arith)
+
+    counts-fit : Fits S Count (λ p. p * row S) (λ p. S .nodes) (S .ports)
+    counts-fit = firsts-fit Count (λ p. S .nodes) refl (λ p h. omega arith)
+
+    module _ (m : List ℕ) (long : size S ≤ length m) where
+      -- bytes behind the state are not touched
+      pub written-append : (ys : List ℕ) → written S (m ++ ys) ≡ written S m ++ ys
+      unfolding written
+      written-append ys =
+          rw (
+            fill-append S Setting _ _ 6 m ys settings-fit long,
+            fill-append S Last _ _ (S .ports) (settled S m) ys marks-fit (simp length-fill long),
+            fill-append S Arrival _ _ (cells S) (marked S m) ys credits-fit (simp length-fill long),
+            fill-append S Head _ _ (S .ports) (credited S m) ys heads-fit (simp length-fill long),
+            fill-append S Tail _ _ (S .ports) (headed S m) ys tails-fit (simp length-fill long),
+            fill-append S Count _ _ (S .ports) (tailed S m) ys counts-fit (simp length-fill long),
+          )
+          (links-append S r (S .ports) (counted S m) ys (le-refl (S .ports)) (simp length-fill long))
+
+      -- what a table holds at the end stood there once the table was written
+      from-counted : (t : Table) (j : ℕ) → j < many S t → turnOf t < 8 → get S (written S m) t j ≡ get S (counted S m) t j
+      unfolding written
+      from-counted t j k h = links-other S r (S .ports) (counted S m) t j (le-refl (S .ports)) k (omega arith)
+
+      from-tailed : (t : Table) (j : ℕ) → j < many S t → turnOf t < 7 → get S (written S m) t j ≡ get S (tailed S m) t j
+      from-tailed t j k h = from-counted t j k (omega arith) ∙ fill-other S Count _ _ (S .ports) (tailed S m) t j counts-fit k (omega arith)
+
+      from-headed : (t : Table) (j : ℕ) → j < many S t → turnOf t < 6 → get S (written S m) t j ≡ get S (headed S m) t j
+      from-headed t j k h = from-tailed t j k (omega arith) ∙ fill-other S Tail _ _ (S .ports) (headed S m) t j tails-fit k (omega arith)
+
+      from-credited : (t : Table) (j : ℕ) → j < many S t → turnOf t < 5 → get S (written S m) t j ≡ get S (credited S m) t j
+      from-credited t j k h = from-headed t j k (omega arith) ∙ fill-other S Head _ _ (S .ports) (credited S m) t j heads-fit k (omega arith)
+
+      from-marked : (t : Table) (j : ℕ) → j < many S t → turnOf t < 3 → get S (written S m) t j ≡ get S (marked S m) t j
+      from-marked t j k h = from-credited t j k (omega arith) ∙ fill-other S Arrival _ _ (cells S) (marked S m) t j credits-fit k (omega arith)
+
+      from-settled : (t : Table) (j : ℕ) → j < many S t → turnOf t < 2 → get S (written S m) t j ≡ get S (settled S m) t j
+      from-settled t j k h = from-marked t j k (omega arith) ∙ fill-other S Last _ _ (S .ports) (settled S m) t j marks-fit k (omega arith)
+
+      -- and until then it is as it was
+      to-credited : (t : Table) (j : ℕ) → j < many S t → 3 < turnOf t → get S (credited S m) t j ≡ get S m t j
+      to-credited t j k h =
+          fill-other S Arrival _ _ (cells S) (marked S m) t j credits-fit k (omega arith)
+          ∙ fill-other S Last _ _ (S .ports) (settled S m) t j marks-fit k (omega arith)
+          ∙ fill-other S Setting _ _ 6 m t j settings-fit k (omega arith)
+
+      pub written-fresh : ((t : Table) (j : ℕ) → j < many S t → get S m t j ≡ 0) → Fresh S (written S m)
+      unfolding written
+      written-fresh blank = record {
+        setting-at = λ i h. from-settled Setting i h (omega arith) ∙ fill-get S Setting _ _ 6 m i settings-fit long h;
+        mapped-at = λ d h. from-settled Mapped d h (omega arith) ∙ fill-other S Setting _ _ 6 m Mapped d settings-fit h (omega arith) ∙ blank Mapped d h;
+        last-at = λ p h. from-marked Last p h (omega arith) ∙ fill-get S Last _ _ (S .ports) (settled S m) p marks-fit (simp length-fill long) h;
+        arrival-at = λ c h. from-credited Arrival c h (omega arith) ∙ fill-get S Arrival _ _ (cells S) (marked S m) c credits-fit (simp length-fill long) h;
+        outward-at = λ c h. from-credited Outward c h (omega arith) ∙ to-credited Outward c h (omega arith) ∙ blank Outward c h;
+        head-at = λ p h. from-headed Head (p * row S) (first-lt p h) (omega arith) ∙ fill-get S Head _ _ (S .ports) (credited S m) p heads-fit (simp length-fill long) h;
+        tail-at = λ p h. from-tailed Tail (p * row S) (first-lt p h) (omega arith) ∙ fill-get S Tail _ _ (S .ports) (headed S m) p tails-fit (simp length-fill long) h;
+        count-at = λ p h. from-counted Count (p * row S) (first-lt p h) (omega arith) ∙ fill-get S Count _ _ (S .ports) (tailed S m) p counts-fit (simp length-fill long) h;
+        count-else = λ p c h k.
+            let l : p * row S + suc c < lists S = row-lt (row S) (S .ports) p (suc c) h k in
+            from-counted Count (p * row S + suc c) l (omega arith)
+            ∙ fill-else S Count _ _ (S .ports) (tailed S m) Count (p * row S + suc c) counts-fit l (λ q b z e. omega (arith, row-inj (row S) q p 0 (suc c) (row-pos S) k (omega arith)))
+            ∙ fill-other S Tail _ _ (S .ports) (headed S m) Count (p * row S + suc c) tails-fit l (omega arith)
+            ∙ fill-other S Head _ _ (S .ports) (credited S m) Count (p * row S + suc c) heads-fit l (omega arith)
+            ∙ to-credited Count (p * row S + suc c) l (omega arith)
+            ∙ blank Count (p * row S + suc c) l;
+        next-at = λ p i h k. links-get S r (S .ports) (counted S m) p i (le-refl (S .ports)) (simp length-fill long) h k;
+      }
