@@ -8,3 +8,4 @@ pub mod Written
 pub mod Picture
 pub mod Image
 pub mod Square
+pub mod Demands

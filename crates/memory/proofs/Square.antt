@@ -290,7 +290,7 @@ module _ (S : Settings) (ok : Roomy S) (m : List ℕ) (s : StateOf S m) where
       let v-in : Place·In S (ingress p) = (hp, some-queue S ok L o) in
       let f = first-fits S ok L o (ingress p) v-in (c .1 .0) in
       let w-in : (k : Packet) → firstOf S L (ingress p) ≡ k → Place·In S (egress (mapOf L (k .dest)) (k .queue)) =
-          λ k i. subst (λ (k : Packet). Place·In S (egress (mapOf L (k .dest)) (k .queue))) i (o .ranges .map-in (firstOf S L (ingress p) .dest) (f .2 .dest-in), f .2 .queue-in) in
+      λ k i. subst (λ (k : Packet). Place·In S (egress (mapOf L (k .dest)) (k .queue))) i (o .ranges .map-in (firstOf S L (ingress p) .dest) (f .2 .dest-in), f .2 .queue-in) in
       let k-is = first-held (ingress p) v-in (omega arith) (c .1 .0) in
       subst (λ (k : Packet). Painted (moveMem S (ingress p) (egress (mapOf L (k .dest)) (k .queue)) m) (result S L (stitch p) .1)) k-is
       (record {
@@ -367,9 +367,9 @@ acted-square m s a =
     (pictured (result S (ledgerIn S m) a .0, write S m a)) (onDesk S (result S (ledgerIn S m) a))
     (λ n. ap (λ (E : Desk). (refused n, E)) D)
     (λ c.
-      let w = painted S ok m s a c in
-      ap (λ (E : Desk). (result S (ledgerIn S m) a .0, E))
-      (picture-is S (write S m a) (result S (ledgerIn S m) a .1) (w .kept .settings) (write-state S ok m s a c) (w .shows)))
+    let w = painted S ok m s a c in
+    ap (λ (E : Desk). (result S (ledgerIn S m) a .0, E))
+    (picture-is S (write S m a) (result S (ledgerIn S m) a .1) (w .kept .settings) (write-state S ok m s a c) (w .shows)))
     ∙ sym (guard-map (onDesk S) (rules S (ledgerIn S m) a) (λ n. (refused n, ledgerIn S m)) (result S (ledgerIn S m) a)))
 
 pub square : (c : Call) (m : List ℕ) → pictured (M c m) ≡ desk (length m) (picture m) c

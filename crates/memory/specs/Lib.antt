@@ -2,3 +2,4 @@ pub mod Ends
 pub mod Writes
 pub mod Image
 pub mod Memory
+pub mod Demands

@@ -1,0 +1,118 @@
+-- What is proved of the desk holds of memory, by the square. Assumes nothing.
+use mathlib.Core.Path.{_≡_, refl, sym, ap, _∙_, subst}
+use mathlib.Core.Bool.{Bool, true, false, not, _&&_}
+use mathlib.Core.List.{List, [], _∷_, _++_}
+use Prim.Native.Nat.{ℕ, zero, suc, _+_, _*_, _≤_, _<_}
+use native.Mathlib.Omega.{arith}
+use lib.ListN.{length, getD, take}
+use Rattle.ledger.specs.Settings.{Settings}
+use Rattle.ledger.specs.Ledger.{owner, isNode, Packet, Place, free, Ledger, listAt}
+use Rattle.ledger.specs.Ready.{bit}
+use Rattle.ledger.specs.Calls.{Act, turn, Reply, refused, leaves, sideOf, step, run, answers}
+use Rattle.ledger.specs.Desk.{Desk, none, has, Call, act, onDesk, desk}
+use Rattle.ledger.specs.Sound.{All, Orderly, Sound}
+use Rattle.ledger.specs.Demand.{isRefused, isTurn, turnsOf, NobodyStarves24}
+use Rattle.ledger.proofs.Places.{Place·In}
+use Rattle.ledger.proofs.Rows.{roomy}
+use Rattle.ledger.proofs.Promises.{OnePlace, each-in-one-place, First-in-first-out, run-in-order, home-only, refusal-keeps-desk}
+use Rattle.ledger.proofs.Waits.{nobody-starves-24}
+use Rattle.layout.specs.Picture.{settingsIn, ledgerIn, State}
+use Rattle.memory.specs.Memory.{state-dec, deskOf, picture, M}
+use Rattle.memory.specs.Demands.{afterActs, answersOf, turnsIn, ShowsWaiting, LeavesMemory, NobodyStarvesInMemory}
+use Rattle.memory.proofs.Square.{pictured, square}
+
+-- a memory that pictures a ledger is a state, and the ledger is sound
+pub pictured-state : (m : List ℕ) (S : Settings) (L : Ledger) → picture m ≡ has S L → State m × Sound S L
+unfolding picture
+pictured-state m S L e = go (state-dec m) e
+  where
+    go : (d : Dec (State m)) → deskOf m d ≡ has S L → State m × Sound S L
+    go (yes s) i =
+        let a : settingsIn m ≡ S = cc in
+        let b : ledgerIn (settingsIn m) m ≡ L = cc in
+        (s, subst (λ (T : Settings). Sound T L) a (subst (Sound (settingsIn m)) b (s .sound)))
+    go (no n) i = absurd (let z : _≡_ {A = ℕ} 0 1 = cc in omega arith)
+
+module _ (S : Settings) where
+  -- one act on memory is the desk's step on what it pictures
+  pub act-answer : (m : List ℕ) (L : Ledger) → picture m ≡ has S L → (a : Act) → M (act a) m .0 ≡ step S L a .0
+  act-answer m L e a =
+      ap (λ (r : Reply × Desk). r .0) (square (act a) m) ∙ ap (λ (D : Desk). desk (length m) D (act a) .0) e
+
+  pub act-picture : (m : List ℕ) (L : Ledger) → picture m ≡ has S L → (a : Act) → picture (M (act a) m .1) ≡ has S (step S L a .1)
+  act-picture m L e a =
+      ap (λ (r : Reply × Desk). r .1) (square (act a) m) ∙ ap (λ (D : Desk). desk (length m) D (act a) .1) e
+
+  -- and so are any acts
+  pub acts-picture : (m : List ℕ) (L : Ledger) → picture m ≡ has S L → (acts : List Act) → picture (afterActs m acts) ≡ has S (run S L acts)
+  acts-picture m L e [] = e
+  acts-picture m L e (a ∷ acts) = acts-picture (M (act a) m .1) (step S L a .1) (act-picture m L e a) acts
+
+  pub acts-answers : (m : List ℕ) (L : Ledger) → picture m ≡ has S L → (acts : List Act) → answersOf m acts ≡ answers S L acts
+  acts-answers m L e [] = refl
+  acts-answers m L e (a ∷ acts) =
+      let h = act-answer m L e a in
+      let t = acts-answers (M (act a) m .1) (step S L a .1) (act-picture m L e a) acts in
+      cc
+
+  turns-same : (p : ℕ) (m : List ℕ) (L : Ledger) → picture m ≡ has S L → (acts : List Act) → turnsIn p m acts ≡ turnsOf S p L acts
+  turns-same p m L e [] = refl
+  turns-same p m L e (a ∷ acts) =
+      omega (
+        arith,
+        ap (λ (r : Reply). bit (isTurn p a && not (isRefused r))) (act-answer m L e a),
+        turns-same p (M (act a) m .1) (step S L a .1) (act-picture m L e a) acts,
+      )
+
+-- demand 3, on memory
+pub nobody-starves-in-memory : NobodyStarvesInMemory
+unfolding NobodyStarvesInMemory NobodyStarves24
+nobody-starves-in-memory m S L e p q n hp hq ahead k there l hand acts h =
+    let s = pictured-state m S L e .1 in
+    let o = nobody-starves-24 S L s p q n hp hq ahead k there l hand acts (rw (turns-same S p m L e acts) at h) in
+    record {
+      moment = o .moment;
+      among = o .among;
+      soon = rw (turns-same S p m L e (take (o .moment) acts)) (o .soon);
+      a-turn = o .a-turn;
+      it-leaves = act-answer S (afterActs m (take (o .moment) acts)) (run S L (take (o .moment) acts)) (acts-picture S m L e (take (o .moment) acts)) (turn p) ∙ o .it-leaves;
+      until-then = λ i h. record {
+        ledger = run S L (take i acts);
+        ahead = o .until-then i h .0;
+        shows = acts-picture S m L e (take i acts);
+        stands = o .until-then i h .1;
+      };
+    }
+
+-- ---- demand 2, on memory, after any acts
+
+module _ (m : List ℕ) (S : Settings) (L : Ledger) (e : picture m ≡ has S L) where
+  s : Sound S L
+  s = pictured-state m S L e .1
+
+  -- each node stands in one place
+  pub memory-one-place : (acts : List Act) (y : ℕ) → isNode S y ≡ true → (M′ : Ledger) → picture (afterActs m acts) ≡ has S M′ → OnePlace S M′ y
+  memory-one-place acts y n M′ d = each-in-one-place S M′ (pictured-state (afterActs m acts) S M′ d .1) y n
+
+  -- queues keep their order
+  pub memory-in-order : (acts : List Act) (v : Place) → Place·In S v
+      → (N : Ledger) × (picture (afterActs m acts) ≡ has S N) × First-in-first-out (listAt S L v) (listAt S N v)
+  memory-in-order acts v hv = (run S L acts, acts-picture S m L e acts, run-in-order S (roomy S (s .rows)) L (s .orderly) acts v hv)
+
+  -- nodes go home only to their owner
+  pub memory-home : (acts : List Act) (p : ℕ) → p < S .ports
+      → (N : Ledger) × (picture (afterActs m acts) ≡ has S N) × All (λ k. owner (k .node) ≡ p) (listAt S N (free p))
+  memory-home acts p hp = (run S L acts, acts-picture S m L e acts, home-only S (roomy S (s .rows)) L (s .orderly) acts p hp)
+
+-- ---- the statements of the calls fix their outcome
+
+-- any two outcomes that a contract allows are identical
+pub one-outcome : (c : Call) (m : List ℕ) (out out′ : Reply × List ℕ) → out ≡ M c m → out′ ≡ M c m → out ≡ out′
+one-outcome c m out out′ a b = a ∙ sym b
+
+-- after any call a memory that was a state is one again, and a memory that is one pictures a sound ledger
+pub still-a-state : (a : Act) (m : List ℕ) → State m → State (M (act a) m .1)
+still-a-state a m t =
+    let e = Rattle.memory.proofs.Picture.picture-state m t in
+    let S = settingsIn m in
+    pictured-state (M (act a) m .1) S (step S (ledgerIn S m) a .1) (act-picture S m (ledgerIn S m) e a) .0
