@@ -5,7 +5,7 @@ use mathlib.Core.Bool.{Bool, true, false}
 use mathlib.Core.List.{List, [], _∷_}
 use Prim.Native.Nat.{ℕ, zero, suc, _+_, _-_, _*_, _≤_, _<_}
 use native.Mathlib.Omega.{arith}
-use lib.ListN.{length, getD, set}
+use lib.ListN.{length, getD, drop}
 use Rattle.ledger.specs.Settings.{Settings, ids, size}
 use Rattle.ledger.specs.Ledger.{isNode, Packet, place#, cell, Ledger, oldest, pop, push, setCredit, putArrival, putOutward, putLast, putMap}
 use Rattle.ledger.specs.Sound.{weigh, one, Proper, Roomy}
@@ -17,7 +17,7 @@ use Rattle.layout.specs.declared.Table.{Table}
 use Rattle.layout.specs.declared.Table.the-variants.{Setting, Mapped, Last, Arrival, Outward, Head, Count, Length, Stamp, Queue, Dest, Poisoned, Transaction, Price}
 use Rattle.layout.specs.Tables.{turnOf, width, many, lists, cells, get, put}
 use Rattle.layout.specs.Picture.{settingsIn, slot, packetAt, nodeIn, ledgerIn}
-use Rattle.layout.proofs.Tables.{length-put, get-put, get-put-else, settings-put}
+use Rattle.layout.proofs.Tables.{length-put, get-put, get-put-else, settings-put, drop-put}
 use Rattle.memory.specs.Ends.{popMem, pushMem, Tidy, IsRecord, withLists}
 use Rattle.memory.specs.Writes.{recordMem, creditMem}
 use Rattle.memory.proofs.Chains.{list-length, list-empty, slot-record, differ}
@@ -25,14 +25,15 @@ use Rattle.memory.proofs.Pop as take-off
 use Rattle.memory.proofs.Push as put-on
 use Rattle.memory.proofs.Records.{record-ledger, record-tidy, column-tidy, arrival-put, outward-put, last-put, mapped-put}
 
--- what every write keeps: the settings, the length, and that the lists are tidy
+-- what every write keeps: the settings, the length, the bytes past the size, and that the lists are tidy
 pub record Kept (S : Settings) (m m′ : List ℕ) : Type 0 where
   pub settings : settingsIn m′ ≡ settingsIn m
   pub same-length : length m′ ≡ length m
+  pub past : drop (size S) m′ ≡ drop (size S) m
   pub tidy : Tidy S m′
 
 pub kept-then : (S : Settings) (m m′ m″ : List ℕ) → Kept S m m′ → Kept S m′ m″ → Kept S m m″
-kept-then S m m′ m″ a b = record { settings = b .settings ∙ a .settings; same-length = b .same-length ∙ a .same-length; tidy = b .tidy }
+kept-then S m m′ m″ a b = record { settings = b .settings ∙ a .settings; same-length = b .same-length ∙ a .same-length; past = b .past ∙ a .past; tidy = b .tidy }
 
 -- a list with something in it has a count
 pub counted-some : (S : Settings) (m : List ℕ) (l : ℕ) → l < lists S → isEmpty (getD (ledgerIn S m .lists) l []) ≡ false → 0 < get S m Count l
@@ -52,6 +53,7 @@ module _ (S : Settings) (ok : Roomy S) (m : List ℕ) (t : Tidy S m) where
     pop-kept = record {
       settings = take-off.settings-pop S m a ha;
       same-length = take-off.length-popMem S m a;
+      past = take-off.past-pop S m a ha;
       tidy = take-off.pop-tidy S m a t ha (counted-some S m a ha some);
     }
 
@@ -76,12 +78,13 @@ module _ (S : Settings) (ok : Roomy S) (m : List ℕ) (t : Tidy S m) where
     push-kept b hb = record {
       settings = put-on.settings-push S m b x ok t hb n;
       same-length = put-on.length-pushMem S m b x ok t hb n;
+      past = put-on.past-push S m b x ok t hb n;
       tidy = put-on.push-tidy S m b x ok t hb n gone;
     }
 
   -- credits, marks and the map: a table before the lists'
   column-kept : (r : Table) (i v : ℕ) → i < many S r → turnOf r < turnOf Head → r ≢ Setting → Kept S m (put S r i v m)
-  column-kept r i v h low n = record { settings = settings-put S m r i v h n; same-length = length-put S r i v m; tidy = column-tidy S m r i v t h low }
+  column-kept r i v h low n = record { settings = settings-put S m r i v h n; same-length = length-put S r i v m; past = drop-put S r i v m h; tidy = column-tidy S m r i v t h low }
 
   pub arrival-paint : (p q v : ℕ) → p < S .ports → q < S .queues → v < 65536 → ledgerIn S (creditMem S Arrival p q v m) ≡ putArrival S p q v (ledgerIn S m)
   unfolding creditMem putArrival setCredit
@@ -90,7 +93,7 @@ module _ (S : Settings) (ok : Roomy S) (m : List ℕ) (t : Tidy S m) where
 
   pub arrival-kept : (p q v : ℕ) → p < S .ports → q < S .queues → v < 65536 → Kept S m (creditMem S Arrival p q v m)
   unfolding creditMem
-  arrival-kept p zero v hp hq hv = record { settings = refl; same-length = refl; tidy = t }
+  arrival-kept p zero v hp hq hv = record { settings = refl; same-length = refl; past = refl; tidy = t }
   arrival-kept p (suc r) v hp hq hv = column-kept Arrival (cell S p r) v (cell-lt S p r hp hq) (omega arith) (differ Arrival Setting (λ e. omega arith))
 
   pub outward-paint : (p q v : ℕ) → p < S .ports → q < S .queues → v < 65536 → ledgerIn S (creditMem S Outward p q v m) ≡ putOutward S p q v (ledgerIn S m)
@@ -100,7 +103,7 @@ module _ (S : Settings) (ok : Roomy S) (m : List ℕ) (t : Tidy S m) where
 
   pub outward-kept : (p q v : ℕ) → p < S .ports → q < S .queues → v < 65536 → Kept S m (creditMem S Outward p q v m)
   unfolding creditMem
-  outward-kept p zero v hp hq hv = record { settings = refl; same-length = refl; tidy = t }
+  outward-kept p zero v hp hq hv = record { settings = refl; same-length = refl; past = refl; tidy = t }
   outward-kept p (suc r) v hp hq hv = column-kept Outward (cell S p r) v (cell-lt S p r hp hq) (omega arith) (differ Outward Setting (λ e. omega arith))
 
   pub last-paint : (p q : ℕ) → p < S .ports → q < S .queues → ledgerIn S (put S Last p q m) ≡ putLast p q (ledgerIn S m)
@@ -133,6 +136,7 @@ module _ (S : Settings) (x : ℕ) (n : isNode S x ≡ true) where
         kept = kept-then S m m′ _ (w .kept) (record {
           settings = settings-put S m′ r (slot S x) v (slot-record S x r n k) (differ r Setting (λ e. omega arith));
           same-length = length-put S r (slot S x) v m′;
+          past = drop-put S r (slot S x) v m′ (slot-record S x r n k);
           tidy = record-tidy S m′ r x v (w .kept .tidy) k n (w .gone);
         });
         shows = same ∙ w .shows;
@@ -151,7 +155,7 @@ module _ (S : Settings) (x : ℕ) (n : isNode S x ≡ true) where
       (one-put m _ Queue (k .queue) (omega arith)
       (one-put m _ Stamp (k .stamp) (omega arith)
       (one-put m _ Length (k .len) (omega arith)
-      (record { kept = record { settings = refl; same-length = refl; tidy = t }; shows = refl; gone = gone }))))))))
+      (record { kept = record { settings = refl; same-length = refl; past = refl; tidy = t }; shows = refl; gone = gone }))))))))
 
 module _ (S : Settings) (ok : Roomy S) (m : List ℕ) (t : Tidy S m) where
   module _ (x : ℕ) (n : isNode S x ≡ true) (gone : weigh (one x) (ledgerIn S m .lists) ≡ 0) where

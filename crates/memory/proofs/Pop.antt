@@ -6,9 +6,9 @@ use mathlib.Core.List.{List, [], _∷_, map}
 use Prim.Native.Nat.{ℕ, _+_, _-_, _<_}
 use native.Mathlib.Decide.{ℕ-discrete}
 use native.Mathlib.Omega.{arith}
-use lib.ListN.{length, getD}
+use lib.ListN.{length, getD, drop}
 use lib.Dec.{eqb}
-use Rattle.ledger.specs.Settings.{Settings}
+use Rattle.ledger.specs.Settings.{Settings, size}
 use Rattle.ledger.specs.Ledger.{isNode, oldest, pop}
 use Rattle.ledger.specs.Ready.{bit}
 use Rattle.ledger.specs.Calls.{isEmpty}
@@ -19,7 +19,7 @@ use Rattle.layout.specs.declared.Table.the-variants.{Setting, Head, Tail, Count
 use Rattle.layout.specs.Tables.{turnOf, lists, many, get}
 use Rattle.layout.specs.Picture.{settingsIn, slot, chain, nodesOf, packetAt, nodeIn, ledgerIn, lastD, Hangs}
 use Rattle.memory.specs.Ends.{popMem, Tidy, withLists, SameRest}
-use Rattle.layout.proofs.Tables.{length-put, get-lt, get-put, get-put-else, settings-put}
+use Rattle.layout.proofs.Tables.{length-put, get-lt, get-put, get-put-else, settings-put, drop-put}
 use Rattle.memory.proofs.Chains as C
 
 -- a list that was not empty still ends where it did
@@ -35,6 +35,10 @@ module _ (S : Settings) (m : List ℕ) (a : ℕ) (ha : a < lists S) where
   pub settings-pop : settingsIn (popMem S a m) ≡ settingsIn m
   unfolding popMem
   settings-pop = settings-put S _ Count a _ ha (C.differ Count Setting (omega arith)) ∙ settings-put S m Head a _ ha (C.differ Head Setting (omega arith))
+
+  pub past-pop : drop (size S) (popMem S a m) ≡ drop (size S) m
+  unfolding popMem
+  past-pop = drop-put S Count a _ _ ha ∙ drop-put S Head a _ m ha
 
   pop-apart : (r : Table) (j : ℕ) → j < many S r → (Head ≡ r → a ≡ j → ⊥) → (Count ≡ r → a ≡ j → ⊥) → get S (popMem S a m) r j ≡ get S m r j
   unfolding popMem

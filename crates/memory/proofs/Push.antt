@@ -6,9 +6,9 @@ use mathlib.Core.List.{List, [], _∷_, _++_, map}
 use Prim.Native.Nat.{ℕ, suc, _+_, _-_, _^_, _≤_, _<_}
 use native.Mathlib.Decide.{ℕ-discrete}
 use native.Mathlib.Omega.{arith}
-use lib.ListN.{length}
+use lib.ListN.{length, drop}
 use lib.Dec.{eqb}
-use Rattle.ledger.specs.Settings.{Settings}
+use Rattle.ledger.specs.Settings.{Settings, size}
 use Rattle.ledger.specs.Ledger.{isNode, push}
 use Rattle.ledger.specs.Ready.{bit}
 use Rattle.ledger.specs.Sound.{All, weigh, one, Roomy}
@@ -19,7 +19,7 @@ use Rattle.layout.specs.declared.Table.the-variants.{Setting, Head, Tail, Count
 use Rattle.layout.specs.Tables.{turnOf, width, lists, many, get, put}
 use Rattle.layout.specs.Picture.{settingsIn, slot, chain, nodesOf, packetAt, nodeIn, ledgerIn, lastD, Hangs}
 use Rattle.memory.specs.Ends.{link, pushMem, Tidy, withLists, SameRest}
-use Rattle.layout.proofs.Tables.{length-put, get-put, get-put-else, settings-put}
+use Rattle.layout.proofs.Tables.{length-put, get-put, get-put-else, settings-put, drop-put}
 use Rattle.memory.proofs.Chains as C
 
 lastD-snoc : (xs : List ℕ) (t d : ℕ) → lastD (xs ++ (t ∷ [])) d ≡ t
@@ -47,6 +47,7 @@ record Spot (S : Settings) (m : List ℕ) (b x : ℕ) (r : Table) (i : ℕ) : Ty
 record Grown (S : Settings) (m : List ℕ) (b x : ℕ) (m′ : List ℕ) : Type 0 where
   long-is : length m′ ≡ length m
   settings-are : settingsIn m′ ≡ settingsIn m
+  past : drop (size S) m′ ≡ drop (size S) m
   others : (q : Table) (j : ℕ) → turnOf q ≢ turnOf Head → turnOf q ≢ turnOf Tail → turnOf q ≢ turnOf Count → turnOf q ≢ turnOf Next → j < many S q → get S m′ q j ≡ get S m q j
   tail-is : get S m′ Tail b ≡ x
   tails : (l : ℕ) → l < lists S → l ≢ b → get S m′ Tail l ≡ get S m Tail l
@@ -103,6 +104,7 @@ module _ (S : Settings) (m : List ℕ) (b x : ℕ) (R : Roomy S) (P : Tidy S m) 
     unfolding grow
     grown g = record {
       long-is = simp length-put;
+      past = drop-put S Count b _ _ hb ∙ drop-put S Tail b x _ hb ∙ drop-put S r i x m (W .fits);
       settings-are =
           settings-put S _ Count b _ hb (C.differ Count Setting (omega arith))
           ∙ settings-put S _ Tail b x hb (C.differ Tail Setting (omega arith))
@@ -206,6 +208,10 @@ module _ (S : Settings) (m : List ℕ) (b x : ℕ) (R : Roomy S) (P : Tidy S m) 
 
   pub settings-push : settingsIn (pushMem S b x m) ≡ settingsIn m
   settings-push = push-grown .settings-are
+
+  -- bytes past the size stay
+  pub past-push : drop (size S) (pushMem S b x m) ≡ drop (size S) m
+  past-push = push-grown .past
 
   pub push-get : (r : Table) (j : ℕ) → turnOf r ≢ turnOf Head → turnOf r ≢ turnOf Tail → turnOf r ≢ turnOf Count → turnOf r ≢ turnOf Next → j < many S r
       → get S (pushMem S b x m) r j ≡ get S m r j

@@ -6,7 +6,7 @@ use mathlib.Core.Bool.{Bool, true, false, cond, not}
 use mathlib.Core.List.{List, [], _∷_}
 use Prim.Native.Nat.{ℕ, zero, suc, _+_, _-_, _*_, _%_, _≤_, _<_}
 use native.Mathlib.Omega.{arith}
-use lib.ListN.{length, getD}
+use lib.ListN.{length, getD, drop}
 use lib.Dec.{eqb}
 use Rattle.ledger.specs.Settings.{Settings, settings, inRows, ids, row, size}
 use Rattle.ledger.specs.Rules.{Rule, refuse, guard, Clear}
@@ -16,7 +16,9 @@ use Rattle.ledger.specs.Ready.{bit, readyWord, pick}
 use Rattle.ledger.specs.Calls.{Act, arrive, stitch, prefetch, credit, mapTo, turn, ready, whereIs, Reply, refused, done, idle, isEmpty, firstOf, arriving, arrived, served, serve, turned, rules, result, step}
 use Rattle.ledger.specs.Desk.{Desk, none, has, Call, setup, act, setupRules, onDesk, desk}
 use Rattle.ledger.specs.Sound.{weigh, one, Proper, Orderly, Roomy, Sound}
-use Rattle.ledger.proofs.Tests.{leb-no, ltb-no, eqb-is, eqb-not, or-left, not-yes}
+use Rattle.ledger.specs.Demand.{isRefused}
+use Rattle.ledger.proofs.Promises.{result-given}
+use Rattle.ledger.proofs.Tests.{true≢false, leb-no, ltb-no, eqb-is, eqb-not, or-left, not-yes}
 use Rattle.ledger.proofs.Places.{Place·In, place#-lt, row-mod, column-lt, Node, node-is, credit-none, credit-same}
 use Rattle.ledger.proofs.Header.{price-free}
 use Rattle.ledger.proofs.Keep.{some-queue, first-fits, first-node}
@@ -257,7 +259,7 @@ module _ (S : Settings) (ok : Roomy S) (m : List ℕ) (s : StateOf S m) where
     shows : ledgerIn S m′ ≡ L′
 
   same : Painted m L
-  same = record { kept = record { settings = refl; same-length = refl; tidy = tidy-of }; shows = refl }
+  same = record { kept = record { settings = refl; same-length = refl; past = refl; tidy = tidy-of }; shows = refl }
 
   turn-painted : (p w : ℕ) → p < S .ports
       → (eqb w 0 ≡ false → (pick (lastOf L p) w < S .queues) × (isEmpty (listAt S L (prefetched p (pick (lastOf L p) w))) ≡ false))
@@ -385,3 +387,35 @@ square (act a) m = go (state-dec m)
     go : (d : Dec (State m)) → pictured (tested m d a) ≡ desk (length m) (picture m) (act a)
     go (yes s) = acted-square m s a
     go (no n) = rw (picture-none m n)
+
+-- ---- what no call touches
+
+-- a refusal changes no byte
+pub refusal-keeps-bytes : (c : Call) (m : List ℕ) → isRefused (M c m .0) ≡ true → M c m .1 ≡ m
+unfolding M acted
+refusal-keeps-bytes (setup N b d k) m =
+    guarded {X = Reply × List ℕ} (λ out. isRefused (out .0) ≡ true → out .1 ≡ m) (setupRules (length m) (settings N b d k)) (λ r. (refused r, m))
+    (done, setupMem (settings N b d k) m) (λ r e. refl) (λ c e. absurd (true≢false (sym e)))
+refusal-keeps-bytes (act a) m = go (state-dec m)
+  where
+    go : (d : Dec (State m)) → isRefused (tested m d a .0) ≡ true → tested m d a .1 ≡ m
+    go (yes s) =
+        guarded {X = Reply × List ℕ} (λ out. isRefused (out .0) ≡ true → out .1 ≡ m) (rules (settingsIn m) (ledgerIn (settingsIn m) m) a) (λ n. (refused n, m))
+        (result (settingsIn m) (ledgerIn (settingsIn m) m) a .0, write (settingsIn m) m a) (λ n e. refl)
+        (λ c e. absurd (true≢false (sym e ∙ result-given (settingsIn m) (ledgerIn (settingsIn m) m) a)))
+    go (no n) = λ e. refl
+
+-- bytes from the size on are never changed, nor is the length
+pub past-kept : (a : Act) (m : List ℕ) → (drop (size (settingsIn m)) (M (act a) m .1) ≡ drop (size (settingsIn m)) m) × (length (M (act a) m .1) ≡ length m)
+unfolding M acted
+past-kept a m = go (state-dec m)
+  where
+    S : Settings
+    S = settingsIn m
+
+    go : (d : Dec (State m)) → (drop (size S) (tested m d a .1) ≡ drop (size S) m) × (length (tested m d a .1) ≡ length m)
+    go (yes s) =
+        guarded {X = Reply × List ℕ} (λ out. (drop (size S) (out .1) ≡ drop (size S) m) × (length (out .1) ≡ length m)) (rules S (ledgerIn S m) a) (λ n. (refused n, m))
+        (result S (ledgerIn S m) a .0, write S m a) (λ n. (refl, refl))
+        (λ c. let w = painted S (roomy S (s .sound .rows)) m s a c in (w .kept .past, w .kept .same-length))
+    go (no n) = (refl, refl)
