@@ -9,3 +9,4 @@ pub mod Picture
 pub mod Image
 pub mod Square
 pub mod Demands
+pub mod Past
