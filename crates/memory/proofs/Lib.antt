@@ -10,3 +10,4 @@ pub mod Image
 pub mod Square
 pub mod Demands
 pub mod Past
+pub mod Judged

@@ -3,3 +3,4 @@ pub mod Writes
 pub mod Image
 pub mod Memory
 pub mod Demands
+pub mod Judged

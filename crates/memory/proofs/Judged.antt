@@ -1,0 +1,49 @@
+-- From a judgement to the outcome of an act. Assumes nothing.
+use mathlib.Core.Path.{_≡_, refl, sym, ap, _∙_}
+use mathlib.Core.Bool.{true, false}
+use mathlib.Core.List.{List, [], _∷_}
+use Prim.Native.Nat.{ℕ}
+use native.Mathlib.Omega.{arith}
+use Rattle.ledger.specs.Settings.{Settings}
+use Rattle.ledger.specs.Rules.{Rule, refuse, guard, Clear}
+use Rattle.ledger.specs.Ledger.{Ledger}
+use Rattle.ledger.specs.Calls.{Act, Reply, refused, rules, result}
+use Rattle.ledger.proofs.Answers.{number-inj}
+use Rattle.ledger.proofs.Steps.{cleared}
+use Rattle.layout.specs.Picture.{ledgerIn}
+use Rattle.memory.specs.declared.Verdict.{Verdict}
+use Rattle.memory.specs.declared.Verdict.the-variants.{Go, No}
+use Rattle.memory.specs.Judged.{Judgement, good, bad, judgementOf, judged}
+use Rattle.memory.specs.Writes.{write}
+use Rattle.memory.specs.Memory.{acted}
+
+pub judgement-inj : (a b : Verdict) → judgementOf a ≡ judgementOf b → a ≡ b
+judgement-inj Go Go e = refl
+judgement-inj Go (No s) e = cc
+judgement-inj (No r) Go e = cc
+judgement-inj (No r) (No s) e = cc (number-inj r s (cc))
+
+clear-of : (rs : List Rule) → guard rs bad good ≡ good → Clear rs
+clear-of [] e = tt
+clear-of (refuse n true ∷ rs) e = absurd (let z : _≡_ {A = ℕ} 0 1 = cc in omega arith)
+clear-of (refuse n false ∷ rs) e = (refl, clear-of rs e)
+
+first-of : {X : Type 0} (rs : List Rule) (n : ℕ) (no′ : ℕ → X) (out : X) → guard rs bad good ≡ bad n → guard rs no′ out ≡ no′ n
+first-of [] n no′ out e = absurd (let z : _≡_ {A = ℕ} 0 1 = cc in omega arith)
+first-of (refuse k true ∷ rs) n no′ out e = ap no′ (let i : k ≡ n = cc in i)
+first-of (refuse k false ∷ rs) n no′ out e = first-of rs n no′ out e
+
+-- no rule applies
+pub judged-clear : (S : Settings) (L : Ledger) (a : Act) → judged S L a ≡ good → Clear (rules S L a)
+unfolding judged
+judged-clear S L a e = clear-of (rules S L a) e
+
+-- where none applies the act is done
+pub acted-good : (S : Settings) (m : List ℕ) (a : Act) → judged S (ledgerIn S m) a ≡ good → acted S m a ≡ (result S (ledgerIn S m) a .0, write S m a)
+unfolding acted
+acted-good S m a e = cleared (rules S (ledgerIn S m) a) (λ n. (refused n, m)) (result S (ledgerIn S m) a .0, write S m a) (judged-clear S (ledgerIn S m) a e)
+
+-- else it is refused, and no byte changes
+pub acted-bad : (S : Settings) (m : List ℕ) (a : Act) (n : ℕ) → judged S (ledgerIn S m) a ≡ bad n → acted S m a ≡ (refused n, m)
+unfolding acted judged
+acted-bad S m a n e = first-of (rules S (ledgerIn S m) a) n (λ k. (refused k, m)) (result S (ledgerIn S m) a .0, write S m a) e
