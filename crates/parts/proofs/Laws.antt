@@ -1,0 +1,64 @@
+-- Which elements the parts of a state are, and what they show. Assumes nothing.
+use mathlib.Core.Path.{_≡_, sym, ap, _∙_}
+use mathlib.Core.List.{List}
+use Prim.Native.Nat.{ℕ, suc, _-_, _<_}
+use native.Mathlib.Omega.{arith}
+use lib.ListN.{getD}
+use Rattle.ledger.specs.Settings.{Settings, ids}
+use Rattle.ledger.specs.Ledger.{cell, creditAt, lastOf, mapOf}
+use Rattle.ledger.proofs.Places.{cell-lt}
+use Rattle.layout.specs.declared.Shape.{Shape}
+use Rattle.layout.specs.declared.Table.{Table}
+use Rattle.layout.specs.declared.Table.the-variants.{Mapped, Last}
+use Rattle.layout.specs.Tables.{width, cells, all, many, get, put, settingsOf}
+use Rattle.layout.specs.Picture.{slot, tabulate, ledgerIn}
+use Rattle.layout.specs.Access.{Reads}
+use Rattle.memory.specs.Writes.{creditMem}
+use Rattle.memory.proofs.Chains.{getD-table, slot-lt}
+use Rattle.parts.specs.Parts.{InCredits, InRecords, InSlots}
+
+-- ---- credits: queue q's cell is that of q - 1, and queue 0 has none
+
+paid : (q : ℕ) → 0 < q → suc (q - 1) ≡ q
+paid q h = omega arith
+
+credit-paid : (S : Settings) (xs : List ℕ) (p q : ℕ) → 0 < q → creditAt S xs p q ≡ getD xs (cell S p (q - 1)) 0
+unfolding creditAt
+credit-paid S xs p q h = ap (creditAt S xs p) (sym (paid q h))
+
+pub put-free : (S : Settings) (t : Table) (p q v : ℕ) (m : List ℕ) → q ≡ 0 → creditMem S t p q v m ≡ m
+unfolding creditMem
+put-free S t p q v m e = rw e
+
+pub put-paid : (S : Settings) (t : Table) (p q v : ℕ) (m : List ℕ) → 0 < q → creditMem S t p q v m ≡ put S t (cell S p (q - 1)) v m
+unfolding creditMem
+put-paid S t p q v m h = ap (λ (n : ℕ). creditMem S t p n v m) (sym (paid q h))
+
+module _ {s : Shape} {t : Table} {p q : ℕ} {m : List ℕ} (h : InCredits s t p q m) (some : 0 < q) where
+  cell-in : cell (settingsOf s) p (q - 1) < cells (settingsOf s)
+  cell-in = cell-lt (settingsOf s) p (q - 1) (h .cell .port) (omega (arith, h .cell .queue))
+
+  pub cell-reads : {i : ℕ} → i ≡ cell (settingsOf s) p (q - 1) → Reads 2 s t i m
+  cell-reads e = record { laid = h .cell .laid; long = h .cell .long; wide = h .wide; inside = rw (e, h .each) cell-in }
+
+  pub credit-is : creditAt (settingsOf s) (tabulate (get (settingsOf s) m t) 0 (cells (settingsOf s))) p q ≡ get (settingsOf s) m t (cell (settingsOf s) p (q - 1))
+  credit-is = credit-paid _ _ p q some ∙ getD-table (get (settingsOf s) m t) (cells (settingsOf s)) _ 0 cell-in
+
+-- ---- marks and the map
+
+module _ (S : Settings) (m : List ℕ) where
+  pub last-is : (p : ℕ) → p < S .ports → lastOf (ledgerIn S m) p ≡ get S m Last p
+  unfolding ledgerIn
+  last-is p h = getD-table (get S m Last) (S .ports) p 0 h
+
+  pub mapped-is : (d : ℕ) → d < ids → mapOf (ledgerIn S m) d ≡ get S m Mapped d
+  unfolding ledgerIn
+  mapped-is d h = getD-table (get S m Mapped) ids d 0 h
+
+-- ---- records
+
+pub node-slot : {s : Shape} {x i : ℕ} {m : List ℕ} → InRecords s x m → i ≡ slot (settingsOf s) x → InSlots s i m
+node-slot h e = record { laid = h .laid; long = h .long; inside = rw e (slot-lt _ _ (h .node)) }
+
+pub slot-reads : {k i : ℕ} {s : Shape} {t : Table} {m : List ℕ} → width t ≡ k → many (settingsOf s) t ≡ all (settingsOf s) → InSlots s i m → Reads k s t i m
+slot-reads wide each h = record { laid = h .laid; long = h .long; wide = wide; inside = rw each (h .inside) }

@@ -1,0 +1,15 @@
+-- `parts::outward` meets its contract. Assumes nothing.
+use borrow.Author.Needs.{needs}
+use Rattle.layout.specs.Picture.{ledgerIn}
+use Rattle.parts.proofs.outward.Statement.{statement}
+use Rattle.parts.proofs.outward.Tie as tie
+
+credit-requires : tie.Need-credit-requires
+credit-requires c κs = search needs
+
+returns : tie.Need-returns
+unfolding ledgerIn
+returns c = c .credit .ensures
+
+pub outward-spec : {M : Type 1} → statement M
+outward-spec = tie.close (tie.spec credit-requires returns)

@@ -1,0 +1,15 @@
+-- `parts::price` meets its contract. Assumes nothing.
+use borrow.Author.Needs.{needs}
+use Rattle.layout.specs.Picture.{packetAt}
+use Rattle.parts.proofs.price.Statement.{statement}
+use Rattle.parts.proofs.price.Tie as tie
+
+field-requires : tie.Need-field-requires
+field-requires c κs = search needs
+
+returns : tie.Need-returns
+unfolding packetAt
+returns c = c .field .ensures
+
+pub price-spec : {M : Type 1} → statement M
+price-spec = tie.close (tie.spec field-requires returns)

@@ -1,0 +1,19 @@
+-- `parts::record_rest` meets its contract. Assumes nothing.
+use borrow.Author.Needs.{needs}
+use Rattle.parts.proofs.record_rest.Statement.{statement}
+use Rattle.parts.proofs.record_rest.Tie as tie
+
+put1-requires : tie.Need-put1-requires
+put1-requires c κs = search needs
+
+put1-requires-2 : tie.Need-put1-requires-2
+put1-requires-2 c κs = search needs
+
+same-length : tie.Need-same-length
+same-length c = search needs
+
+returns : tie.Need-returns
+returns c = cc
+
+pub record-rest-spec : {M : Type 1} → statement M
+record-rest-spec = tie.close (tie.spec put1-requires put1-requires-2 same-length returns)

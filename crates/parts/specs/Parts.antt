@@ -1,0 +1,61 @@
+-- What reading and writing the parts of a state that are no lists asks. Assumes nothing.
+use mathlib.Core.Path.{_≡_}
+use mathlib.Core.Bool.{true}
+use mathlib.Core.List.{List}
+use Prim.Native.Nat.{ℕ, _≤_, _<_}
+use lib.ListN.{length}
+use Rattle.ledger.specs.Settings.{size, ids}
+use Rattle.ledger.specs.Ledger.{isNode}
+use Rattle.layout.specs.declared.Shape.{Shape}
+use Rattle.layout.specs.declared.Table.{Table}
+use Rattle.layout.specs.Tables.{width, cells, all, many, settingsOf, Laid}
+
+-- the credit of port p and queue q, in the memory m of a state of shape s
+pub record InCell (s : Shape) (p q : ℕ) (m : List ℕ) : Type 0 where
+  pub laid : Laid s
+  pub long : size (settingsOf s) ≤ length m
+  pub port : p < s .ports
+  pub queue : q < s .queues
+
+-- and in table t of credits
+pub record InCredits (s : Shape) (t : Table) (p q : ℕ) (m : List ℕ) : Type 0 where
+  pub cell : InCell s p q m
+  pub wide : width t ≡ 2
+  pub each : many (settingsOf s) t ≡ cells (settingsOf s)
+
+-- a port and a queue that has credit
+pub record HasCell (s : Shape) (p q : ℕ) : Type 0 where
+  pub laid : Laid s
+  pub port : p < s .ports
+  pub queue : q < s .queues
+  pub paid : 0 < q
+
+-- the mark of port p
+pub record InMarks (s : Shape) (p : ℕ) (m : List ℕ) : Type 0 where
+  pub laid : Laid s
+  pub long : size (settingsOf s) ≤ length m
+  pub port : p < s .ports
+
+-- the map's entry for destination id d
+pub record InMap (s : Shape) (d : ℕ) (m : List ℕ) : Type 0 where
+  pub laid : Laid s
+  pub long : size (settingsOf s) ≤ length m
+  pub id : d < ids
+
+-- the record of node x
+pub record InRecords (s : Shape) (x : ℕ) (m : List ℕ) : Type 0 where
+  pub laid : Laid s
+  pub long : size (settingsOf s) ≤ length m
+  pub node : isNode (settingsOf s) x ≡ true
+
+-- and in a table t of bytes for each node
+pub record InBytes (s : Shape) (t : Table) (x : ℕ) (m : List ℕ) : Type 0 where
+  pub record-of : InRecords s x m
+  pub wide : width t ≡ 1
+  pub each : many (settingsOf s) t ≡ all (settingsOf s)
+
+-- element i of the tables of nodes
+pub record InSlots (s : Shape) (i : ℕ) (m : List ℕ) : Type 0 where
+  pub laid : Laid s
+  pub long : size (settingsOf s) ≤ length m
+  pub inside : i < all (settingsOf s)
