@@ -43,6 +43,17 @@ counted-some S m l h e = go (get S m Count l) refl
     go zero i = absurd (true≢false (sym (ap isEmpty (list-empty S m l h i)) ∙ e))
     go (suc n) i = omega arith
 
+-- a list is empty exactly where its count is 0
+pub empty-is : (S : Settings) (m : List ℕ) (l : ℕ) → l < lists S → get S m Count l ≡ 0 → isEmpty (getD (ledgerIn S m .lists) l []) ≡ true
+empty-is S m l h e = ap isEmpty (list-empty S m l h e)
+
+pub some-is : (S : Settings) (m : List ℕ) (l : ℕ) → l < lists S → (get S m Count l ≡ 0 → ⊥) → isEmpty (getD (ledgerIn S m .lists) l []) ≡ false
+some-is S m l h n = go (getD (ledgerIn S m .lists) l []) (list-length S m l h)
+  where
+    go : (ks : List Packet) → length ks ≡ get S m Count l → isEmpty ks ≡ false
+    go [] e = absurd (n (sym e))
+    go (k ∷ ks) e = refl
+
 module _ (S : Settings) (ok : Roomy S) (m : List ℕ) (t : Tidy S m) where
   -- taking off
   module _ (a : ℕ) (ha : a < lists S) (some : isEmpty (getD (ledgerIn S m .lists) a []) ≡ false) where
