@@ -1,16 +1,17 @@
--- What the judge and the act of prefetch come to, with no code. Assumes nothing.
+-- What the judges and the acts of prefetch and stitch come to, with no code. Assumes nothing.
 use mathlib.Core.Path.{_≡_, refl, sym, ap, _∙_, subst}
 use mathlib.Core.Bool.{true, false}
 use mathlib.Core.List.{List, [], _∷_}
 use Prim.Native.Nat.{ℕ, suc, _≤_, _<_}
 use native.Mathlib.Omega.{arith}
 use lib.ListN.{length, getD}
-use Rattle.ledger.specs.Settings.{Settings}
-use Rattle.ledger.specs.Ledger.{Packet, Place, egress, prefetched, place#, Ledger, listAt}
-use Rattle.ledger.specs.Calls.{Act, Reply, entry, prefetch, isEmpty, firstOf, rules, result}
+use Rattle.ledger.specs.Settings.{Settings, ids}
+use Rattle.ledger.specs.Ledger.{isNode, Packet, Place, ingress, egress, prefetched, place#, Ledger, listAt, mapOf}
+use Rattle.ledger.specs.Calls.{Act, Reply, entry, stitched, stitch, prefetch, stitchRecord, isEmpty, firstOf, rules, result}
 use Rattle.ledger.specs.Sound.{Roomy}
 use Rattle.ledger.proofs.Tests.{leb-is, leb-not, leb-no}
 use Rattle.ledger.proofs.Places.{Place·In, place#-lt}
+use Rattle.ledger.proofs.Keep.{Fits, first-fits}
 use Rattle.ledger.proofs.Rows.{roomy}
 use Rattle.layout.specs.declared.Table.the-variants.{Head, Count}
 use Rattle.layout.specs.Tables.{lists, get}
@@ -19,7 +20,7 @@ use Rattle.memory.specs.Ends.{popMem, pushMem}
 use Rattle.memory.specs.Writes.{moveMem, headOf, write}
 use Rattle.memory.specs.Judged.{good, bad, judged}
 use Rattle.memory.specs.Memory.{acted}
-use Rattle.memory.proofs.Chains.{list-length}
+use Rattle.memory.proofs.Chains.{list-length, head-is-node, state-tidy}
 use Rattle.memory.proofs.Paint.{empty-is, some-is, counted-some}
 use Rattle.memory.proofs.Square.{first-held}
 use Rattle.memory.proofs.Judged.{judged-clear, acted-good}
@@ -80,4 +81,56 @@ gone-on S m s p q e =
       outcome = acted-good S m (prefetch p q) (sym e)
           ∙ ap (λ (k : Packet). (entry (k .node), moveMem S (egress p q) (prefetched p q) m)) first
           ∙ (unfold packetAt in refl);
+    }
+
+-- ---- stitch
+
+module _ (S : Settings) (m : List ℕ) (p : ℕ) where
+  pub stitch-no-port : S .ports ≤ p → bad 4 ≡ judged S (ledgerIn S m) (stitch p)
+  unfolding judged
+  stitch-no-port h = rw (leb-is (S .ports) p h)
+
+  module _ (ok : Roomy S) (hp : p < S .ports) where
+    pub ingress-in : place# S (ingress p) < lists S
+    ingress-in = place#-lt S (ingress p) (hp, omega (arith, ok .some-queues))
+
+    pub stitch-nothing : get S m Count (place# S (ingress p)) ≡ 0 → bad 12 ≡ judged S (ledgerIn S m) (stitch p)
+    unfolding judged
+    stitch-nothing e = rw (leb-not (S .ports) p hp, empty-is S m (place# S (ingress p)) ingress-in e)
+
+    pub stitch-goes : (get S m Count (place# S (ingress p)) ≡ 0 → ⊥) → good ≡ judged S (ledgerIn S m) (stitch p)
+    unfolding judged
+    stitch-goes n = rw (leb-not (S .ports) p hp, some-is S m (place# S (ingress p)) ingress-in n)
+
+-- what is known once the judge let a stitch go: k is the packet, to the port that the map names
+pub record Stitches (S : Settings) (m : List ℕ) (p : ℕ) (k : Packet) (to : ℕ) : Type 0 where
+  pub port : p < S .ports
+  pub some : 0 < get S m Count (place# S (ingress p))
+  pub node : isNode S (get S m Head (place# S (ingress p))) ≡ true
+  pub dest-in : k .dest < ids
+  pub to-in : to < S .ports
+  pub queue-in : k .queue < S .queues
+  pub outcome : acted S m (stitch p)
+      ≡ (stitched (stitchRecord k to), pushMem S (place# S (egress to (k .queue))) (get S m Head (place# S (ingress p))) (popMem S (place# S (ingress p)) m))
+
+pub stitched-on : (S : Settings) (m : List ℕ) → StateOf S m → (p : ℕ) → good ≡ judged S (ledgerIn S m) (stitch p)
+    → (k : Packet) → k ≡ packetAt S m (get S m Head (place# S (ingress p))) → (to : ℕ) → to ≡ mapOf (ledgerIn S m) (k .dest) → Stitches S m p k to
+unfolding moveMem
+stitched-on S m s p e k ik to it =
+    let c = judged-clear S (ledgerIn S m) (stitch p) (sym e) in
+    let ok = roomy S (s .sound .rows) in
+    let hp : p < S .ports = leb-no (S .ports) p (c .0) in
+    let v-in : Place·In S (ingress p) = (hp, omega (arith, ok .some-queues)) in
+    let first = first-held S ok m s (ingress p) v-in (omega arith) (c .1 .0) in
+    let fk : firstOf S (ledgerIn S m) (ingress p) ≡ k = first ∙ sym ik in
+    let f = subst (λ (j : Packet). Fits S (ingress p) j) fk (first-fits S ok (ledgerIn S m) (s .sound .orderly) (ingress p) v-in (c .1 .0)) in
+    let some = counted-some S m (place# S (ingress p)) (place#-lt S (ingress p) v-in) (c .1 .0) in
+    record {
+      port = hp;
+      some = some;
+      node = head-is-node S m (state-tidy S m s) (place# S (ingress p)) (place#-lt S (ingress p) v-in) some;
+      dest-in = f .2 .dest-in;
+      to-in = rw it (s .sound .orderly .ranges .map-in (k .dest) (f .2 .dest-in));
+      queue-in = f .2 .queue-in;
+      outcome = acted-good S m (stitch p) (sym e) ∙ rw (fk, ← ik, ← it);
     }

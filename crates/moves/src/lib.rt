@@ -15,6 +15,14 @@ ghost use Rattle.layout.specs.Tables.{settingsOf};
 ghost use Rattle.layout.specs.Picture.{ledgerIn};
 ghost use Rattle.memory.specs.Judged.{Works, judgementOf, judged};
 ghost use Rattle.memory.specs.Memory.{acted};
+ghost use Rattle.moves.specs.Stitched.{recordIn};
+
+// Stitch's answer, with its ten-byte record beside it: entry id (2), length (2), queue, mapped port, timestamp (4), big-endian; ten zero
+// bytes where the answer is a refusal.
+pub struct Stitched {
+    pub answer: Plain,
+    pub record: [u8; 10],
+}
 
 // The first refusal of a prefetch that applies.
 pub fn judge_prefetch(m: &[u8], s: Shape, port: u32, queue: u32) -> Verdict
@@ -58,6 +66,71 @@ pub fn prefetch(m: &mut [u8], s: Shape, port: u32, queue: u32) -> Entry
             let to = lists::prefetch_list(s, p, q);
             let x = lists::shift(m, s, from, to);
             Entry::Node(EntryId(x))
+        }
+    }
+}
+
+// The first refusal of a stitch that applies.
+pub fn judge_stitch(m: &[u8], s: Shape, port: u32) -> Verdict
+    requires { ⌜ Works s (now m) ⌝ }
+    ensures { λ r. ⌜ judgementOf r ≡ judged (settingsOf s) (ledgerIn (settingsOf s) (now (m .entry))) (stitch port) ⌝ }
+{
+    let p = port as usize;
+    let ports = s.ports;
+    if ports <= p {
+        return Verdict::No(Refusal::NoPort);
+    }
+    let waiting = lists::count(m, s, lists::ingress_list(s, p));
+    if waiting == 0 {
+        return Verdict::No(Refusal::NothingThere);
+    }
+    Verdict::Go
+}
+
+// The record of packet k, stitched to a port.
+fn record_of(k: Sent, to: u8) -> [u8; 10]
+    ensures { λ r. ⌜ r ≡ stitchRecord (sentOf k) to ⌝ }
+{
+    let id = k.entry;
+    let x = id.0;
+    let n = k.length;
+    let t = k.timestamp;
+    [
+        (x / 256) as u8,
+        (x % 256) as u8,
+        (n / 256) as u8,
+        (n % 256) as u8,
+        k.queue,
+        to,
+        (t / 16777216) as u8,
+        (t / 65536 % 256) as u8,
+        (t / 256 % 256) as u8,
+        (t % 256) as u8,
+    ]
+}
+
+// The oldest ingress node to the egress list of the port that the map names now.
+pub fn stitch(m: &mut [u8], s: Shape, port: u32) -> Stitched
+    requires { ⌜ Works s (now m) ⌝ }
+    ensures { λ r. ⌜ _≡_ {A = Reply × List ℕ} (stitchReply (r .answer) (r .record), now (m .exit)) (acted (settingsOf s) (now (m .entry)) (stitch port)) ⌝ }
+    ensures { λ r. ⌜ r .record ≡ recordIn (acted (settingsOf s) (now (m .entry)) (stitch port) .0) ⌝ }
+{
+    let verdict = judge_stitch(m, s, port);
+    match verdict {
+        Verdict::No(r) => Stitched {
+            answer: Plain::No(r),
+            record: [0u8; 10],
+        },
+        Verdict::Go => {
+            let from = lists::ingress_list(s, port as usize);
+            let k = parts::packet(m, s, lists::first(m, s, from));
+            let to = parts::mapped(m, s, k.destination as usize);
+            let at = lists::egress_list(s, to as usize, k.queue as usize);
+            lists::shift(m, s, from, at);
+            Stitched {
+                answer: Plain::Done,
+                record: record_of(k, to),
+            }
         }
     }
 }

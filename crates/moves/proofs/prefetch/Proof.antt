@@ -82,8 +82,8 @@ returns-2 c =
     let to = c .before .before .before .before .prefetch-list .ensures in
     let node : c .before .before .shift .result ≡ get S m Head (place# S (egress (a .port) (a .queue))) = sh .first ∙ ap (get S m Head) from in
     let memory : c .before .before .shift .last .0
-        ≡ pushMem S (place# S (prefetched (a .port) (a .queue))) (get S m Head (place# S (egress (a .port) (a .queue)))) (popMem S (place# S (egress (a .port) (a .queue))) m) =
-        sh .memory ∙ rw (from, to) in
+    ≡ pushMem S (place# S (prefetched (a .port) (a .queue))) (get S m Head (place# S (egress (a .port) (a .queue)))) (popMem S (place# S (egress (a .port) (a .queue))) m) =
+    sh .memory ∙ rw (from, to) in
     rw (node, memory) (sym (w .outcome))
 
 pub prefetch-spec : {M : Type 1} → statement M

@@ -1,0 +1,82 @@
+//! The bench program on the model: tagged fields in, lines out.
+
+use crate::{Call, Model, Reply, Settings};
+
+/// The bench program's memory, all zero at first.
+pub const MEMORY: usize = 65_536;
+
+/// The whole run: the lines for the fields of `input`. A bad field gets its
+/// line and ends the run.
+pub fn bench(input: &[u8]) -> Vec<u8> {
+    let mut model = Model::new(MEMORY);
+    let mut lines = String::new();
+    let mut rest = input;
+    let mut number = 0u64;
+    while !rest.is_empty() {
+        number += 1;
+        let Some((call, after)) = read_field(rest) else {
+            lines += &format!("{number} bad\n");
+            break;
+        };
+        rest = after;
+        lines += &format!("{number} {}\n", words(&model.call(&call)));
+    }
+    lines.into_bytes()
+}
+
+/// One field, and the bytes after it; none if it is bad: another tag, a wrong
+/// length or a cut field.
+fn read_field(bytes: &[u8]) -> Option<(Call, &[u8])> {
+    let (&[tag, high, low], rest) = bytes.split_first_chunk()?;
+    let length = u16::from_be_bytes([high, low]) as usize;
+    let (value, after) = rest.split_at_checked(length)?;
+    Some((read_call(tag, value)?, after))
+}
+
+/// The call in a field; none for another tag or a wrong length.
+fn read_call(tag: u8, value: &[u8]) -> Option<Call> {
+    let two = |high: u8, low: u8| u32::from(u16::from_be_bytes([high, low]));
+    let call = match (tag, value) {
+        (1, &[n1, n0, b1, b0, slots, k1, k0]) => Call::Setup(Settings {
+            nodes: two(n1, n0),
+            beat: two(b1, b0),
+            slots: slots.into(),
+            credit: two(k1, k0),
+        }),
+        (2, &[port, ref header @ ..]) if header.len() == 10 => Call::Arrive {
+            port: port.into(),
+            header: header.to_vec(),
+        },
+        (3, &[port]) => Call::Stitch { port: port.into() },
+        (4, &[port, queue]) => Call::Prefetch {
+            port: port.into(),
+            queue: queue.into(),
+        },
+        (5, &[port]) => Call::Turn { port: port.into() },
+        (6, &[port, queue, n1, n0]) => Call::Credit {
+            port: port.into(),
+            queue: queue.into(),
+            amount: two(n1, n0),
+        },
+        (7, &[id, port]) => Call::Map {
+            id: id.into(),
+            port: port.into(),
+        },
+        _ => return None,
+    };
+    Some(call)
+}
+
+/// What stands in a line after its number.
+fn words(reply: &Reply) -> String {
+    match reply {
+        Reply::Refused(number) => number.to_string(),
+        Reply::Done => "0".to_string(),
+        Reply::Entry(entry) => format!("0 {entry}"),
+        // The record begins with the entry id.
+        Reply::Stitched(record) => format!("0 {}", u16::from_be_bytes([record[0], record[1]])),
+        Reply::Idle => "0 idle".to_string(),
+        Reply::Leaves(packet, _) => format!("0 {}", packet.entry),
+        Reply::Word(..) | Reply::Found(..) => unreachable!("no tag asks for ready or where"),
+    }
+}

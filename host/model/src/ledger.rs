@@ -1,0 +1,316 @@
+//! The ledger, and every call on it but setup. Each call tests all of its
+//! refusals, in the paper's order, before it changes anything.
+
+use std::collections::VecDeque;
+
+use crate::header;
+use crate::{
+    price, Choice, ListKind, Packet, Reply, Settings, Side, DESTINATIONS, ENTRIES_PER_PORT,
+    MOST_CREDIT, PORTS, QUEUES, SHORTEST,
+};
+
+/// What the ledger holds for one port. Lists run from the oldest (front) to
+/// the newest (back) and hold entry ids.
+#[derive(Debug, Clone, PartialEq, Eq)]
+pub struct Port {
+    pub free: VecDeque<u16>,
+    pub ingress: VecDeque<u16>,
+    pub egress: [VecDeque<u16>; QUEUES as usize],
+    pub prefetch: [VecDeque<u16>; QUEUES as usize],
+    /// Cell 0 is no part of the ledger and stays 0: queue 0 has no credit.
+    pub arrival_credit: [u32; QUEUES as usize],
+    /// Cell 0 as above.
+    pub outward_credit: [u32; QUEUES as usize],
+    pub last_served: u32,
+    /// By node index; none exactly while the node is free.
+    pub packets: Vec<Option<Packet>>,
+}
+
+/// The whole ledger.
+#[derive(Debug, Clone, PartialEq, Eq)]
+pub struct Ledger {
+    pub settings: Settings,
+    pub ports: [Port; PORTS as usize],
+    /// From destination id to port.
+    pub map: [u32; DESTINATIONS as usize],
+}
+
+/// The entry id of a port's node.
+pub fn entry_id(port: u32, index: u32) -> u16 {
+    (port * ENTRIES_PER_PORT + index) as u16
+}
+
+/// The port that owns an entry id's node.
+pub fn owner(entry: u16) -> usize {
+    entry as usize / ENTRIES_PER_PORT as usize
+}
+
+/// The node's index at its owner.
+pub fn index(entry: u16) -> usize {
+    entry as usize % ENTRIES_PER_PORT as usize
+}
+
+impl Port {
+    fn starting(port: u32, settings: &Settings) -> Port {
+        let mut arrival_credit = [settings.credit; QUEUES as usize];
+        arrival_credit[0] = 0;
+        Port {
+            free: (0..settings.nodes).map(|i| entry_id(port, i)).collect(),
+            ingress: VecDeque::new(),
+            egress: Default::default(),
+            prefetch: Default::default(),
+            arrival_credit,
+            outward_credit: [0; QUEUES as usize],
+            last_served: QUEUES - 1,
+            packets: vec![None; settings.nodes as usize],
+        }
+    }
+}
+
+fn port_in_range(port: u32) -> Result<usize, u8> {
+    if port < PORTS {
+        Ok(port as usize)
+    } else {
+        Err(4)
+    }
+}
+
+impl Ledger {
+    /// The ledger that setup writes.
+    pub fn starting(settings: Settings) -> Ledger {
+        Ledger {
+            settings,
+            ports: std::array::from_fn(|port| Port::starting(port as u32, &settings)),
+            map: [0; DESTINATIONS as usize],
+        }
+    }
+
+    /// What is recorded for a node; none if it is free or no node.
+    pub fn packet(&self, entry: u16) -> Option<&Packet> {
+        self.ports
+            .get(owner(entry))?
+            .packets
+            .get(index(entry))?
+            .as_ref()
+    }
+
+    /// The record of a node that stands in a list other than a free list.
+    fn recorded(&self, entry: u16) -> &Packet {
+        self.packet(entry)
+            .expect("a node outside the free lists has a record")
+    }
+
+    pub(crate) fn arrive(&mut self, port: u32, bytes: &[u8]) -> Result<Reply, u8> {
+        let p = port_in_range(port)?;
+        let bytes: &[u8; 10] = bytes.try_into().map_err(|_| 6)?;
+        let header = header::read(bytes);
+        if !header.checksum_fits {
+            return Err(7);
+        }
+        if u32::from(header.source) != port {
+            return Err(8);
+        }
+        if u32::from(header.length) < SHORTEST {
+            return Err(9);
+        }
+        let queue = header.queue as usize;
+        let price = price(
+            header.length.into(),
+            header.queue.into(),
+            self.settings.beat,
+        );
+        let at = &mut self.ports[p];
+        // Queue 0 costs nothing, so its cell, always 0, covers it.
+        if price > at.arrival_credit[queue] {
+            return Err(10);
+        }
+        let entry = at.free.pop_front().ok_or(11)?;
+        at.packets[index(entry)] = Some(Packet {
+            entry,
+            length: header.length,
+            queue: header.queue,
+            destination: header.destination,
+            timestamp: header.timestamp,
+            poisoned: header.poisoned,
+            transaction: header.transaction,
+            price,
+        });
+        at.arrival_credit[queue] -= price;
+        at.ingress.push_back(entry);
+        Ok(Reply::Entry(entry))
+    }
+
+    pub(crate) fn stitch(&mut self, port: u32) -> Result<Reply, u8> {
+        let p = port_in_range(port)?;
+        let entry = self.ports[p].ingress.pop_front().ok_or(12)?;
+        let packet = *self.recorded(entry);
+        // The map is read now, not on arrival.
+        let mapped = self.map[packet.destination as usize];
+        self.ports[mapped as usize].egress[packet.queue as usize].push_back(entry);
+
+        let mut record = [0; 10];
+        record[0..2].copy_from_slice(&entry.to_be_bytes());
+        record[2..4].copy_from_slice(&packet.length.to_be_bytes());
+        record[4] = packet.queue;
+        record[5] = mapped as u8;
+        record[6..10].copy_from_slice(&packet.timestamp.to_be_bytes());
+        Ok(Reply::Stitched(record))
+    }
+
+    pub(crate) fn prefetch(&mut self, port: u32, queue: u32) -> Result<Reply, u8> {
+        let p = port_in_range(port)?;
+        if queue >= QUEUES {
+            return Err(5);
+        }
+        let q = queue as usize;
+        let slots = self.settings.slots as usize;
+        let at = &mut self.ports[p];
+        if at.egress[q].is_empty() {
+            return Err(12);
+        }
+        if at.prefetch[q].len() >= slots {
+            return Err(13);
+        }
+        let entry = at.egress[q].pop_front().ok_or(12)?;
+        at.prefetch[q].push_back(entry);
+        Ok(Reply::Entry(entry))
+    }
+
+    pub(crate) fn credit(&mut self, port: u32, queue: u32, amount: u32) -> Result<Reply, u8> {
+        let p = port_in_range(port)?;
+        if queue == 0 || queue >= QUEUES {
+            return Err(5);
+        }
+        let held = &mut self.ports[p].outward_credit[queue as usize];
+        // Wide, so that the sum of an amount beyond its range can't wrap.
+        let sum = u64::from(*held) + u64::from(amount);
+        if sum > u64::from(MOST_CREDIT) {
+            return Err(14);
+        }
+        *held = sum as u32;
+        Ok(Reply::Done)
+    }
+
+    pub(crate) fn map(&mut self, id: u32, port: u32) -> Result<Reply, u8> {
+        // The one call that doesn't test in table order: 15 before 4.
+        if id >= DESTINATIONS {
+            return Err(15);
+        }
+        port_in_range(port)?;
+        self.map[id as usize] = port;
+        Ok(Reply::Done)
+    }
+
+    pub(crate) fn turn(&mut self, port: u32, choice: Choice) -> Result<Reply, u8> {
+        let p = port_in_range(port)?;
+        let chosen = match choice {
+            Choice::WholeWord => pick(self.ready_word(p), self.ports[p].last_served),
+            Choice::EarlyOut => self.first_ready(p),
+        };
+        let Some(queue) = chosen else {
+            return Ok(Reply::Idle);
+        };
+        let q = queue as usize;
+        let leaving = self.ports[p].prefetch[q]
+            .pop_front()
+            .expect("a ready queue has a packet");
+        // Both the record and the node belong to the owner, not to the port
+        // that the packet leaves by.
+        let owner = &mut self.ports[owner(leaving)];
+        let packet = owner.packets[index(leaving)]
+            .take()
+            .expect("a node outside the free lists has a record");
+        owner.arrival_credit[q] += packet.price;
+        owner.free.push_back(leaving);
+        let at = &mut self.ports[p];
+        at.outward_credit[q] -= packet.price;
+        at.last_served = queue;
+        let side = if queue == 0 {
+            Side::Inside
+        } else {
+            Side::Outside
+        };
+        Ok(Reply::Leaves(packet, side))
+    }
+
+    pub(crate) fn ready(&self, port: u32) -> Result<Reply, u8> {
+        let word = self.ready_word(port_in_range(port)?);
+        Ok(Reply::Word(word, word.count_ones()))
+    }
+
+    pub(crate) fn find(&self, entry: u32) -> Result<Reply, u8> {
+        let port = entry / ENTRIES_PER_PORT;
+        let index = entry % ENTRIES_PER_PORT;
+        if port >= PORTS || index >= self.settings.nodes {
+            return Err(15);
+        }
+        let (kind, position) = self
+            .place(entry_id(port, index))
+            .expect("every node stands in one list");
+        Ok(Reply::Found(kind, position))
+    }
+
+    /// Is this queue of the port ready for a turn?
+    fn is_ready(&self, p: usize, q: usize) -> bool {
+        match self.ports[p].prefetch[q].front() {
+            None => false,
+            Some(&oldest) => {
+                q == 0 || self.recorded(oldest).price <= self.ports[p].outward_credit[q]
+            }
+        }
+    }
+
+    /// The ready word: bit q for queue q.
+    fn ready_word(&self, p: usize) -> u64 {
+        (0..QUEUES as usize)
+            .filter(|&q| self.is_ready(p, q))
+            .fold(0, |word, q| word | 1 << q)
+    }
+
+    /// The early-out scan: the queues after the last served, then the others
+    /// from 0 up to the last served itself.
+    fn first_ready(&self, p: usize) -> Option<u32> {
+        let last = self.ports[p].last_served;
+        (last + 1..QUEUES)
+            .chain(0..=last)
+            .find(|&queue| self.is_ready(p, queue as usize))
+    }
+
+    /// Search every list for a node.
+    fn place(&self, entry: u16) -> Option<(ListKind, u32)> {
+        self.lists().find_map(|(kind, list)| {
+            let position = list.iter().position(|&other| other == entry)?;
+            Some((kind, position as u32))
+        })
+    }
+
+    /// Every list of the ledger with its kind.
+    pub fn lists(&self) -> impl Iterator<Item = (ListKind, &VecDeque<u16>)> {
+        (0..).zip(&self.ports).flat_map(|(port, at)| {
+            let own = [
+                (ListKind::Free { port }, &at.free),
+                (ListKind::Ingress { port }, &at.ingress),
+            ];
+            let egress = (0..)
+                .zip(&at.egress)
+                .map(move |(queue, list)| (ListKind::Egress { port, queue }, list));
+            let prefetch = (0..)
+                .zip(&at.prefetch)
+                .map(move |(queue, list)| (ListKind::Prefetch { port, queue }, list));
+            own.into_iter().chain(egress).chain(prefetch)
+        })
+    }
+}
+
+/// The lowest set bit above the last served queue or, if there is none, the
+/// lowest set bit of all.
+pub(crate) fn pick(word: u64, last_served: u32) -> Option<u32> {
+    let above = word >> (last_served + 1) << (last_served + 1);
+    if above != 0 {
+        Some(above.trailing_zeros())
+    } else if word != 0 {
+        Some(word.trailing_zeros())
+    } else {
+        None
+    }
+}

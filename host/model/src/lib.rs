@@ -1,0 +1,232 @@
+//! An independent model of the queue manager, written from paper 01 alone.
+//!
+//! The model keeps plain lists and numbers; it has no memory image. The
+//! caller's memory is only a length here, so that setup can refuse a short one.
+
+#![forbid(unsafe_code)]
+
+pub mod bench;
+mod check;
+pub mod checksum;
+pub mod header;
+pub mod ledger;
+#[cfg(test)]
+mod tests;
+
+pub use ledger::{Ledger, Port};
+
+/// Ports 0 to 3.
+pub const PORTS: u32 = 4;
+/// Queues 0 to 23 of each port.
+pub const QUEUES: u32 = 24;
+/// Destination ids 0 to 3.
+pub const DESTINATIONS: u32 = 4;
+/// The step between the entry ids of two ports.
+pub const ENTRIES_PER_PORT: u32 = 2048;
+/// The most that a credit can hold.
+pub const MOST_CREDIT: u32 = 65_535;
+/// Header and footer, without data: the shortest packet.
+pub const SHORTEST: u32 = 12;
+/// The most that 13 bits of length can say.
+pub const LONGEST: u32 = 8191;
+
+/// The settings, fixed at setup.
+#[derive(Debug, Clone, Copy, PartialEq, Eq)]
+pub struct Settings {
+    /// N, nodes per port.
+    pub nodes: u32,
+    /// Beat in bytes.
+    pub beat: u32,
+    /// D, prefetch slots per queue.
+    pub slots: u32,
+    /// K, arrival credit per port and queue, in beats.
+    pub credit: u32,
+}
+
+impl Settings {
+    /// Is every setting in its row of the paper's table?
+    pub fn in_their_rows(&self) -> bool {
+        (1..=256).contains(&self.nodes)
+            && [64, 128, 256, 512].contains(&self.beat)
+            && (1..=8).contains(&self.slots)
+            && self.credit <= MOST_CREDIT
+    }
+}
+
+/// The calls. Numbers are wide, so that a caller can hand in any number.
+#[derive(Debug, Clone, PartialEq, Eq)]
+pub enum Call {
+    Setup(Settings),
+    Arrive { port: u32, header: Vec<u8> },
+    Stitch { port: u32 },
+    Prefetch { port: u32, queue: u32 },
+    Credit { port: u32, queue: u32, amount: u32 },
+    Map { id: u32, port: u32 },
+    Turn { port: u32 },
+    Ready { port: u32 },
+    Where { entry: u32 },
+}
+
+/// The answers.
+#[derive(Debug, Clone, Copy, PartialEq, Eq)]
+pub enum Reply {
+    /// The refusal's number in the paper's table.
+    Refused(u8),
+    /// Setup, credit and map: accepted, no value.
+    Done,
+    /// Arrive and prefetch: the entry id.
+    Entry(u16),
+    /// Stitch: the ten-byte record.
+    Stitched([u8; 10]),
+    /// Turn, with nothing ready.
+    Idle,
+    /// Turn: the packet that leaves, and to which side.
+    Leaves(Packet, Side),
+    /// Ready: the ready word and the ready count.
+    Word(u64, u32),
+    /// Where: the node's list and the position in it, from 0.
+    Found(ListKind, u32),
+}
+
+/// Everything recorded for a node that isn't free, with its entry id.
+#[derive(Debug, Clone, Copy, PartialEq, Eq)]
+pub struct Packet {
+    pub entry: u16,
+    pub length: u16,
+    pub queue: u8,
+    pub destination: u8,
+    pub timestamp: u32,
+    pub poisoned: bool,
+    pub transaction: u8,
+    pub price: u32,
+}
+
+/// Where a packet goes when it leaves: inside for queue 0, else outside.
+#[derive(Debug, Clone, Copy, PartialEq, Eq)]
+pub enum Side {
+    Inside,
+    Outside,
+}
+
+/// The four kinds of list, with the port and, for the last two, the queue.
+#[derive(Debug, Clone, Copy, PartialEq, Eq)]
+pub enum ListKind {
+    Free { port: u32 },
+    Ingress { port: u32 },
+    Egress { port: u32, queue: u32 },
+    Prefetch { port: u32, queue: u32 },
+}
+
+/// How a turn finds its queue. Both ways answer the same.
+#[derive(Debug, Clone, Copy, PartialEq, Eq, Default)]
+pub enum Choice {
+    /// Compute the whole ready word, then pick from the word.
+    #[default]
+    WholeWord,
+    /// Look at the queues one by one from the one after the last served, and
+    /// stop at the first ready one.
+    EarlyOut,
+}
+
+/// The bytes of lent memory that a state for `nodes` nodes per port needs.
+pub fn size(nodes: u32) -> usize {
+    1988 + 52 * nodes as usize
+}
+
+/// The price of a packet in beats. `length` is at least 12.
+pub fn price(length: u32, queue: u32, beat: u32) -> u32 {
+    if queue == 0 {
+        0
+    } else {
+        (length - SHORTEST).div_ceil(beat)
+    }
+}
+
+/// The queue manager: lent memory of some length, and the ledger, if any.
+#[derive(Debug, Clone, PartialEq, Eq)]
+pub struct Model {
+    memory_len: usize,
+    choice: Choice,
+    ledger: Option<Ledger>,
+}
+
+impl Model {
+    /// Memory of zero bytes: no switch state yet.
+    pub fn new(memory_len: usize) -> Model {
+        Model::with_choice(memory_len, Choice::default())
+    }
+
+    /// The same, with the way in which a turn finds its queue.
+    pub fn with_choice(memory_len: usize, choice: Choice) -> Model {
+        Model {
+            memory_len,
+            choice,
+            ledger: None,
+        }
+    }
+
+    /// Make one call.
+    pub fn call(&mut self, call: &Call) -> Reply {
+        self.answer(call).unwrap_or_else(Reply::Refused)
+    }
+
+    /// The length of the lent memory.
+    pub fn memory_len(&self) -> usize {
+        self.memory_len
+    }
+
+    /// The way in which a turn finds its queue.
+    pub fn choice(&self) -> Choice {
+        self.choice
+    }
+
+    /// The ledger; none before the first accepted setup.
+    pub fn ledger(&self) -> Option<&Ledger> {
+        self.ledger.as_ref()
+    }
+
+    /// The model's own soundness, rules (a) to (g) in the paper's order. A
+    /// model without a ledger has nothing that could be unsound.
+    pub fn check(&self) -> Result<(), String> {
+        match &self.ledger {
+            None => Ok(()),
+            Some(ledger) => check::check(ledger, self.memory_len),
+        }
+    }
+
+    /// The error is the refusal's number.
+    fn answer(&mut self, call: &Call) -> Result<Reply, u8> {
+        if let Call::Setup(settings) = call {
+            return self.setup(*settings);
+        }
+        let ledger = self.ledger.as_mut().ok_or(3)?;
+        match call {
+            // Taken above: setup alone needs no ledger.
+            Call::Setup(_) => unreachable!(),
+            Call::Arrive { port, header } => ledger.arrive(*port, header),
+            Call::Stitch { port } => ledger.stitch(*port),
+            Call::Prefetch { port, queue } => ledger.prefetch(*port, *queue),
+            Call::Credit {
+                port,
+                queue,
+                amount,
+            } => ledger.credit(*port, *queue, *amount),
+            Call::Map { id, port } => ledger.map(*id, *port),
+            Call::Turn { port } => ledger.turn(*port, self.choice),
+            Call::Ready { port } => ledger.ready(*port),
+            Call::Where { entry } => ledger.find(*entry),
+        }
+    }
+
+    /// A refused setup leaves an older ledger in use (ruling 10).
+    fn setup(&mut self, settings: Settings) -> Result<Reply, u8> {
+        if !settings.in_their_rows() {
+            return Err(2);
+        }
+        if self.memory_len < size(settings.nodes) {
+            return Err(1);
+        }
+        self.ledger = Some(Ledger::starting(settings));
+        Ok(Reply::Done)
+    }
+}

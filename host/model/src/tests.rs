@@ -1,0 +1,935 @@
+//! The paper's cards, price cases, whole bench case and slips, and the
+//! refusals' order.
+
+use crate::bench::bench;
+use crate::checksum::crc8;
+use crate::ledger::pick;
+use crate::{header, price, size, Call, Choice, ListKind, Model, Packet, Reply, Settings, Side};
+
+/// A header written as one number, field after field, unlike the reader.
+fn written(dest: u128, source: u128, queue: u128, length: u128) -> [u8; 10] {
+    written_fully(dest, source, queue, length, 0, 0, 0, 0)
+}
+
+#[allow(clippy::too_many_arguments)]
+fn written_fully(
+    dest: u128,
+    source: u128,
+    queue: u128,
+    length: u128,
+    flags: u128,
+    timestamp: u128,
+    offered: u128,
+    transaction: u128,
+) -> [u8; 10] {
+    let mut number = 0u128;
+    for (field, width) in [
+        (dest, 2),
+        (source, 2),
+        (queue, 5),
+        (length, 13),
+        (flags, 2),
+        (timestamp, 32),
+        (offered, 8),
+        (transaction, 8),
+    ] {
+        assert!(field < 1 << width);
+        number = number << width | field;
+    }
+    let mut bytes = [0; 10];
+    bytes[..9].copy_from_slice(&number.to_be_bytes()[7..]);
+    bytes[9] = remainder(&bytes[..9]);
+    bytes
+}
+
+/// The checksum by long division of one number, unlike the model's.
+fn remainder(bytes: &[u8]) -> u8 {
+    assert!(bytes.len() <= 15);
+    let mut number = bytes.iter().fold(0u128, |n, &b| n << 8 | u128::from(b)) << 8;
+    for place in (8..128).rev() {
+        if number >> place & 1 == 1 {
+            number ^= 0x107 << (place - 8);
+        }
+    }
+    number as u8
+}
+
+const SMALL: Settings = Settings {
+    nodes: 8,
+    beat: 64,
+    slots: 4,
+    credit: 16,
+};
+
+/// A model and short words for its calls.
+struct Desk(Model);
+
+impl Desk {
+    fn new(settings: Settings) -> Desk {
+        let mut model = Model::new(size(settings.nodes));
+        assert_eq!(model.call(&Call::Setup(settings)), Reply::Done);
+        Desk(model)
+    }
+
+    /// Every call is followed by the check, and a refused one changes nothing.
+    fn call(&mut self, call: Call) -> Reply {
+        let before = self.0.clone();
+        let reply = self.0.call(&call);
+        if let Reply::Refused(_) | Reply::Idle = reply {
+            assert_eq!(self.0, before, "{call:?}");
+        }
+        assert_eq!(self.0.check(), Ok(()), "{call:?}");
+        reply
+    }
+
+    fn setup(&mut self, settings: Settings) -> Reply {
+        self.call(Call::Setup(settings))
+    }
+
+    fn arrive(&mut self, port: u32, header: &[u8]) -> Reply {
+        self.call(Call::Arrive {
+            port,
+            header: header.to_vec(),
+        })
+    }
+
+    fn stitch(&mut self, port: u32) -> Reply {
+        self.call(Call::Stitch { port })
+    }
+
+    fn prefetch(&mut self, port: u32, queue: u32) -> Reply {
+        self.call(Call::Prefetch { port, queue })
+    }
+
+    fn credit(&mut self, port: u32, queue: u32, amount: u32) -> Reply {
+        self.call(Call::Credit {
+            port,
+            queue,
+            amount,
+        })
+    }
+
+    fn map(&mut self, id: u32, port: u32) -> Reply {
+        self.call(Call::Map { id, port })
+    }
+
+    fn turn(&mut self, port: u32) -> Reply {
+        self.call(Call::Turn { port })
+    }
+
+    fn ready(&mut self, port: u32) -> Reply {
+        self.call(Call::Ready { port })
+    }
+
+    fn place(&mut self, entry: u32) -> Reply {
+        self.call(Call::Where { entry })
+    }
+
+    /// A packet for port 0 from port 0, up to the prefetch list.
+    fn bring(&mut self, queue: u32, length: u32) {
+        let header = written(0, 0, queue.into(), length.into());
+        assert!(matches!(self.arrive(0, &header), Reply::Entry(_)));
+        assert!(matches!(self.stitch(0), Reply::Stitched(_)));
+        assert!(matches!(self.prefetch(0, queue), Reply::Entry(_)));
+    }
+
+    /// The queue that a turn of port 0 serves.
+    fn served(&mut self) -> u32 {
+        match self.turn(0) {
+            Reply::Leaves(packet, _) => packet.queue.into(),
+            other => panic!("{other:?}"),
+        }
+    }
+
+    fn ledger(&mut self) -> &mut crate::Ledger {
+        self.0.ledger.as_mut().unwrap()
+    }
+}
+
+const ACCEPTED_HEADER: [u8; 10] = [0, 0, 0x30, 0, 0, 0, 0, 0, 0, 0x72];
+
+// The checksum, the header and the price.
+
+#[test]
+fn checksum_has_the_published_check_value() {
+    assert_eq!(crc8(b"123456789"), 0xF4);
+    assert_eq!(remainder(b"123456789"), 0xF4);
+}
+
+#[test]
+fn checksum_is_the_remainder_of_the_long_division() {
+    let mut seed = 1u64;
+    for _ in 0..10_000 {
+        seed = seed.wrapping_mul(6364136223846793005).wrapping_add(1);
+        let bytes = seed.to_be_bytes();
+        assert_eq!(crc8(&bytes), remainder(&bytes));
+    }
+}
+
+#[test]
+fn header_fields_are_read_back() {
+    let bytes = written_fully(2, 1, 19, 5000, 0b10, 0x01020304, 77, 99);
+    let read = header::read(&bytes);
+    let wanted = header::Header {
+        destination: 2,
+        source: 1,
+        queue: 19,
+        length: 5000,
+        poisoned: true,
+        timestamp: 0x01020304,
+        offered: 77,
+        transaction: 99,
+        checksum_fits: true,
+    };
+    assert_eq!(read, wanted);
+}
+
+#[test]
+fn header_widths_hold_over_all_values() {
+    for dest in 0..4 {
+        for source in 0..4 {
+            for queue in 0..32 {
+                for length in [0, 1, 12, 63, 64, 4095, 4096, 8191] {
+                    for flags in 0..4 {
+                        let bytes =
+                            written_fully(dest, source, queue, length, flags, 0xFFFF_FFFF, 0, 0);
+                        let read = header::read(&bytes);
+                        assert_eq!(u128::from(read.destination), dest);
+                        assert_eq!(u128::from(read.source), source);
+                        assert_eq!(u128::from(read.queue), if queue > 23 { 0 } else { queue });
+                        assert_eq!(u128::from(read.length), length);
+                        assert_eq!(read.poisoned, flags & 2 == 2);
+                        assert_eq!(read.timestamp, u32::MAX);
+                        assert!(read.checksum_fits);
+                    }
+                }
+            }
+        }
+    }
+}
+
+#[test]
+fn price_cases_at_beat_64() {
+    for (length, wanted) in [(12, 0), (13, 1), (76, 1), (77, 2), (8191, 128)] {
+        assert_eq!(price(length, 1, 64), wanted);
+        assert_eq!(price(length, 0, 64), 0);
+    }
+}
+
+#[test]
+fn price_cases_through_arrivals() {
+    for (length, wanted) in [(12, 0), (13, 1), (76, 1), (77, 2), (8191, 128)] {
+        let mut desk = Desk::new(Settings {
+            credit: 128,
+            ..SMALL
+        });
+        desk.bring(7, length);
+        assert_eq!(desk.ledger().ports[0].arrival_credit[7], 128 - wanted);
+        desk.credit(0, 7, wanted);
+        match desk.turn(0) {
+            Reply::Leaves(packet, Side::Outside) => assert_eq!(packet.price, wanted),
+            other => panic!("{other:?}"),
+        }
+        assert_eq!(desk.ledger().ports[0].outward_credit[7], 0);
+        assert_eq!(desk.ledger().ports[0].arrival_credit[7], 128);
+    }
+}
+
+#[test]
+fn price_is_the_least_number_of_beats_that_covers_the_data() {
+    for beat in [64, 128, 256, 512] {
+        for length in 12..=8191 {
+            let beats = price(length, 23, beat);
+            assert!(beats * beat >= length - 12);
+            assert!(beats == 0 || (beats - 1) * beat < length - 12);
+        }
+    }
+}
+
+// The cards.
+
+#[test]
+fn card_ten_zero_bytes() {
+    let mut desk = Desk::new(SMALL);
+    assert!(header::read(&[0; 10]).checksum_fits);
+    assert_eq!(desk.arrive(0, &[0; 10]), Reply::Refused(9));
+    assert_eq!(desk.arrive(1, &[0; 10]), Reply::Refused(8));
+}
+
+#[test]
+fn card_shortest_packet_accepted() {
+    let mut desk = Desk::new(SMALL);
+    assert_eq!(written(0, 0, 0, 12), ACCEPTED_HEADER);
+    assert_eq!(desk.arrive(0, &ACCEPTED_HEADER), Reply::Entry(0));
+    assert_eq!(desk.ledger().packet(0).unwrap().length, 12);
+    assert_eq!(
+        desk.stitch(0),
+        Reply::Stitched([0, 0, 0, 0x0C, 0, 0, 0, 0, 0, 0])
+    );
+    let mut wrong = ACCEPTED_HEADER;
+    wrong[9] = 0x73;
+    assert_eq!(desk.arrive(0, &wrong), Reply::Refused(7));
+}
+
+#[test]
+fn card_first_bytes() {
+    assert_eq!(written(1, 2, 23, 8191)[..3], [0x6B, 0xFF, 0xFC]);
+    let read = header::read(&[0x6B, 0xFF, 0xFC, 0, 0, 0, 0, 0, 0, 0]);
+    assert_eq!(
+        (read.destination, read.source, read.queue, read.length),
+        (1, 2, 23, 8191)
+    );
+    assert!(!read.poisoned);
+}
+
+#[test]
+fn card_one_node_is_used_again() {
+    let mut desk = Desk::new(Settings { nodes: 1, ..SMALL });
+    assert_eq!(desk.arrive(0, &ACCEPTED_HEADER), Reply::Entry(0));
+    assert_eq!(desk.arrive(0, &ACCEPTED_HEADER), Reply::Refused(11));
+    desk.stitch(0);
+    assert_eq!(desk.arrive(0, &ACCEPTED_HEADER), Reply::Refused(11));
+    desk.prefetch(0, 0);
+    assert_eq!(desk.arrive(0, &ACCEPTED_HEADER), Reply::Refused(11));
+    assert!(matches!(desk.turn(0), Reply::Leaves(_, Side::Inside)));
+    assert_eq!(desk.arrive(0, &ACCEPTED_HEADER), Reply::Entry(0));
+}
+
+#[test]
+fn card_three_ready_after_queue_5() {
+    let mut desk = Desk::new(Settings { nodes: 16, ..SMALL });
+    desk.bring(5, 12);
+    assert_eq!(desk.served(), 5);
+    for queue in [2, 5, 9] {
+        desk.bring(queue, 12);
+        desk.bring(queue, 12);
+    }
+    let word = 1 << 2 | 1 << 5 | 1 << 9;
+    for wanted in [9, 2, 5] {
+        assert_eq!(desk.ready(0), Reply::Word(word, 3));
+        assert_eq!(desk.served(), wanted);
+    }
+    assert_eq!(desk.ready(0), Reply::Word(word, 3));
+}
+
+#[test]
+fn card_all_ready_after_queue_5() {
+    let mut desk = Desk::new(Settings { nodes: 64, ..SMALL });
+    desk.bring(5, 12);
+    assert_eq!(desk.served(), 5);
+    for queue in 0..24 {
+        desk.bring(queue, 12);
+        desk.bring(queue, 12);
+    }
+    for turn in 1..=24 {
+        assert_eq!(desk.ready(0), Reply::Word(0xFF_FFFF, 24));
+        assert_eq!(desk.served(), (5 + turn) % 24);
+    }
+    assert_eq!(desk.ledger().ports[0].last_served, 5);
+}
+
+#[test]
+fn card_outward_credit_at_its_most() {
+    let mut desk = Desk::new(SMALL);
+    assert_eq!(desk.credit(3, 23, 65_535), Reply::Done);
+    assert_eq!(desk.credit(3, 23, 0), Reply::Done);
+    assert_eq!(desk.credit(3, 23, 1), Reply::Refused(14));
+    assert_eq!(desk.credit(3, 23, u32::MAX), Reply::Refused(14));
+    assert_eq!(desk.ledger().ports[3].outward_credit[23], 65_535);
+}
+
+#[test]
+fn card_nodes_per_port() {
+    let mut desk = Desk(Model::new(65_536));
+    for (nodes, wanted) in [
+        (256, Reply::Done),
+        (0, Reply::Refused(2)),
+        (257, Reply::Refused(2)),
+    ] {
+        assert_eq!(desk.setup(Settings { nodes, ..SMALL }), wanted);
+    }
+}
+
+#[test]
+fn card_prefetch_with_nothing_to_take_and_no_room() {
+    let mut desk = Desk::new(Settings { slots: 1, ..SMALL });
+    desk.bring(3, 12);
+    assert_eq!(desk.prefetch(0, 3), Reply::Refused(12));
+    desk.arrive(0, &written(0, 0, 3, 12));
+    desk.stitch(0);
+    assert_eq!(desk.prefetch(0, 3), Reply::Refused(13));
+}
+
+// The slips.
+
+#[test]
+fn slip_node_returns_to_the_port_in_its_entry_id() {
+    let mut desk = Desk::new(SMALL);
+    desk.map(3, 2);
+    assert_eq!(desk.arrive(1, &written(3, 1, 4, 77)), Reply::Entry(2048));
+    desk.stitch(1);
+    desk.prefetch(2, 4);
+    desk.credit(2, 4, 5);
+    assert!(matches!(desk.turn(2), Reply::Leaves(_, Side::Outside)));
+    let back = ListKind::Free { port: 1 };
+    assert_eq!(desk.place(2048), Reply::Found(back, 7));
+    let ledger = desk.ledger();
+    assert_eq!(ledger.ports[1].arrival_credit[4], 16);
+    assert_eq!(ledger.ports[2].outward_credit[4], 3);
+    assert_eq!(ledger.ports[2].last_served, 4);
+    assert_eq!(ledger.ports[1].last_served, 23);
+}
+
+#[test]
+fn slip_idle_turn_moves_no_mark() {
+    let mut desk = Desk::new(SMALL);
+    assert_eq!(desk.turn(0), Reply::Idle);
+    assert_eq!(desk.ledger().ports[0].last_served, 23);
+    desk.bring(6, 12);
+    assert_eq!(desk.served(), 6);
+    // A packet that isn't covered: idle too.
+    desk.bring(9, 13);
+    assert_eq!(desk.turn(0), Reply::Idle);
+    assert_eq!(desk.ledger().ports[0].last_served, 6);
+}
+
+#[test]
+fn slip_map_is_read_at_stitch() {
+    let mut desk = Desk::new(SMALL);
+    desk.map(1, 1);
+    desk.arrive(0, &written(1, 0, 4, 12));
+    desk.map(1, 3);
+    assert_eq!(
+        desk.stitch(0),
+        Reply::Stitched([0, 0, 0, 12, 4, 3, 0, 0, 0, 0])
+    );
+    // A later change moves nothing.
+    desk.map(1, 2);
+    let there = ListKind::Egress { port: 3, queue: 4 };
+    assert_eq!(desk.place(0), Reply::Found(there, 0));
+}
+
+#[test]
+fn slip_queue_at_zero_credit_whose_oldest_costs_nothing_is_ready() {
+    let mut desk = Desk::new(SMALL);
+    desk.bring(4, 12);
+    desk.bring(4, 13);
+    assert_eq!(desk.ready(0), Reply::Word(1 << 4, 1));
+    assert_eq!(desk.served(), 4);
+    assert_eq!(desk.ready(0), Reply::Word(0, 0));
+    desk.credit(0, 4, 1);
+    assert_eq!(desk.ready(0), Reply::Word(1 << 4, 1));
+}
+
+#[test]
+fn slip_arrival_credit_comes_back_at_the_turn_only() {
+    let mut desk = Desk::new(Settings { credit: 1, ..SMALL });
+    let costs_one = written(0, 0, 2, 76);
+    assert_eq!(desk.arrive(0, &costs_one), Reply::Entry(0));
+    assert_eq!(desk.arrive(0, &costs_one), Reply::Refused(10));
+    desk.stitch(0);
+    assert_eq!(desk.arrive(0, &costs_one), Reply::Refused(10));
+    desk.prefetch(0, 2);
+    assert_eq!(desk.arrive(0, &costs_one), Reply::Refused(10));
+    desk.credit(0, 2, 1);
+    assert_eq!(desk.arrive(0, &costs_one), Reply::Refused(10));
+    assert_eq!(desk.served(), 2);
+    assert_eq!(desk.arrive(0, &costs_one), Reply::Entry(1));
+}
+
+// Refusals, and their order.
+
+#[test]
+fn everything_but_setup_is_refused_before_setup() {
+    let mut model = Model::new(65_536);
+    for call in [
+        Call::Arrive {
+            port: 9,
+            header: vec![],
+        },
+        Call::Stitch { port: 0 },
+        Call::Prefetch { port: 0, queue: 99 },
+        Call::Credit {
+            port: 0,
+            queue: 0,
+            amount: 0,
+        },
+        Call::Map { id: 9, port: 9 },
+        Call::Turn { port: 4 },
+        Call::Ready { port: 0 },
+        Call::Where { entry: u32::MAX },
+    ] {
+        assert_eq!(model.call(&call), Reply::Refused(3));
+        assert_eq!(model.check(), Ok(()));
+    }
+}
+
+#[test]
+fn setup_takes_exactly_the_settings_in_their_rows() {
+    let mut desk = Desk(Model::new(65_536));
+    let huge = [70_000, 65_536, 65_537, 256 + 64, u32::MAX];
+    for nodes in (0..=300).chain(huge) {
+        let good = (1..=256).contains(&nodes);
+        let wanted = if good { Reply::Done } else { Reply::Refused(2) };
+        assert_eq!(desk.setup(Settings { nodes, ..SMALL }), wanted);
+    }
+    for beat in (0..=2048).chain([65_536 + 64, u32::MAX]) {
+        let good = (64..=512).contains(&beat) && beat.count_ones() == 1;
+        let wanted = if good { Reply::Done } else { Reply::Refused(2) };
+        assert_eq!(desk.setup(Settings { beat, ..SMALL }), wanted);
+    }
+    for slots in (0..=300).chain(huge) {
+        let good = (1..=8).contains(&slots);
+        let wanted = if good { Reply::Done } else { Reply::Refused(2) };
+        assert_eq!(desk.setup(Settings { slots, ..SMALL }), wanted);
+    }
+    for (credit, good) in [
+        (0, true),
+        (65_535, true),
+        (65_536, false),
+        (70_000, false),
+        (u32::MAX, false),
+    ] {
+        let wanted = if good { Reply::Done } else { Reply::Refused(2) };
+        assert_eq!(desk.setup(Settings { credit, ..SMALL }), wanted);
+    }
+}
+
+#[test]
+fn setup_tests_settings_then_memory() {
+    assert!(size(256) <= 65_536);
+    for nodes in [1, 2, 100, 256] {
+        let settings = Settings { nodes, ..SMALL };
+        let call = Call::Setup(settings);
+        let mut short = Model::new(size(nodes) - 1);
+        assert_eq!(short.call(&call), Reply::Refused(1));
+        assert_eq!(short.call(&Call::Turn { port: 0 }), Reply::Refused(3));
+        let bad = Call::Setup(Settings {
+            beat: 65,
+            ..settings
+        });
+        assert_eq!(short.call(&bad), Reply::Refused(2));
+        assert_eq!(Model::new(size(nodes)).call(&call), Reply::Done);
+        assert_eq!(Model::new(0).call(&call), Reply::Refused(1));
+    }
+    assert_eq!(
+        Model::new(0).call(&Call::Setup(Settings {
+            nodes: 257,
+            ..SMALL
+        })),
+        Reply::Refused(2)
+    );
+}
+
+#[test]
+fn setup_starts_anew_but_a_refused_one_leaves_the_older_state() {
+    let mut desk = Desk(Model::new(size(8)));
+    desk.setup(SMALL);
+    let fresh = desk.0.clone();
+    desk.map(2, 3);
+    desk.credit(1, 1, 9);
+    desk.bring(5, 100);
+    assert_eq!(
+        desk.setup(Settings { slots: 0, ..SMALL }),
+        Reply::Refused(2)
+    );
+    assert_eq!(
+        desk.setup(Settings { nodes: 9, ..SMALL }),
+        Reply::Refused(1)
+    );
+    let there = ListKind::Prefetch { port: 0, queue: 5 };
+    assert_eq!(desk.place(0), Reply::Found(there, 0));
+    assert_eq!(desk.setup(SMALL), Reply::Done);
+    assert_eq!(desk.0, fresh);
+}
+
+#[test]
+fn arrive_tests_in_table_order() {
+    let mut desk = Desk::new(Settings {
+        nodes: 1,
+        credit: 2,
+        ..SMALL
+    });
+    desk.arrive(0, &ACCEPTED_HEADER);
+    // All faults at once, then one taken away after the other.
+    assert_eq!(desk.arrive(4, &[0xFF; 9]), Reply::Refused(4));
+    for bytes in (0..=40).filter(|&bytes| bytes != 10) {
+        assert_eq!(desk.arrive(0, &vec![0xFF; bytes]), Reply::Refused(6));
+    }
+    let mut header = written(0, 1, 3, 11);
+    header[9] ^= 1;
+    assert_eq!(desk.arrive(0, &header), Reply::Refused(7));
+    assert_eq!(desk.arrive(0, &written(0, 1, 3, 11)), Reply::Refused(8));
+    assert_eq!(desk.arrive(0, &written(0, 0, 3, 11)), Reply::Refused(9));
+    assert_eq!(desk.arrive(0, &written(0, 0, 3, 200)), Reply::Refused(10));
+    assert_eq!(desk.arrive(0, &written(0, 0, 3, 140)), Reply::Refused(11));
+    // Every wrong bit of the header is noticed.
+    for bit in 0..80 {
+        let mut header = ACCEPTED_HEADER;
+        header[bit / 8] ^= 0x80 >> (bit % 8);
+        assert_eq!(desk.arrive(0, &header), Reply::Refused(7));
+    }
+}
+
+#[test]
+fn the_other_calls_test_in_table_order() {
+    let mut desk = Desk::new(Settings { slots: 1, ..SMALL });
+    for port in [4, 5, 255, 256, 65_536, u32::MAX] {
+        assert_eq!(desk.stitch(port), Reply::Refused(4));
+        assert_eq!(desk.prefetch(port, 24), Reply::Refused(4));
+        assert_eq!(desk.credit(port, 0, u32::MAX), Reply::Refused(4));
+        assert_eq!(desk.turn(port), Reply::Refused(4));
+        assert_eq!(desk.ready(port), Reply::Refused(4));
+        assert_eq!(desk.map(3, port), Reply::Refused(4));
+        assert_eq!(desk.map(4, port), Reply::Refused(15));
+    }
+    assert_eq!(desk.stitch(3), Reply::Refused(12));
+    for queue in [24, 31, 32, 256, u32::MAX] {
+        assert_eq!(desk.prefetch(3, queue), Reply::Refused(5));
+        assert_eq!(desk.credit(3, queue, u32::MAX), Reply::Refused(5));
+    }
+    assert_eq!(desk.credit(0, 0, 0), Reply::Refused(5));
+    assert_eq!(desk.prefetch(0, 0), Reply::Refused(12));
+    assert_eq!(desk.credit(0, 1, 65_536), Reply::Refused(14));
+    assert_eq!(desk.credit(0, 1, 70_000), Reply::Refused(14));
+    for id in [4, 255, 256, 70_000, u32::MAX] {
+        assert_eq!(desk.map(id, 0), Reply::Refused(15));
+    }
+}
+
+#[test]
+fn where_knows_exactly_the_nodes() {
+    let mut desk = Desk::new(SMALL);
+    for entry in (0..65_536 + 10_000).chain([u32::MAX, 1 << 31]) {
+        let (port, index) = (entry / 2048, entry % 2048);
+        let wanted = if port < 4 && index < 8 {
+            Reply::Found(ListKind::Free { port }, index)
+        } else {
+            Reply::Refused(15)
+        };
+        assert_eq!(desk.0.call(&Call::Where { entry }), wanted);
+    }
+}
+
+#[test]
+fn where_follows_a_node_through_its_lists() {
+    let mut desk = Desk::new(SMALL);
+    desk.map(2, 1);
+    let header = written(2, 3, 8, 12);
+    for wanted in 0..3 {
+        assert_eq!(desk.arrive(3, &header), Reply::Entry(3 * 2048 + wanted));
+    }
+    let second = 3 * 2048 + 1;
+    assert_eq!(
+        desk.place(second),
+        Reply::Found(ListKind::Ingress { port: 3 }, 1)
+    );
+    desk.stitch(3);
+    desk.stitch(3);
+    let egress = ListKind::Egress { port: 1, queue: 8 };
+    assert_eq!(desk.place(second), Reply::Found(egress, 1));
+    desk.prefetch(1, 8);
+    assert_eq!(desk.place(second), Reply::Found(egress, 0));
+    assert_eq!(desk.prefetch(1, 8), Reply::Entry(second as u16));
+    let prefetch = ListKind::Prefetch { port: 1, queue: 8 };
+    assert_eq!(desk.place(second), Reply::Found(prefetch, 1));
+    desk.turn(1);
+    assert_eq!(desk.place(second), Reply::Found(prefetch, 0));
+    desk.turn(1);
+    let free = ListKind::Free { port: 3 };
+    assert_eq!(desk.place(second), Reply::Found(free, 6));
+    assert_eq!(desk.place(second - 1), Reply::Found(free, 5));
+    assert_eq!(desk.place(second + 2), Reply::Found(free, 0));
+}
+
+#[test]
+fn entry_id_of_port_3_node_5() {
+    let mut desk = Desk::new(SMALL);
+    assert_eq!(
+        desk.place(6149),
+        Reply::Found(ListKind::Free { port: 3 }, 5)
+    );
+    for _ in 0..5 {
+        desk.arrive(3, &written(0, 3, 0, 12));
+    }
+    assert_eq!(desk.arrive(3, &written(0, 3, 0, 12)), Reply::Entry(6149));
+}
+
+#[test]
+fn a_turn_answers_every_recorded_field() {
+    let mut desk = Desk::new(Settings {
+        credit: 50,
+        ..SMALL
+    });
+    desk.map(3, 1);
+    // The reserved bit is set and ignored.
+    let header = written_fully(3, 2, 11, 1000, 0b11, 0xDEAD_BEEF, 200, 0x5A);
+    assert_eq!(desk.arrive(2, &header), Reply::Entry(4096));
+    assert_eq!(
+        desk.stitch(2),
+        Reply::Stitched([0x10, 0x00, 0x03, 0xE8, 11, 1, 0xDE, 0xAD, 0xBE, 0xEF])
+    );
+    desk.prefetch(1, 11);
+    desk.credit(1, 11, 15);
+    assert_eq!(desk.turn(1), Reply::Idle);
+    desk.credit(1, 11, 1);
+    let packet = Packet {
+        entry: 4096,
+        length: 1000,
+        queue: 11,
+        destination: 3,
+        timestamp: 0xDEAD_BEEF,
+        poisoned: true,
+        transaction: 0x5A,
+        price: 16,
+    };
+    assert_eq!(desk.turn(1), Reply::Leaves(packet, Side::Outside));
+    assert_eq!(desk.turn(1), Reply::Idle);
+}
+
+#[test]
+fn queues_24_to_31_are_queue_0() {
+    for written_queue in 24..32 {
+        // K = 0: a price would be refused 10.
+        let mut desk = Desk::new(Settings { credit: 0, ..SMALL });
+        let header = written(0, 0, written_queue, 8191);
+        assert_eq!(desk.arrive(0, &header), Reply::Entry(0));
+        assert_eq!(
+            desk.stitch(0),
+            Reply::Stitched([0, 0, 0x1F, 0xFF, 0, 0, 0, 0, 0, 0])
+        );
+        assert_eq!(desk.prefetch(0, 0), Reply::Entry(0));
+        match desk.turn(0) {
+            Reply::Leaves(packet, Side::Inside) => {
+                assert_eq!((packet.queue, packet.price, packet.length), (0, 0, 8191));
+            }
+            other => panic!("{other:?}"),
+        }
+    }
+}
+
+#[test]
+fn a_covered_packet_behind_one_that_is_not_waits() {
+    let mut desk = Desk::new(SMALL);
+    desk.bring(4, 200);
+    desk.bring(4, 12);
+    desk.credit(0, 4, 2);
+    assert_eq!(desk.turn(0), Reply::Idle);
+    desk.credit(0, 4, 1);
+    assert_eq!(desk.served(), 4);
+    assert_eq!(desk.served(), 4);
+}
+
+// The turn's choice.
+
+#[test]
+fn pick_is_the_first_ready_queue_after_the_last_served() {
+    let mut seed = 7u64;
+    for round in 0..200_000u64 {
+        seed = seed.wrapping_mul(6364136223846793005).wrapping_add(1);
+        // Thin words, too.
+        let thin = (seed >> 20) & (seed >> 40) & 0xFF_FFFF;
+        let word = if round % 2 == 0 { thin } else { seed >> 40 };
+        let last = (round % 24) as u32;
+        let wanted = (1..=24)
+            .map(|step| (last + step) % 24)
+            .find(|queue| word >> queue & 1 == 1);
+        assert_eq!(pick(word, last), wanted);
+    }
+    assert_eq!(pick(0, 23), None);
+}
+
+#[test]
+fn both_choices_serve_the_same() {
+    let mut whole = Model::with_choice(size(64), Choice::WholeWord);
+    let mut early = Model::with_choice(size(64), Choice::EarlyOut);
+    let mut seed = 3u64;
+    let mut both = |call: Call| assert_eq!(whole.call(&call), early.call(&call));
+    both(Call::Setup(Settings { nodes: 64, ..SMALL }));
+    for _ in 0..20_000 {
+        seed = seed.wrapping_mul(6364136223846793005).wrapping_add(1);
+        let queue = (seed >> 33) as u32 % 24;
+        let length = 12 + (seed >> 50) % 200;
+        both(match seed >> 40 & 7 {
+            0 => Call::Arrive {
+                port: 0,
+                header: written(0, 0, queue.into(), length.into()).to_vec(),
+            },
+            1 => Call::Stitch { port: 0 },
+            2..=4 => Call::Prefetch { port: 0, queue },
+            5 => Call::Credit {
+                port: 0,
+                queue,
+                amount: 1,
+            },
+            6 => Call::Turn { port: 0 },
+            _ => Call::Ready { port: 0 },
+        });
+    }
+    assert_eq!(whole.ledger(), early.ledger());
+}
+
+// The check notices each rule's breach.
+
+#[test]
+fn check_names_the_broken_rule() {
+    fn broken(breach: impl Fn(&mut crate::Ledger)) -> String {
+        let mut desk = Desk::new(SMALL);
+        desk.bring(5, 100);
+        desk.arrive(1, &written(0, 1, 2, 77));
+        breach(desk.ledger());
+        desk.0.check().unwrap_err()[..3].to_string()
+    }
+    assert_eq!(broken(|l| l.settings.beat = 96), "(a)");
+    assert_eq!(broken(|l| l.settings.nodes = 9), "(a)");
+    assert_eq!(broken(|l| l.map[3] = 4), "(b)");
+    assert_eq!(broken(|l| l.ports[2].last_served = 24), "(b)");
+    assert_eq!(broken(|l| l.ports[2].outward_credit[9] = 65_536), "(b)");
+    assert_eq!(broken(|l| l.ports[2].arrival_credit[9] = 65_536), "(b)");
+    assert_eq!(
+        broken(|l| (0..4).for_each(|_| l.ports[0].prefetch[5].push_back(7))),
+        "(b)"
+    );
+    assert_eq!(broken(|l| l.ports[0].ingress.push_back(7)), "(c)");
+    assert_eq!(broken(|l| l.ports[0].free.truncate(2)), "(c)");
+    assert_eq!(broken(|l| l.ports[0].free.push_back(8)), "(c)");
+    assert_eq!(broken(|l| l.ports[0].free.push_back(8192)), "(c)");
+    assert_eq!(
+        broken(|l| {
+            let node = l.ports[0].free.pop_front().unwrap();
+            l.ports[1].free.push_back(node);
+        }),
+        "(d)"
+    );
+    assert_eq!(
+        broken(|l| {
+            let node = l.ports[1].ingress.pop_front().unwrap();
+            l.ports[2].ingress.push_back(node);
+        }),
+        "(d)"
+    );
+    assert_eq!(
+        broken(|l| {
+            let node = l.ports[0].prefetch[5].pop_front().unwrap();
+            l.ports[0].prefetch[6].push_back(node);
+        }),
+        "(e)"
+    );
+    fn record(l: &mut crate::Ledger) -> &mut Packet {
+        l.ports[1].packets[0].as_mut().unwrap()
+    }
+    assert_eq!(broken(|l| record(l).length = 11), "(f)");
+    assert_eq!(broken(|l| record(l).length = 8192), "(f)");
+    assert_eq!(broken(|l| record(l).queue = 24), "(f)");
+    assert_eq!(broken(|l| record(l).destination = 4), "(f)");
+    assert_eq!(broken(|l| record(l).price = 3), "(f)");
+    assert_eq!(broken(|l| l.ports[1].packets[0] = None), "(f)");
+    assert_eq!(broken(|l| record(l).queue = 3), "(g)");
+    assert_eq!(broken(|l| l.ports[1].arrival_credit[2] += 1), "(g)");
+    assert_eq!(broken(|l| l.ports[3].arrival_credit[1] = 0), "(g)");
+}
+
+// The bench program.
+
+/// Bytes from hex digits; blanks don't count.
+fn hex(digits: &str) -> Vec<u8> {
+    let digits: Vec<u8> = digits
+        .chars()
+        .filter_map(|c| c.to_digit(16).map(|d| d as u8))
+        .collect();
+    digits
+        .chunks(2)
+        .map(|pair| pair[0] << 4 | pair[1])
+        .collect()
+}
+
+fn lines(input: &str) -> String {
+    String::from_utf8(bench(&hex(input))).unwrap()
+}
+
+const SETUP: &str = "01 0007 0001 0040 01 0010";
+
+#[test]
+fn bench_whole_case() {
+    let input = "01 0007 0001 0040 01 0010
+                 02 000B 00 00003000000000000072
+                 03 0001 00
+                 04 0002 00 00
+                 05 0001 00
+                 05 0001 00
+                 05 0001 04";
+    let wanted = "1 0\n2 0 0\n3 0 0\n4 0 0\n5 0 0\n6 0 idle\n7 4\n";
+    assert_eq!(lines(input), wanted);
+}
+
+#[test]
+fn bench_without_input_writes_nothing() {
+    assert_eq!(lines(""), "");
+}
+
+#[test]
+fn bench_before_setup_refuses_3() {
+    let input = "02 000B 00 00003000000000000072 03 0001 09 04 0002 00 00
+                 05 0001 00 06 0004 00 01 0000 07 0002 09 09 01 0007 0000 0040 01 0010 03 0001 00";
+    assert_eq!(lines(input), "1 3\n2 3\n3 3\n4 3\n5 3\n6 3\n7 2\n8 3\n");
+}
+
+#[test]
+fn bench_credit_and_map_answer_no_value() {
+    let input = format!(
+        "{SETUP} 06 0004 03 17 FFFF 06 0004 03 17 0001 06 0004 03 00 0001
+         07 0002 03 03 07 0002 04 04 07 0002 03 04"
+    );
+    assert_eq!(lines(&input), "1 0\n2 0\n3 14\n4 5\n5 0\n6 15\n7 4\n");
+}
+
+#[test]
+fn bench_entry_ids_of_other_ports() {
+    // Source 3, queue 0, length 12, destination 2, which the map sends to 1.
+    let arrival: String = written(2, 3, 0, 12)
+        .iter()
+        .map(|byte| format!("{byte:02X}"))
+        .collect();
+    let input = format!(
+        "01 0007 0002 0200 08 FFFF 07 0002 02 01 02 000B 03 {arrival} 02 000B 03 {arrival}
+         03 0001 03 03 0001 03 04 0002 01 00 05 0001 01 05 0001 03"
+    );
+    assert_eq!(
+        lines(&input),
+        "1 0\n2 0\n3 0 6144\n4 0 6145\n5 0 6144\n6 0 6145\n7 0 6144\n8 0 6144\n9 0 idle\n"
+    );
+}
+
+#[test]
+fn bench_refused_setup_leaves_the_older_state() {
+    let input = format!("{SETUP} 01 0007 0101 0040 01 0010 05 0001 00");
+    assert_eq!(lines(&input), "1 0\n2 2\n3 0 idle\n");
+}
+
+#[test]
+fn bench_bad_fields_end_the_run() {
+    let good = "05 0001 00";
+    // Other tags, known and unknown lengths.
+    for tag in (8..=255).chain([0]) {
+        let input = format!("{SETUP} {tag:02X} 0001 00 {good}");
+        assert_eq!(lines(&input), "1 0\n2 bad\n");
+        assert_eq!(lines(&format!("{tag:02X} 0000")), "1 bad\n");
+    }
+    // Every wrong length, and every cut of a right one.
+    for (tag, right) in [(1, 7), (2, 11), (3, 1), (4, 2), (5, 1), (6, 4), (7, 2)] {
+        for length in (0..40usize).chain([256 + right, 65_535]) {
+            let value = "00".repeat(length);
+            let field = format!("{tag:02X} {length:04X} {value}");
+            if length != right {
+                let input = format!("{SETUP} {field} {good}");
+                assert_eq!(lines(&input), "1 0\n2 bad\n");
+                assert_eq!(lines(&field), "1 bad\n");
+            }
+        }
+        let whole = hex(&format!("{tag:02X} {right:04X} {}", "00".repeat(right)));
+        assert_ne!(bench(&whole), b"1 bad\n");
+        for cut in 1..whole.len() {
+            assert_eq!(bench(&whole[..cut]), b"1 bad\n");
+        }
+    }
+}

@@ -1,0 +1,124 @@
+//! Tagged fields for the bench program.
+
+use model::{bench, Call, Model};
+
+use crate::random::Random;
+use crate::{Profile, Traffic};
+
+/// The length of the value that a tag's right field has.
+fn right_length(tag: u8) -> usize {
+    [7, 11, 1, 2, 1, 4, 2][tag as usize - 1]
+}
+
+/// A call's tagged field: tag, length, value. None where no field can say it:
+/// ready and where have no tag, a field has no room for larger numbers, and
+/// an arrival's header is ten bytes.
+pub fn field(call: &Call) -> Option<Vec<u8>> {
+    let one = |number: u32| u8::try_from(number).ok();
+    let two = |number: u32| Some(u16::try_from(number).ok()?.to_be_bytes());
+    let (tag, value) = match call {
+        Call::Setup(settings) => {
+            let mut value = two(settings.nodes)?.to_vec();
+            value.extend(two(settings.beat)?);
+            value.push(one(settings.slots)?);
+            value.extend(two(settings.credit)?);
+            (1, value)
+        }
+        Call::Arrive { port, header } => {
+            let mut value = vec![one(*port)?];
+            value.extend(<[u8; 10]>::try_from(header.as_slice()).ok()?);
+            (2, value)
+        }
+        Call::Stitch { port } => (3, vec![one(*port)?]),
+        Call::Prefetch { port, queue } => (4, vec![one(*port)?, one(*queue)?]),
+        Call::Turn { port } => (5, vec![one(*port)?]),
+        Call::Credit {
+            port,
+            queue,
+            amount,
+        } => {
+            let mut value = vec![one(*port)?, one(*queue)?];
+            value.extend(two(*amount)?);
+            (6, value)
+        }
+        Call::Map { id, port } => (7, vec![one(*id)?, one(*port)?]),
+        Call::Ready { .. } | Call::Where { .. } => return None,
+    };
+    Some(tagged(tag, &value))
+}
+
+fn tagged(tag: u8, value: &[u8]) -> Vec<u8> {
+    let mut bytes = vec![tag];
+    bytes.extend((value.len() as u16).to_be_bytes());
+    bytes.extend(value);
+    bytes
+}
+
+/// A bench program's input: `n` right fields and, in half of the streams, a
+/// bad field at the end, some with bytes after it that mustn't be read.
+pub fn stream(seed: u64, n: usize) -> Vec<u8> {
+    let mut random = Random::new(!seed);
+    let profile = random.pick(&Profile::ALL);
+    let mut traffic = Traffic::new(seed, profile);
+    // Followed along, so that the calls fit the state.
+    let mut model = Model::new(bench::MEMORY);
+    let mut bytes = Vec::new();
+    let mut written = 0;
+    while written < n {
+        let call = traffic.next(&model);
+        if let Some(field) = field(&call) {
+            bytes.extend(field);
+            model.call(&call);
+            written += 1;
+        }
+    }
+    if random.one_in(2) {
+        bytes.extend(bad_end(&mut random));
+    }
+    bytes
+}
+
+/// A bad field: another tag, a wrong length or a cut field.
+fn bad_end(random: &mut Random) -> Vec<u8> {
+    let tag = random.among(1, 7) as u8;
+    let right = right_length(tag);
+    let fill = random.next() as u8;
+    match random.below(4) {
+        0 => {
+            let other = if random.one_in(4) {
+                0
+            } else {
+                random.among(8, 255) as u8
+            };
+            let length = random.below(13) as usize;
+            let mut bytes = tagged(other, &vec![fill; length]);
+            bytes.extend(more(random));
+            bytes
+        }
+        1 => {
+            let lengths = [0, right - 1, right + 1, right + 256, 300, 65_535];
+            let mut bytes = tagged(tag, &vec![fill; random.pick(&lengths)]);
+            bytes.extend(more(random));
+            bytes
+        }
+        2 => {
+            // Cut anywhere, but at least one byte is there.
+            let mut bytes = tagged(tag, &vec![fill; right]);
+            bytes.truncate(random.among(1, bytes.len() as u32 - 1) as usize);
+            bytes
+        }
+        _ => {
+            // The length speaks of more than there is.
+            let length = random.pick(&[right, right + 1, 256 + right, 65_535]);
+            let mut bytes = tagged(tag, &vec![fill; length]);
+            bytes.truncate(3 + right - 1);
+            bytes
+        }
+    }
+}
+
+/// Right fields after a bad one, or nothing.
+fn more(random: &mut Random) -> Vec<u8> {
+    let turn = tagged(5, &[0]);
+    turn.repeat(random.below(3) as usize)
+}

@@ -1,0 +1,287 @@
+use std::collections::BTreeMap;
+
+use model::bench::bench;
+use model::{size, Call, Choice, Model, Reply};
+
+use crate::{field, header, stream, Profile, Traffic};
+
+/// How often each answer came. Refusals are 1 to 15.
+#[derive(Default, Debug)]
+struct Counts {
+    refused: [u64; 16],
+    accepted: BTreeMap<&'static str, u64>,
+}
+
+fn name(call: &Call, reply: &Reply) -> &'static str {
+    match (call, reply) {
+        (Call::Setup(_), _) => "setup",
+        (Call::Arrive { .. }, _) => "arrive",
+        (Call::Stitch { .. }, _) => "stitch",
+        (Call::Prefetch { .. }, _) => "prefetch",
+        (Call::Credit { .. }, _) => "credit",
+        (Call::Map { .. }, _) => "map",
+        (Call::Turn { .. }, Reply::Idle) => "idle turn",
+        (Call::Turn { .. }, _) => "turn",
+        (Call::Ready { .. }, _) => "ready",
+        (Call::Where { .. }, _) => "where",
+    }
+}
+
+/// 200,000 calls of a profile, over some seeds. Both choices of the turn
+/// answer the same, the check holds, and a refusal changes nothing.
+fn run(profile: Profile, memory_len: usize) -> Counts {
+    let mut counts = Counts::default();
+    for seed in 0..8 {
+        let mut traffic = Traffic::new(seed, profile);
+        let mut whole = Model::with_choice(memory_len, Choice::WholeWord);
+        let mut early = Model::with_choice(memory_len, Choice::EarlyOut);
+        for number in 0..25_000 {
+            let call = traffic.next(&whole);
+            let before = (number % 20 == 0).then(|| whole.clone());
+            let reply = whole.call(&call);
+            assert_eq!(early.call(&call), reply, "{call:?}");
+            match reply {
+                Reply::Refused(refusal) => counts.refused[refusal as usize] += 1,
+                _ => *counts.accepted.entry(name(&call, &reply)).or_default() += 1,
+            }
+            if let (Some(before), Reply::Refused(_) | Reply::Idle) = (before, reply) {
+                assert_eq!(whole, before, "{call:?}");
+            }
+            if number % 100 == 0 {
+                assert_eq!(
+                    whole.check(),
+                    Ok(()),
+                    "{profile:?}, seed {seed}, call {number}"
+                );
+                assert_eq!(whole.ledger(), early.ledger());
+            }
+        }
+    }
+    println!("{profile:?}: {:?}", counts.accepted);
+    println!("  refused 1 to 15: {:?}", &counts.refused[1..]);
+    counts
+}
+
+fn accepted(counts: &Counts) -> u64 {
+    counts.accepted.values().sum()
+}
+
+fn each_refusal_at_least(counts: &Counts, least: u64) {
+    for refusal in 4..=15 {
+        let times = counts.refused[refusal];
+        assert!(times >= least, "refusal {refusal}: {times} times");
+    }
+    assert!(counts.refused[3] > 0);
+}
+
+fn each_call_at_least(counts: &Counts, least: u64) {
+    for call in [
+        "arrive",
+        "stitch",
+        "prefetch",
+        "credit",
+        "map",
+        "idle turn",
+        "turn",
+        "ready",
+        "where",
+    ] {
+        let times = counts.accepted.get(call).copied().unwrap_or(0);
+        assert!(times >= least, "{call}: {times} times");
+    }
+}
+
+#[test]
+fn valid_traffic() {
+    let counts = run(Profile::Valid, 65_536);
+    assert!(accepted(&counts) > 190_000);
+    each_call_at_least(&counts, 500);
+    each_refusal_at_least(&counts, 30);
+}
+
+#[test]
+fn hostile_traffic() {
+    let counts = run(Profile::Hostile, 65_536);
+    each_call_at_least(&counts, 500);
+    each_refusal_at_least(&counts, 2000);
+    assert!(counts.refused[2] > 0);
+}
+
+#[test]
+fn tiny_traffic() {
+    let counts = run(Profile::Tiny, size(2));
+    each_call_at_least(&counts, 500);
+    each_refusal_at_least(&counts, 500);
+}
+
+#[test]
+fn full_traffic() {
+    let counts = run(Profile::Full, 65_536);
+    each_call_at_least(&counts, 500);
+    each_refusal_at_least(&counts, 500);
+    // The ones that fullness brings.
+    for refusal in [10, 11, 13] {
+        assert!(counts.refused[refusal] > 3000);
+    }
+}
+
+#[test]
+fn resetup_traffic() {
+    let counts = run(Profile::Resetup, size(200));
+    each_call_at_least(&counts, 500);
+    each_refusal_at_least(&counts, 200);
+    assert!(counts.accepted["setup"] > 1000);
+    assert!(counts.refused[1] > 100 && counts.refused[2] > 100);
+}
+
+#[test]
+fn traffic_lives_with_memory_too_short_for_any_setup() {
+    let mut model = Model::new(100);
+    for profile in Profile::ALL {
+        let mut traffic = Traffic::new(5, profile);
+        for _ in 0..1000 {
+            let call = traffic.next(&model);
+            let reply = model.call(&call);
+            assert!(matches!(reply, Reply::Refused(1..=3)));
+        }
+    }
+}
+
+#[test]
+fn a_seed_gives_the_same_traffic_again() {
+    for profile in Profile::ALL {
+        let calls = |seed| {
+            let mut traffic = Traffic::new(seed, profile);
+            let mut model = Model::new(65_536);
+            let mut next = || {
+                let call = traffic.next(&model);
+                model.call(&call);
+                call
+            };
+            (0..2000).map(|_| next()).collect::<Vec<_>>()
+        };
+        assert_eq!(calls(1), calls(1));
+        assert_ne!(calls(1), calls(2));
+    }
+}
+
+#[test]
+fn header_cards() {
+    let plain =
+        |dest, source, queue, length| header(dest, source, queue, length, false, false, 0, 0, 0);
+    assert_eq!(plain(0, 0, 0, 12), [0, 0, 0x30, 0, 0, 0, 0, 0, 0, 0x72]);
+    assert_eq!(plain(1, 2, 23, 8191)[..3], [0x6B, 0xFF, 0xFC]);
+}
+
+#[test]
+fn headers_are_read_back() {
+    for dest in 0..4 {
+        for source in 0..4 {
+            for queue in 0..24 {
+                for length in (0..8192).step_by(63) {
+                    let bytes = header(
+                        dest,
+                        source,
+                        queue,
+                        length,
+                        length % 2 == 0,
+                        length % 3 == 0,
+                        0xFEDC_BA98,
+                        0x76,
+                        0x54,
+                    );
+                    let read = model::header::read(&bytes);
+                    assert_eq!(u32::from(read.destination), dest);
+                    assert_eq!(u32::from(read.source), source);
+                    assert_eq!(u32::from(read.queue), queue);
+                    assert_eq!(u32::from(read.length), length);
+                    assert_eq!(read.poisoned, length % 2 == 0);
+                    assert_eq!(read.timestamp, 0xFEDC_BA98);
+                    assert_eq!((read.offered, read.transaction), (0x76, 0x54));
+                    assert!(read.checksum_fits);
+                }
+            }
+        }
+    }
+}
+
+/// A line of the bench program after its number, from the model's answer.
+fn wanted_words(call: &Call, reply: &Reply) -> String {
+    match (call, reply) {
+        (_, Reply::Refused(number)) => format!("{number}"),
+        (_, Reply::Entry(entry)) => format!("0 {entry}"),
+        (_, Reply::Stitched(record)) => {
+            format!("0 {}", u32::from(record[0]) * 256 + u32::from(record[1]))
+        }
+        (_, Reply::Leaves(packet, _)) => format!("0 {}", packet.entry),
+        (_, Reply::Idle) => "0 idle".into(),
+        (_, Reply::Done) => "0".into(),
+        other => panic!("{other:?}"),
+    }
+}
+
+#[test]
+fn fields_go_through_the_bench_program() {
+    for profile in Profile::ALL {
+        let mut traffic = Traffic::new(11, profile);
+        let mut model = Model::new(65_536);
+        let (mut input, mut wanted, mut number) = (Vec::new(), String::new(), 0);
+        for _ in 0..20_000 {
+            let call = traffic.next(&model);
+            let Some(field) = field(&call) else { continue };
+            input.extend(field);
+            number += 1;
+            let reply = model.call(&call);
+            wanted += &format!("{number} {}\n", wanted_words(&call, &reply));
+        }
+        assert!(number > 10_000);
+        assert_eq!(String::from_utf8(bench(&input)).unwrap(), wanted);
+    }
+}
+
+#[test]
+fn streams_have_their_fields_and_some_end_badly() {
+    let (mut good, mut bad) = (0, 0);
+    for seed in 0..400 {
+        let n = (seed % 40) as usize;
+        let input = stream(seed, n);
+        assert_eq!(input, stream(seed, n));
+        let output = String::from_utf8(bench(&input)).unwrap();
+        let lines: Vec<&str> = output.lines().collect();
+        assert!(output.is_empty() || output.ends_with('\n'));
+        for (number, line) in (1..).zip(&lines) {
+            assert_eq!(line.split(' ').next(), Some(format!("{number}").as_str()));
+            assert_eq!(line.ends_with("bad"), number == n + 1, "{line}");
+        }
+        if lines.len() == n {
+            good += 1;
+        } else {
+            assert_eq!(lines.len(), n + 1);
+            bad += 1;
+        }
+    }
+    assert!(good > 100 && bad > 100);
+}
+
+#[test]
+fn fields_have_no_room_for_larger_numbers() {
+    assert_eq!(field(&Call::Turn { port: 255 }), Some(vec![5, 0, 1, 255]));
+    assert_eq!(field(&Call::Turn { port: 256 }), None);
+    assert_eq!(field(&Call::Ready { port: 0 }), None);
+    assert_eq!(field(&Call::Where { entry: 0 }), None);
+    let nine = Call::Arrive {
+        port: 0,
+        header: vec![0; 9],
+    };
+    assert_eq!(field(&nine), None);
+    let credit = |amount| Call::Credit {
+        port: 1,
+        queue: 2,
+        amount,
+    };
+    assert_eq!(
+        field(&credit(65_535)),
+        Some(vec![6, 0, 4, 1, 2, 0xFF, 0xFF])
+    );
+    assert_eq!(field(&credit(65_536)), None);
+}
