@@ -47,7 +47,7 @@ module _ (S : Settings) (m : List ℕ) where
   free-in p h x = rw (row-mod (row S) p 0 (column-lt S (free p) h))
 
 module _ (S : Settings) (ok : Roomy S) (m : List ℕ) (s : StateOf S m) where
-  abbrev L : Ledger
+  abbrev pub L : Ledger
   L = ledgerIn S m
 
   o : Orderly S L
@@ -176,13 +176,13 @@ module _ (S : Settings) (ok : Roomy S) (m : List ℕ) (s : StateOf S m) where
   -- ---- a turn that serves queue q
 
   module _ (p q : ℕ) (hp : p < S .ports) (hq : q < S .queues) (e : isEmpty (listAt S L (prefetched p q)) ≡ false) where
-    abbrev j : Packet
+    abbrev pub j : Packet
     j = firstOf S L (prefetched p q)
 
     home : Place·In S (free (owner (j .node)))
     home = (first-node S ok L o (prefetched p q) (hp, hq) e .home, some-queue S ok L o)
 
-    j-is : j ≡ packetAt S m (headOf S m (prefetched p q))
+    pub j-is : j ≡ packetAt S m (headOf S m (prefetched p q))
     j-is = first-held (prefetched p q) (hp, hq) (omega arith) e
 
     j-node : j .node ≡ headOf S m (prefetched p q)
@@ -191,11 +191,11 @@ module _ (S : Settings) (ok : Roomy S) (m : List ℕ) (s : StateOf S m) where
     fits : (j .queue ≡ q) × Proper S j
     fits = let f = first-fits S ok L o (prefetched p q) (hp, hq) e in (f .1, f .2)
 
-    abbrev given : ℕ
+    abbrev pub given : ℕ
     given = arrivalOf S L (owner (j .node)) q + j .price
 
     -- the credit that goes back fits: it stands in a sound ledger afterwards
-    given-fits : given < 65536
+    pub given-fits : given < 65536
     given-fits = go q hq (fits .0) (λ h. after-in h)
       where
         after-in : 0 < q → arrivalOf S L (owner (j .node)) q + j .price ≤ 65535

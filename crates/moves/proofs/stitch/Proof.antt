@@ -152,8 +152,8 @@ returns-2 c =
     let from = i .ingress-list .ensures in
     let to = sh .before .before .egress-list .ensures in
     let memory : sh .shift .last .0
-        ≡ pushMem S (place# S (egress (mp .mapped .result) (k .queue))) (get S m Head (place# S (ingress (a .port)))) (popMem S (place# S (ingress (a .port))) m) =
-        sh .shift .ensures .memory ∙ rw (from, to) in
+    ≡ pushMem S (place# S (egress (mp .mapped .result) (k .queue))) (get S m Head (place# S (ingress (a .port)))) (popMem S (place# S (ingress (a .port))) m) =
+    sh .shift .ensures .memory ∙ rw (from, to) in
     (rw (c .record-of .ensures, memory) (sym (g .outcome)), c .record-of .ensures ∙ sym (ap (λ (out : Reply × List ℕ). recordIn (out .0)) (g .outcome)))
 
 pub stitch-spec : {M : Type 1} → statement M

@@ -1,0 +1,127 @@
+-- `fits::list_fits` meets its contract. The loop's invariant: what is left of the list says what the whole says, and holds nodes alone.
+-- The measure is the count of what is left. Assumes nothing.
+use Prim.Native.Nat.{_%_}
+use native.Mathlib.Omega.{arith}
+use borrow.Author.Needs.{needs}
+use borrow.Author.Tests.{not-true, not-false}
+use Rattle.ledger.specs.Settings.{row}
+use Rattle.layout.specs.Tables.{settingsOf}
+use Rattle.layout.specs.Picture.{packetAt}
+use Rattle.memory.proofs.Chains.{node-lt}
+use Rattle.fits.specs.Fits.{ruleTest, listFound}
+use Rattle.fits.specs.Walk.{Spoken}
+use Rattle.fits.proofs.Walk.{spared-whole, Left, left-start, left-none, left-node, left-bad, left-next}
+use Rattle.fits.proofs.list_fits.Statement.{statement}
+use Rattle.fits.proofs.list_fits.Tie as tie
+
+abbrev Inv-loop : tie.InvT-loop
+Inv-loop m s rule l row port column left₀ x₀ left x =
+    Left (λ y. ruleTest rule (settingsOf s) port column (packetAt (settingsOf s) m y)) (settingsOf s) m (listFound rule (settingsOf s) m l) left x
+
+abbrev μ-loop : tie.MeasureT-loop
+μ-loop m s rule l row port column left₀ x₀ left x = left
+
+-- where the walk stands: at a node of a list that the rule speaks of
+here : (c : tie.In-loop Inv-loop μ-loop)
+    → let a = c .before .before .before .before .before .before .before .before .args in
+    Spoken (a .rule) (a .l % row (settingsOf (a .s))) (a .s) (c .before .loop .x) (a .m .now)
+unfolding row
+here c =
+    let tested = c .before .before .before .before in
+    let w = tested .before .before .before .before .pre .walkable in
+    record {
+      seen = record { laid = w .laid; long = w .tidy .long; node = left-node (c .before .loop .inv) (c .loop-test .taken) };
+      spoken = rw (tested .before .spares .ensures) at (tested .if1 .left);
+    }
+
+mul-row : tie.Need-mul-row Inv-loop μ-loop
+mul-row c = omega (arith, c .before .before .pre .walkable .laid .roomy)
+
+add-row : tie.Need-add-row Inv-loop μ-loop
+add-row c = omega (arith, c .before .before .pre .walkable .laid .roomy)
+
+div-port : tie.Need-div-port Inv-loop μ-loop
+div-port c = omega arith
+
+rem-column : tie.Need-rem-column Inv-loop μ-loop
+rem-column c = omega arith
+
+spares-requires : tie.Need-spares-requires Inv-loop μ-loop
+spares-requires c κs = search needs
+
+returns : tie.Need-returns Inv-loop μ-loop
+unfolding row
+returns c =
+    let a = c .before .before .before .before .args in
+    spared-whole (a .rule) (settingsOf (a .s)) (a .m .now) (a .l) (rw (c .before .spares .ensures) at (c .if1 .taken))
+
+get4-requires : tie.Need-get4-requires Inv-loop μ-loop
+get4-requires c κs = search needs
+
+get2-requires : tie.Need-get2-requires Inv-loop μ-loop
+get2-requires c κs = search needs
+
+loop-holds : tie.Need-loop-holds Inv-loop μ-loop
+unfolding row
+loop-holds c =
+    let tested = c .before .before in
+    let start = tested .before .before .before .before in
+    let p = start .pre in
+    rw (c .before .get4 .ensures, c .get2 .ensures)
+    (left-start (start .args .rule) _ _ _ (p .walkable .tidy) (p .inside) (rw (tested .before .spares .ensures) at (tested .if1 .left)))
+
+node-fits-requires : tie.Need-node-fits-requires Inv-loop μ-loop
+unfolding row
+node-fits-requires c κs = here c
+
+cast-t15 : tie.Need-cast-t15 Inv-loop μ-loop
+cast-t15 c = let n = here (c .before .before) .seen in omega (arith, node-lt _ _ (n .laid .roomy) (n .node))
+
+returns-2 : tie.Need-returns-2 Inv-loop μ-loop
+returns-2 c =
+    let at = c .before .before in
+    left-bad (at .before .loop .inv) (at .loop-test .taken)
+    (rw (c .before .node-fits .ensures) at (not-true (c .before .node-fits .result) (c .if2 .taken)))
+
+field2-requires : tie.Need-field2-requires Inv-loop μ-loop
+field2-requires c κs = let n = here (c .before .before) in search needs
+
+sub-left : tie.Need-sub-left Inv-loop μ-loop
+sub-left c = omega arith
+
+loop-less : tie.Need-loop-less Inv-loop μ-loop
+loop-less c = omega arith
+
+loop-again : tie.Need-loop-again Inv-loop μ-loop
+loop-again c =
+    let at = c .before .before .before in
+    rw (c .field2 .ensures)
+    (left-next (at .before .loop .inv) (at .loop-test .taken)
+    (rw (c .before .before .node-fits .ensures) at (not-false (c .before .before .node-fits .result) (c .before .if2 .left))))
+
+returns-3 : tie.Need-returns-3 Inv-loop μ-loop
+returns-3 c = left-none (c .before .loop .inv) (omega arith)
+
+pub list-fits-spec : {M : Type 1} → statement M
+list-fits-spec =
+    tie.close
+    (tie.spec
+    Inv-loop
+    μ-loop
+    mul-row
+    add-row
+    div-port
+    rem-column
+    spares-requires
+    returns
+    get4-requires
+    get2-requires
+    loop-holds
+    node-fits-requires
+    cast-t15
+    returns-2
+    field2-requires
+    sub-left
+    loop-less
+    loop-again
+    returns-3)

@@ -1,0 +1,41 @@
+-- What the functions of the walk ask. Assumes nothing.
+use mathlib.Core.Path.{_≡_}
+use mathlib.Core.Bool.{true, false}
+use mathlib.Core.List.{List}
+use Prim.Native.Nat.{ℕ, _≤_, _<_}
+use lib.ListN.{length}
+use Rattle.ledger.specs.Settings.{size}
+use Rattle.ledger.specs.Ledger.{isNode}
+use Rattle.layout.specs.declared.Shape.{Shape}
+use Rattle.layout.specs.declared.Table.{Table}
+use Rattle.layout.specs.Tables.{width, many, lists, all, settingsOf, Laid}
+use Rattle.memory.specs.Ends.{Tidy}
+use Rattle.fits.specs.declared.NodeRule.{NodeRule}
+use Rattle.fits.specs.Fits.{spared}
+
+-- a whole memory of shape s, in which x is a node
+pub record NodeOf (s : Shape) (x : ℕ) (m : List ℕ) : Type 0 where
+  pub laid : Laid s
+  pub long : size (settingsOf s) ≤ length m
+  pub node : isNode (settingsOf s) x ≡ true
+
+-- table t has an element of k bytes for it
+pub record FieldOf (k : ℕ) (s : Shape) (t : Table) (x : ℕ) (m : List ℕ) : Type 0 where
+  pub seen : NodeOf s x m
+  pub wide : width t ≡ k
+  pub each : many (settingsOf s) t ≡ all (settingsOf s)
+
+-- and a list, a port's column c, of which the rule says something
+pub record Spoken (rule : NodeRule) (c : ℕ) (s : Shape) (x : ℕ) (m : List ℕ) : Type 0 where
+  pub seen : NodeOf s x m
+  pub spoken : spared rule c ≡ false
+
+-- memory of shape s that has passed rule (c)
+pub record Walkable (s : Shape) (m : List ℕ) : Type 0 where
+  pub laid : Laid s
+  pub tidy : Tidy (settingsOf s) m
+
+-- and a list of it
+pub record ListOf (s : Shape) (l : ℕ) (m : List ℕ) : Type 0 where
+  pub walkable : Walkable s m
+  pub inside : l < lists (settingsOf s)

@@ -1,0 +1,155 @@
+// Rules (d), (e) and (f) of a sound ledger, on memory whose lists hang together: one walk of the lists, which asks each node one test.
+use layout::Shape;
+use layout::Table;
+use ledger::Finding;
+ghost use mathlib.Core.Path.{_≡_};
+ghost use Prim.Native.Nat.{_≤_};
+ghost use lib.Dec.{eqb};
+ghost use Rattle.ledger.specs.Ledger.{owner};
+ghost use Rattle.layout.specs.Tables.{settingsOf, get};
+ghost use Rattle.layout.specs.Picture.{slot, packetAt};
+ghost use Rattle.fits.specs.Fits.{spared, queueAt, rangeTest, properTest, ruleTest, listFound, fitsFound};
+ghost use Rattle.fits.specs.Walk.{NodeOf, FieldOf, Spoken, Walkable, ListOf};
+
+// Which of the three rules is tested.
+pub enum NodeRule {
+    OwnPort,
+    OwnQueue,
+    Record,
+}
+
+// What a table has for a node: a read for each width.
+fn field1(m: &[u8], s: Shape, t: Table, x: u16) -> u8
+    requires { ⌜ FieldOf 1 s t x (now m) ⌝ }
+    ensures { λ r. ⌜ r ≡ get (settingsOf s) (now (m .entry)) t (slot (settingsOf s) x) ⌝ }
+{
+    layout::get1(m, s, t, layout::slot_of(s, x))
+}
+
+fn field2(m: &[u8], s: Shape, t: Table, x: u16) -> u16
+    requires { ⌜ FieldOf 2 s t x (now m) ⌝ }
+    ensures { λ r. ⌜ r ≡ get (settingsOf s) (now (m .entry)) t (slot (settingsOf s) x) ⌝ }
+{
+    layout::get2(m, s, t, layout::slot_of(s, x))
+}
+
+// Whether the rule says nothing of a port's list, by the list's column.
+fn spares(rule: NodeRule, column: usize) -> bool
+    ensures { λ r. ⌜ r ≡ spared rule column ⌝ }
+{
+    match rule {
+        NodeRule::OwnPort => 2 <= column,
+        NodeRule::OwnQueue => column < 2,
+        NodeRule::Record => column == 0,
+    }
+}
+
+// (d): a node in a free or an ingress list is its port's.
+fn own_port(port: usize, x: u16) -> bool
+    ensures { λ r. ⌜ r ≡ eqb (owner x) port ⌝ }
+{
+    let owner = (x / 2048) as usize;
+    owner == port
+}
+
+// (e): a node in an egress or a prefetch list has the list's queue.
+fn own_queue(s: Shape, column: usize, queue: usize) -> bool
+    requires { ⌜ 2 ≤ column ⌝ }
+    ensures { λ r. ⌜ r ≡ eqb queue (queueAt (settingsOf s) column) ⌝ }
+{
+    let queues = s.queues;
+    let place = column - 2;
+    if place < queues {
+        queue == place
+    } else {
+        queue == place - queues
+    }
+}
+
+// (f), of what can be out of range in the bytes that hold it.
+fn in_range(s: Shape, len: u32, queue: u32, dest: u8, poisoned: u8) -> bool
+    ensures { λ r. ⌜ r ≡ rangeTest (settingsOf s) len queue dest poisoned ⌝ }
+{
+    if len < 12 {
+        return false;
+    }
+    if 8192 <= len {
+        return false;
+    }
+    if s.queues <= queue as usize {
+        return false;
+    }
+    if 4 <= dest {
+        return false;
+    }
+    poisoned < 2
+}
+
+// (f): every field is in range, and the price is that of the queue and the length.
+fn proper(m: &[u8], s: Shape, x: u16) -> bool
+    requires { ⌜ NodeOf s x (now m) ⌝ }
+    ensures { λ r. ⌜ r ≡ properTest (settingsOf s) (packetAt (settingsOf s) (now (m .entry)) x) ⌝ }
+{
+    let len = field2(m, s, Table::Length, x) as u32;
+    let queue = field1(m, s, Table::Queue, x) as u32;
+    let dest = field1(m, s, Table::Dest, x);
+    let poisoned = field1(m, s, Table::Poisoned, x);
+    let price = field1(m, s, Table::Price, x) as u32;
+    if !in_range(s, len, queue, dest, poisoned) {
+        return false;
+    }
+    let fair = header::price_of(s.beat as u32, queue, len);
+    price == fair
+}
+
+// The rule's test of one node in a list that it speaks of.
+fn node_fits(m: &[u8], s: Shape, rule: NodeRule, port: usize, column: usize, x: u16) -> bool
+    requires { ⌜ Spoken rule column s x (now m) ⌝ }
+    ensures { λ r. ⌜ r ≡ ruleTest rule (settingsOf s) port column (packetAt (settingsOf s) (now (m .entry)) x) ⌝ }
+{
+    match rule {
+        NodeRule::OwnPort => own_port(port, x),
+        NodeRule::OwnQueue => own_queue(s, column, field1(m, s, Table::Queue, x) as usize),
+        NodeRule::Record => proper(m, s, x),
+    }
+}
+
+// The first node of a list that fails.
+fn list_fits(m: &[u8], s: Shape, rule: NodeRule, l: usize) -> Finding
+    requires { ⌜ ListOf s l (now m) ⌝ }
+    ensures { λ r. ⌜ r ≡ listFound rule (settingsOf s) (now (m .entry)) l ⌝ }
+{
+    let row = 2 + 2 * s.queues;
+    let port = l / row;
+    let column = l % row;
+    if spares(rule, column) {
+        return Finding::Whole;
+    }
+    let mut left = layout::get4(m, s, Table::Count, l);
+    let mut x = layout::get2(m, s, Table::Head, l);
+    while 0 < left {
+        if !node_fits(m, s, rule, port, column, x) {
+            return Finding::At(x as usize);
+        }
+        x = field2(m, s, Table::Next, x);
+        left -= 1;
+    }
+    Finding::Whole
+}
+
+// The first node that fails, lists in their order, each from its head.
+pub fn fits(m: &[u8], s: Shape, rule: NodeRule) -> Finding
+    requires { ⌜ Walkable s (now m) ⌝ }
+    ensures { λ r. ⌜ r ≡ fitsFound rule (settingsOf s) (now (m .entry)) ⌝ }
+{
+    let lists = s.lists;
+    let mut l = 0;
+    while l < lists {
+        let found = list_fits(m, s, rule, l);
+        if let Finding::At(_) = found {
+            return found;
+        }
+        l += 1;
+    }
+    Finding::Whole
+}

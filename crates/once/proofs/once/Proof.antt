@@ -1,0 +1,79 @@
+-- `once::once` meets its contract. The loop's invariant: what is found in all lists is what is found from `l` on. Assumes nothing.
+use borrow.Author.Needs.{needs}
+use borrow.Author.Tests.{not-true, not-false}
+use mathlib.Core.Path.{_≡_, sym, _∙_}
+use Prim.Native.Nat.{_-_}
+use native.Mathlib.Omega.{arith}
+use lib.ListN.{length}
+use Rattle.layout.specs.Tables.{all, settingsOf}
+use Rattle.layout.proofs.Shapes.{few}
+use Rattle.once.proofs.Walk.{Scanning, scan-start, scan-no, scan-yes, scan-end}
+use Rattle.once.proofs.once.Statement.{statement}
+use Rattle.once.proofs.once.Tie as tie
+
+abbrev Inv-loop : tie.InvT-loop
+Inv-loop m s marks₀ lists l₀ marks l = Scanning (settingsOf s) m marks l
+
+abbrev μ-loop : tie.MeasureT-loop
+μ-loop m s marks₀ lists l₀ marks l = lists - l
+
+-- there is a mark for each node
+fits : (c : tie.Start Inv-loop μ-loop) → length (c .args .marks .now) ≡ all (settingsOf (c .args .s))
+fits c = scan-start (settingsOf (c .args .s)) (c .args .m .now) _ (c .pre .clear) .fits
+
+loop-holds : tie.Need-loop-holds Inv-loop μ-loop
+loop-holds c = scan-start _ _ _ (c .before .before .pre .clear)
+
+walk-list-requires : tie.Need-walk-list-requires Inv-loop μ-loop
+walk-list-requires c κs = search needs
+
+same-length : tie.Need-same-length Inv-loop μ-loop
+same-length c = omega (arith, fits (c .before .before .before .before .before .before .before .before .before))
+
+returns : tie.Need-returns Inv-loop μ-loop
+returns c =
+    let w = c .before .before .before in
+    let turn = w .before .before in
+    sym (scan-no (turn .before .loop .inv) (omega arith) (sym (w .walk-list .ensures .answer) ∙ not-true _ (c .if1 .taken)))
+
+add-l : tie.Need-add-l Inv-loop μ-loop
+add-l c = search needs
+
+loop-less : tie.Need-loop-less Inv-loop μ-loop
+loop-less c = search needs
+
+loop-again : tie.Need-loop-again Inv-loop μ-loop
+loop-again c =
+    let w = c .before .before .before in
+    let turn = w .before .before in
+    let yes = not-false _ (c .if1 .left) in
+    scan-yes (turn .before .loop .inv) (omega arith) (sym (w .walk-list .ensures .answer) ∙ yes) _ (w .walk-list .kept .1 .1 .1 .0) (w .walk-list .ensures .after yes)
+
+first-unmarked-requires : tie.Need-first-unmarked-requires Inv-loop μ-loop
+first-unmarked-requires c κs = omega (arith, few _ (c .before .before .before .before .before .pre .laid .roomy))
+
+same-length-2 : tie.Need-same-length-2 Inv-loop μ-loop
+same-length-2 c = omega (arith, fits (c .before .before .before .before .before .before))
+
+returns-2 : tie.Need-returns-2 Inv-loop μ-loop
+returns-2 c =
+    let end = c .before .before in
+    let laid = end .before .before .before .before .pre .laid in
+    c .first-unmarked .ensures ∙ rw (laid .lists-are) (sym (scan-end (end .before .loop .inv) (omega arith)))
+
+pub once-spec : {M : Type 1} → statement M
+once-spec =
+    tie.close
+    (tie.spec
+    Inv-loop
+    μ-loop
+    loop-holds
+    walk-list-requires
+    same-length
+    returns
+    add-l
+    loop-less
+    loop-again
+    first-unmarked-requires
+    same-length-2
+    returns-2)

@@ -1,0 +1,37 @@
+-- What the walks ask and give. Assumes nothing.
+use mathlib.Core.Path.{_≡_}
+use mathlib.Core.Bool.{Bool, true}
+use mathlib.Core.List.{List}
+use Prim.Native.Nat.{ℕ, _≤_, _<_}
+use lib.ListN.{length, replicate}
+use Rattle.ledger.specs.Settings.{size}
+use Rattle.layout.specs.declared.Shape.{Shape}
+use Rattle.layout.specs.Tables.{lists, all, settingsOf, Laid}
+use Rattle.layout.specs.Picture.{nodesOf}
+use Rattle.once.specs.Once.{isNew, mark, markAll, right}
+
+-- there is a mark for each node
+pub record Marks (s : Shape) (ms : List ℕ) : Type 0 where
+  pub laid : Laid s
+  pub fits : length ms ≡ all (settingsOf s)
+
+-- and the memory is long enough, and has a list l
+pub record Walkable (s : Shape) (m ms : List ℕ) (l : ℕ) : Type 0 where
+  pub marks : Marks s ms
+  pub long : size (settingsOf s) ≤ length m
+  pub here : l < lists (settingsOf s)
+
+-- the memory is long enough, and no mark is set
+pub record Blank (s : Shape) (m ms : List ℕ) : Type 0 where
+  pub laid : Laid s
+  pub long : size (settingsOf s) ≤ length m
+  pub clear : ms ≡ replicate (all (settingsOf s)) 0
+
+-- whether a node was new, and a list right; and the marks where that is so
+pub record Met (s : Shape) (ms : List ℕ) (x : ℕ) (ms′ : List ℕ) (r : Bool) : Type 0 where
+  pub answer : r ≡ isNew (settingsOf s) ms x
+  pub after : r ≡ true → ms′ ≡ mark (settingsOf s) ms x
+
+pub record Walked (s : Shape) (m ms : List ℕ) (l : ℕ) (ms′ : List ℕ) (r : Bool) : Type 0 where
+  pub answer : r ≡ right (settingsOf s) m ms l
+  pub after : r ≡ true → ms′ ≡ markAll (settingsOf s) ms (nodesOf (settingsOf s) m l)

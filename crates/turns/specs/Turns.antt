@@ -1,0 +1,37 @@
+-- What the code of a turn asks and gives. Assumes nothing.
+use mathlib.Core.Path.{_≡_}
+use mathlib.Core.List.{List}
+use Prim.Native.Nat.{ℕ, _≤_, _<_}
+use Rattle.ledger.specs.Ledger.{prefetched, place#, outwardOf}
+use Rattle.ledger.specs.Answers.{sentOf}
+use Rattle.ledger.specs.declared.Sent.{Sent}
+use Rattle.layout.specs.declared.Shape.{Shape}
+use Rattle.layout.specs.declared.Table.the-variants.{Count}
+use Rattle.layout.specs.Tables.{get, settingsOf}
+use Rattle.layout.specs.Picture.{packetAt, ledgerIn}
+use Rattle.memory.specs.Judged.{Works}
+use Rattle.memory.specs.Writes.{headOf, serveMem}
+
+-- a port of a state
+pub record AtPort (s : Shape) (p : ℕ) (m : List ℕ) : Type 0 where
+  pub works : Works s m
+  pub port : p < s .ports
+
+-- a queue of a port
+pub record AtQueue (s : Shape) (p q : ℕ) (m : List ℕ) : Type 0 where
+  pub works : Works s m
+  pub port : p < s .ports
+  pub queue : q < s .queues
+
+-- a queue whose oldest packet can leave: there is one, and outward credit covers it
+pub record CanServe (s : Shape) (p q : ℕ) (m : List ℕ) : Type 0 where
+  pub works : Works s m
+  pub port : p < s .ports
+  pub queue : q < s .queues
+  pub some : 0 < get (settingsOf s) m Count (place# (settingsOf s) (prefetched p q))
+  pub covered : packetAt (settingsOf s) m (headOf (settingsOf s) m (prefetched p q)) .price ≤ outwardOf (settingsOf s) (ledgerIn (settingsOf s) m) p q
+
+-- it has left
+pub record Served (s : Shape) (p q : ℕ) (m m′ : List ℕ) (k : Sent) : Type 0 where
+  pub packet : sentOf k ≡ packetAt (settingsOf s) m (headOf (settingsOf s) m (prefetched p q))
+  pub memory : m′ ≡ serveMem (settingsOf s) p q (packetAt (settingsOf s) m (headOf (settingsOf s) m (prefetched p q))) m

@@ -1,0 +1,127 @@
+// Turn and ready, on a memory that is a switch state: which queues are ready, which one a turn serves, and what leaves.
+use layout::Shape;
+use ledger::Exit;
+use ledger::Readiness;
+use ledger::Refusal;
+use ledger::Sent;
+use ledger::Turned;
+ghost use mathlib.Core.Path.{_≡_};
+ghost use mathlib.Core.List.{List};
+ghost use Prim.Native.Nat.{ℕ, _<_};
+ghost use Rattle.ledger.specs.Answers.{exitOf, turnReply, readyReply};
+ghost use Rattle.ledger.specs.Calls.{Reply, turn, ready, sideOf};
+ghost use Rattle.ledger.specs.Ready.{bit, isReady, readyWord, pick};
+ghost use Rattle.layout.specs.Tables.{settingsOf};
+ghost use Rattle.layout.specs.Picture.{ledgerIn};
+ghost use Rattle.memory.specs.Judged.{Works};
+ghost use Rattle.memory.specs.Memory.{acted};
+ghost use Rattle.turns.specs.Turns.{AtPort, AtQueue, CanServe, Served};
+
+// 1 where queue q of port p is ready, else 0.
+fn readiness(m: &[u8], s: Shape, p: usize, q: usize) -> u64
+    requires { ⌜ AtQueue s p q (now m) ⌝ }
+    ensures { λ r. ⌜ r ≡ bit (isReady (settingsOf s) (ledgerIn (settingsOf s) (now (m .entry))) p q) ⌝ }
+{
+    let at = lists::prefetch_list(s, p, q);
+    if lists::count(m, s, at) == 0 {
+        return 0;
+    }
+    if q == 0 {
+        return 1;
+    }
+    let cost = parts::price(m, s, lists::first(m, s, at));
+    let credit = parts::outward(m, s, p, q);
+    if cost as u16 <= credit {
+        return 1;
+    }
+    0
+}
+
+// The ready word of port p, made from its highest bit down.
+pub fn ready_word(m: &[u8], s: Shape, p: usize) -> u64
+    requires { ⌜ AtPort s p (now m) ⌝ }
+    ensures { λ r. ⌜ r ≡ readyWord (settingsOf s) (ledgerIn (settingsOf s) (now (m .entry))) p ⌝ }
+{
+    let mut word: u64 = 0;
+    let mut q = s.queues;
+    while 0 < q {
+        q -= 1;
+        word = word * 2 + readiness(m, s, p, q);
+    }
+    word
+}
+
+// The lowest set bit above the last served queue, or, if there is none, the lowest set bit of all.
+fn pick(word: u64, last: u8) -> u32
+    requires { ⌜ last < 64 ⌝ }
+    ensures { λ r. ⌜ r ≡ pick last word ⌝ }
+{
+    let by = last as u64;
+    let above = word >> by >> 1 << 1 << by;
+    if above == 0 {
+        return u64::trailing_zeros(word);
+    }
+    u64::trailing_zeros(above)
+}
+
+// Queue 0 stays inside.
+fn exit_of(q: u32) -> Exit
+    ensures { λ r. ⌜ exitOf r ≡ sideOf q ⌝ }
+{
+    if q == 0 {
+        return Exit::Inside;
+    }
+    Exit::Outside
+}
+
+// The oldest packet of queue q's slots leaves port p: its node goes home, its price is settled, and the queue is the last served.
+fn serve(m: &mut [u8], s: Shape, p: usize, q: usize) -> Sent
+    requires { ⌜ CanServe s p q (now m) ⌝ }
+    ensures { λ r. ⌜ Served s p q (now (m .entry)) (now (m .exit)) r ⌝ }
+{
+    let from = lists::prefetch_list(s, p, q);
+    let x = lists::first(m, s, from);
+    let k = parts::packet(m, s, x);
+    let home = (x / 2048) as usize;
+    let cost = k.price as u16;
+    let given = parts::arrival(m, s, home, q) + cost;
+    let left = parts::outward(m, s, p, q) - cost;
+    lists::shift(m, s, from, lists::free_list(s, home));
+    parts::set_arrival(m, s, home, q, given);
+    parts::set_outward(m, s, p, q, left);
+    parts::set_last(m, s, p, q as u8);
+    k
+}
+
+// The turn of a port: what leaves, or idle with nothing ready.
+pub fn turn(m: &mut [u8], s: Shape, port: u32) -> Turned
+    requires { ⌜ Works s (now m) ⌝ }
+    ensures { λ r. ⌜ _≡_ {A = Reply × List ℕ} (turnReply r, now (m .exit)) (acted (settingsOf s) (now (m .entry)) (turn port)) ⌝ }
+{
+    let p = port as usize;
+    let ports = s.ports;
+    if ports <= p {
+        return Turned::No(Refusal::NoPort);
+    }
+    let word = ready_word(m, s, p);
+    if word == 0 {
+        return Turned::Idle;
+    }
+    let q = pick(word, parts::last(m, s, p));
+    let k = serve(m, s, p, q as usize);
+    Turned::Leaves(k, exit_of(q))
+}
+
+// The ready word and the ready count of a port.
+pub fn ready(m: &[u8], s: Shape, port: u32) -> Readiness
+    requires { ⌜ Works s (now m) ⌝ }
+    ensures { λ r. ⌜ readyReply r ≡ acted (settingsOf s) (now (m .entry)) (ready port) .0 ⌝ }
+{
+    let p = port as usize;
+    let ports = s.ports;
+    if ports <= p {
+        return Readiness::No(Refusal::NoPort);
+    }
+    let word = ready_word(m, s, p);
+    Readiness::Word(word, u64::count_ones(word))
+}
