@@ -34,7 +34,7 @@ fn credit(m: &[u8], s: Shape, t: Table, p: usize, q: usize) -> u16
     layout::get2(m, s, t, cell_of(s, p, q))
 }
 
-// Of queue 0 nothing is written.
+// Queue 0 has no credit to write.
 fn set_credit(m: &mut [u8], s: Shape, t: Table, p: usize, q: usize, v: u16)
     requires { ⌜ InCredits s t p q (now m) ⌝ }
     ensures { λ _. ⌜ now (m .exit) ≡ creditMem (settingsOf s) t p q v (now (m .entry)) ⌝ }

@@ -44,7 +44,16 @@ returns : tie.Need-returns
 unfolding popMem
 returns c = record {
   first = c .before .before .before .before .before .before .before .before .before .before .before .first .ensures;
-  memory = cc;
+  memory =
+      let linked = c .before .before .before .before .before .before .before .before in
+      rw (
+        c .before .before .put4 .ensures,
+        c .before .before .before .before .before .before .put2 .ensures,
+        linked .get2 .ensures,
+        linked .before .before .slot-of .ensures,
+        linked .before .before .before .first .ensures,
+        linked .before .before .before .before .before .count .ensures,
+      );
 }
 
 pub pop-spec : {M : Type 1} → statement M

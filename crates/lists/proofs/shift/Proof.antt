@@ -23,7 +23,9 @@ same-length : tie.Need-same-length
 same-length c = search needs
 
 returns : tie.Need-returns
-returns c = record { first = c .before .before .before .before .before .before .pop .ensures .first; memory = cc }
+returns c =
+    let popped = c .before .before .before .before .before .before .pop .ensures in
+    record { first = popped .first; memory = rw (c .before .before .push .ensures, popped .memory, popped .first) }
 
 pub shift-spec : {M : Type 1} → statement M
 shift-spec = tie.close (tie.spec pop-requires push-requires same-length returns)

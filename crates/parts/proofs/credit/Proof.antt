@@ -17,7 +17,7 @@ get2-requires : tie.Need-get2-requires
 get2-requires c κs = cell-reads (c .before .before .before .pre) (omega arith) (c .cell-of .ensures)
 
 returns-2 : tie.Need-returns-2
-returns-2 c = cc (credit-is (c .before .before .before .before .pre) (omega arith))
+returns-2 c = rw (credit-is (c .before .before .before .before .pre) (omega arith), c .get2 .ensures, c .before .cell-of .ensures)
 
 pub credit-spec : {M : Type 1} → statement M
 credit-spec = tie.close (tie.spec returns cell-of-requires get2-requires returns-2)

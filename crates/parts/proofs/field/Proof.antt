@@ -13,7 +13,7 @@ get1-requires c κs =
     slot-reads (pre .wide) (pre .each) (node-slot (pre .record-of) (c .slot-of .ensures))
 
 returns : tie.Need-returns
-returns c = cc
+returns c = rw (c .get1 .ensures, c .before .slot-of .ensures)
 
 pub field-spec : {M : Type 1} → statement M
 field-spec = tie.close (tie.spec slot-of-requires get1-requires returns)

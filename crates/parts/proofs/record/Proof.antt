@@ -26,7 +26,8 @@ same-length c = search needs
 
 returns : tie.Need-returns
 unfolding recordMem
-returns c = cc
+returns c =
+    rw (c .before .before .record-rest .ensures, c .before .before .before .before .before .before .record-way .ensures, c .before .before .before .before .before .before .before .before .before .before .record-wide .ensures, c .before .before .before .before .before .before .before .before .before .before .before .before .slot-of .ensures)
 
 pub record-spec : {M : Type 1} → statement M
 record-spec = tie.close (tie.spec slot-of-requires record-wide-requires record-way-requires record-rest-requires same-length returns)

@@ -21,7 +21,7 @@ same-length c = search needs
 returns-2 : tie.Need-returns-2
 returns-2 c =
     let a = c .before .before .before .before .before .before .before .args in
-    cc (put-paid _ (a .t) (a .p) (a .q) (a .v) (a .m .now) (omega arith))
+    rw (put-paid _ (a .t) (a .p) (a .q) (a .v) (a .m .now) (omega arith), c .before .before .put2 .ensures, c .before .before .before .cell-of .ensures)
 
 pub set-credit-spec : {M : Type 1} → statement M
 set-credit-spec = tie.close (tie.spec returns cell-of-requires put2-requires same-length returns-2)

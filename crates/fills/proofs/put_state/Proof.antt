@@ -1,0 +1,55 @@
+-- `fills::put_state` meets its contract. Assumes nothing.
+use native.Mathlib.Omega.{arith}
+use borrow.Author.Needs.{needs}
+use Rattle.layout.specs.Tables.{settingsOf}
+use Rattle.fills.proofs.Fills.{written-along}
+use Rattle.fills.proofs.put_state.Statement.{statement}
+use Rattle.fills.proofs.put_state.Tie as tie
+
+size-of-requires : tie.Need-size-of-requires
+size-of-requires c κs = search needs
+
+clear-requires : tie.Need-clear-requires
+clear-requires c κs = search needs
+
+put-settings-requires : tie.Need-put-settings-requires
+put-settings-requires c κs = search needs
+
+put-marks-requires : tie.Need-put-marks-requires
+put-marks-requires c κs = search needs
+
+put-line-requires : tie.Need-put-line-requires
+put-line-requires c κs = search needs
+
+put-free-lists-requires : tie.Need-put-free-lists-requires
+put-free-lists-requires c κs = search needs
+
+same-length : tie.Need-same-length
+same-length c = search needs
+
+returns : tie.Need-returns
+returns c =
+    let start = c .before .before .before .before .before .before .before .before .before .before .before .before .before .before .before .before .before .before .before .before .before .before in
+    rw (
+      c .before .before .put-free-lists .ensures,
+      c .before .before .before .before .before .before .put-line .ensures,
+      c .before .before .before .before .before .before .before .before .before .before .put-marks .ensures,
+      c .before .before .before .before .before .before .before .before .before .before .before .before .before .before .put-settings .ensures,
+      c .before .before .before .before .before .before .before .before .before .before .before .before .before .before .before .before .before .before .clear .ensures,
+      c .before .before .before .before .before .before .before .before .before .before .before .before .before .before .before .before .before .before .before .size-of .ensures,
+      start .pre .laid .cells-are,
+    )
+    (written-along (settingsOf (start .args .s)) _ _ (λ p. omega arith) (λ p. omega arith) (start .args .m .now))
+
+pub put-state-spec : {M : Type 1} → statement M
+put-state-spec =
+    tie.close
+    (tie.spec
+    size-of-requires
+    clear-requires
+    put-settings-requires
+    put-marks-requires
+    put-line-requires
+    put-free-lists-requires
+    same-length
+    returns)
