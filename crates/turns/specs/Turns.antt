@@ -2,12 +2,14 @@
 use mathlib.Core.Path.{_≡_}
 use mathlib.Core.List.{List}
 use Prim.Native.Nat.{ℕ, _≤_, _<_}
+use lib.ListN.{length}
+use Rattle.ledger.specs.Settings.{size}
 use Rattle.ledger.specs.Ledger.{prefetched, place#, outwardOf}
 use Rattle.ledger.specs.Answers.{sentOf}
 use Rattle.ledger.specs.declared.Sent.{Sent}
 use Rattle.layout.specs.declared.Shape.{Shape}
 use Rattle.layout.specs.declared.Table.the-variants.{Count}
-use Rattle.layout.specs.Tables.{get, settingsOf}
+use Rattle.layout.specs.Tables.{get, settingsOf, Laid}
 use Rattle.layout.specs.Picture.{packetAt, ledgerIn}
 use Rattle.memory.specs.Judged.{Works}
 use Rattle.memory.specs.Writes.{headOf, serveMem}
@@ -22,6 +24,14 @@ pub record AtQueue (s : Shape) (p q : ℕ) (m : List ℕ) : Type 0 where
   pub works : Works s m
   pub port : p < s .ports
   pub queue : q < s .queues
+
+-- the credits and the mark that a departure changes stand in the memory m of a state of shape s
+pub record CanSettle (s : Shape) (p q home : ℕ) (m : List ℕ) : Type 0 where
+  pub laid : Laid s
+  pub long : size (settingsOf s) ≤ length m
+  pub port : p < s .ports
+  pub queue : q < s .queues
+  pub owner-in : home < s .ports
 
 -- a queue whose oldest packet can leave: there is one, and outward credit covers it
 pub record CanServe (s : Shape) (p q : ℕ) (m : List ℕ) : Type 0 where

@@ -11,11 +11,13 @@ ghost use Prim.Native.Nat.{ℕ, _<_};
 ghost use Rattle.ledger.specs.Answers.{exitOf, turnReply, readyReply};
 ghost use Rattle.ledger.specs.Calls.{Reply, turn, ready, sideOf};
 ghost use Rattle.ledger.specs.Ready.{bit, isReady, readyWord, pick};
-ghost use Rattle.layout.specs.Tables.{settingsOf};
+ghost use Rattle.layout.specs.declared.Table.the-variants.{Last, Arrival, Outward};
+ghost use Rattle.layout.specs.Tables.{settingsOf, put};
 ghost use Rattle.layout.specs.Picture.{ledgerIn};
 ghost use Rattle.memory.specs.Judged.{Works};
+ghost use Rattle.memory.specs.Writes.{creditMem};
 ghost use Rattle.memory.specs.Memory.{acted};
-ghost use Rattle.turns.specs.Turns.{AtPort, AtQueue, CanServe, Served};
+ghost use Rattle.turns.specs.Turns.{AtPort, AtQueue, CanSettle, CanServe, Served};
 
 // 1 where queue q of port p is ready, else 0.
 fn readiness(m: &[u8], s: Shape, p: usize, q: usize) -> u64
@@ -74,6 +76,16 @@ fn exit_of(q: u32) -> Exit
     Exit::Outside
 }
 
+// The credits and the mark after a packet of queue q left port p for home.
+fn settle(m: &mut [u8], s: Shape, p: usize, q: usize, home: usize, given: u16, left: u16)
+    requires { ⌜ CanSettle s p q home (now m) ⌝ }
+    ensures { λ _. ⌜ now (m .exit) ≡ put (settingsOf s) Last p q (creditMem (settingsOf s) Outward p q left (creditMem (settingsOf s) Arrival home q given (now (m .entry)))) ⌝ }
+{
+    parts::set_arrival(m, s, home, q, given);
+    parts::set_outward(m, s, p, q, left);
+    parts::set_last(m, s, p, q as u8);
+}
+
 // The oldest packet of queue q's slots leaves port p: its node goes home, its price is settled, and the queue is the last served.
 fn serve(m: &mut [u8], s: Shape, p: usize, q: usize) -> Sent
     requires { ⌜ CanServe s p q (now m) ⌝ }
@@ -87,9 +99,7 @@ fn serve(m: &mut [u8], s: Shape, p: usize, q: usize) -> Sent
     let given = parts::arrival(m, s, home, q) + cost;
     let left = parts::outward(m, s, p, q) - cost;
     lists::shift(m, s, from, lists::free_list(s, home));
-    parts::set_arrival(m, s, home, q, given);
-    parts::set_outward(m, s, p, q, left);
-    parts::set_last(m, s, p, q as u8);
+    settle(m, s, p, q, home, given, left);
     k
 }
 

@@ -1,46 +1,74 @@
+-- `turns::ready_word` meets its contract. The loop's invariant: the word so far has a bit for each queue from q on. Assumes nothing.
+use mathlib.Core.Path.{_≡_, refl, sym, ap, _∙_}
+use Prim.Native.Nat.{ℕ, _+_, _-_, _*_, _^_, _≤_, _<_}
+use native.Mathlib.Omega.{arith}
+use borrow.Author.Needs.{needs}
+use Rattle.ledger.specs.Ready.{bit, isReady, wordOf, readyWord}
+use Rattle.ledger.proofs.Places.{bit-le}
+use Rattle.layout.specs.Tables.{settingsOf}
+use Rattle.layout.specs.Picture.{ledgerIn}
+use Rattle.turns.proofs.Laws.{word-down, word-start, word-end, word-room}
 use Rattle.turns.proofs.ready_word.Statement.{statement}
 use Rattle.turns.proofs.ready_word.Tie as tie
-use Rattle.turns.proofs.ready_word.Reads as reads
-use Rattle.turns.proofs.ready_word.Lts as lts
-use Rattle.turns.proofs.readiness.Reads as readiness-reads
 
 abbrev Inv-loop : tie.InvT-loop
-Inv-loop m s p word₀ q₀ word q = ?
+Inv-loop m s p word₀ q₀ word q =
+    (q ≤ s .queues) × (word ≡ wordOf (λ i. isReady (settingsOf s) (ledgerIn (settingsOf s) m) p (q + i)) (s .queues - q))
 
 abbrev μ-loop : tie.MeasureT-loop
-μ-loop m s p word₀ q₀ word q = ?
+μ-loop m s p word₀ q₀ word q = q
 
--- src/lib.rt:47:5
 loop-holds : tie.Need-loop-holds Inv-loop μ-loop
-loop-holds c = ?
+loop-holds c =
+    let a = c .before .args in
+    (omega arith, word-start (isReady (settingsOf (a .s)) (ledgerIn (settingsOf (a .s)) (a .m .now)) (a .p)) (a .s .queues))
 
--- src/lib.rt:48:9
+-- there is room for one bit more
+room : (c : tie.In-loop Inv-loop μ-loop) → c .before .loop .word < 2 ^ 63
+room c =
+    let st = c .before .before .before in
+    let a = st .args in
+    rw (c .before .loop .inv .1)
+    (word-room (isReady (settingsOf (a .s)) (ledgerIn (settingsOf (a .s)) (a .m .now)) (a .p)) (a .s .queues) (c .before .loop .q)
+    (st .pre .works .laid .roomy .few-queues) (c .loop-test .taken) (c .before .loop .inv .0))
+
 sub-q : tie.Need-sub-q Inv-loop μ-loop
-sub-q c = ?
+sub-q c = omega arith
 
--- src/lib.rt:49:16
 mul-word : tie.Need-mul-word Inv-loop μ-loop
-mul-word c = ?
+mul-word c = omega (arith, room c)
 
--- src/lib.rt:49:27
 readiness-requires : tie.Need-readiness-requires Inv-loop μ-loop
-readiness-requires c κs = ?
+readiness-requires c κs =
+    let p = c .before .before .before .pre in
+    record { works = p .works; port = p .port; queue = omega arith }
 
--- src/lib.rt:49:16
 add-word : tie.Need-add-word Inv-loop μ-loop
-add-word c = ?
+add-word c =
+    let st = c .before .before .before .before in
+    let a = st .args in
+    omega (arith, room (c .before), c .readiness .ensures, bit-le (isReady (settingsOf (a .s)) (ledgerIn (settingsOf (a .s)) (a .m .now)) (a .p) (c .before .before .loop .q - 1)))
 
--- src/lib.rt:47:5
 loop-less : tie.Need-loop-less Inv-loop μ-loop
-loop-less c = ?
+loop-less c = omega arith
 
--- src/lib.rt:47:5
 loop-again : tie.Need-loop-again Inv-loop μ-loop
-loop-again c = ?
+loop-again c =
+    let st = c .before .before .before .before in
+    let a = st .args in
+    let q = c .before .before .loop .q in
+    let r = isReady (settingsOf (a .s)) (ledgerIn (settingsOf (a .s)) (a .m .now)) (a .p) in (
+      omega arith,
+      rw (c .before .before .loop .inv .1, c .readiness .ensures) (word-down r (a .s .queues) q (c .before .loop-test .taken) (c .before .before .loop .inv .0)),
+    )
 
--- src/lib.rt:41:1
 returns : tie.Need-returns Inv-loop μ-loop
-returns c = ?
+unfolding readyWord
+returns c =
+    let st = c .before .before .before in
+    let a = st .args in
+    let z : c .before .loop .q ≡ 0 = omega arith in
+    c .before .loop .inv .1 ∙ word-end (isReady (settingsOf (a .s)) (ledgerIn (settingsOf (a .s)) (a .m .now)) (a .p)) (a .s .queues) (c .before .loop .q) z
 
 pub ready-word-spec : {M : Type 1} → statement M
 ready-word-spec =

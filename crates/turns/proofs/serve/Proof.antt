@@ -10,75 +10,61 @@ use Rattle.lists.proofs.shift.Reads as shift-reads
 use Rattle.parts.proofs.arrival.Reads as arrival-reads
 use Rattle.parts.proofs.outward.Reads as outward-reads
 use Rattle.parts.proofs.packet.Reads as packet-reads
-use Rattle.parts.proofs.set_arrival.Reads as set-arrival-reads
-use Rattle.parts.proofs.set_last.Reads as set-last-reads
-use Rattle.parts.proofs.set_outward.Reads as set-outward-reads
+use Rattle.turns.proofs.settle.Reads as settle-reads
 
--- src/lib.rt:82:9
+-- src/lib.rt:94:9
 prefetch-list-requires : tie.Need-prefetch-list-requires
 prefetch-list-requires c κs = search needs
 
--- src/lib.rt:83:9
+-- src/lib.rt:95:9
 first-requires : tie.Need-first-requires
 first-requires c κs = ?
 
--- src/lib.rt:84:9
+-- src/lib.rt:96:9
 packet-requires : tie.Need-packet-requires
 packet-requires c κs = ?
 
--- src/lib.rt:85:16
+-- src/lib.rt:97:16
 cast-home : tie.Need-cast-home
 cast-home c = search needs
 
--- src/lib.rt:86:16
+-- src/lib.rt:98:16
 cast-cost : tie.Need-cast-cost
 cast-cost c = search needs
 
--- src/lib.rt:87:17
+-- src/lib.rt:99:17
 arrival-requires : tie.Need-arrival-requires
 arrival-requires c κs = ?
 
--- src/lib.rt:87:17
+-- src/lib.rt:99:17
 add-given : tie.Need-add-given
 add-given c = ?
 
--- src/lib.rt:88:16
+-- src/lib.rt:100:16
 outward-requires : tie.Need-outward-requires
 outward-requires c κs = search needs
 
--- src/lib.rt:88:16
+-- src/lib.rt:100:16
 sub-left : tie.Need-sub-left
 sub-left c = ?
 
--- src/lib.rt:89:30
+-- src/lib.rt:101:30
 free-list-requires : tie.Need-free-list-requires
 free-list-requires c κs = ?
 
--- src/lib.rt:89:5
+-- src/lib.rt:101:5
 shift-requires : tie.Need-shift-requires
 shift-requires c κs = ?
 
--- src/lib.rt:90:5
-set-arrival-requires : tie.Need-set-arrival-requires
-set-arrival-requires c κs = ?
+-- src/lib.rt:102:5
+settle-requires : tie.Need-settle-requires
+settle-requires c κs = ?
 
--- src/lib.rt:91:5
-set-outward-requires : tie.Need-set-outward-requires
-set-outward-requires c κs = ?
-
--- src/lib.rt:92:30
-cast-set-last : tie.Need-cast-set-last
-cast-set-last c = ?
-
--- src/lib.rt:92:5
-set-last-requires : tie.Need-set-last-requires
-set-last-requires c κs = ?
-
--- src/lib.rt:78:1
+-- src/lib.rt:90:1
 same-length : tie.Need-same-length
 same-length c = search needs
 
--- src/lib.rt:78:1
+-- src/lib.rt:90:1
 returns : tie.Need-returns
 returns c = ?
 
@@ -97,9 +83,6 @@ serve-spec =
     sub-left
     free-list-requires
     shift-requires
-    set-arrival-requires
-    set-outward-requires
-    cast-set-last
-    set-last-requires
+    settle-requires
     same-length
     returns)

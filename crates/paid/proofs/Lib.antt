@@ -1,0 +1,3 @@
+pub mod Adding
+pub mod Passing
+pub mod Owing

@@ -1,0 +1,90 @@
+-- `paid::add_list` meets its contract. Assumes nothing.
+use mathlib.Core.Path.{refl, sym, _∙_}
+use mathlib.Core.Logic.{_≢_}
+use Prim.Native.Nat.{_-_, _%_}
+use native.Mathlib.Omega.{arith}
+use Rattle.ledger.specs.Settings.{row}
+use Rattle.layout.specs.declared.Table.the-variants.{Head, Count}
+use Rattle.layout.specs.Tables.{settingsOf}
+use Rattle.paid.proofs.Adding.{free-list}
+use Rattle.paid.proofs.Passing.{list-reads, Walking, walk-start, walk-counted, walk-held, walk-next, walk-end}
+use Rattle.paid.proofs.add_list.Statement.{statement}
+use Rattle.paid.proofs.add_list.Tie as tie
+
+abbrev Inv-loop : tie.InvT-loop
+Inv-loop m s sums₀ l row n x₀ i₀ sums x i = Walking (settingsOf s) m sums₀ l n sums x i
+
+abbrev μ-loop : tie.MeasureT-loop
+μ-loop m s sums₀ l row n x₀ i₀ sums x i = n - i
+
+used : (c : tie.Else1 Inv-loop μ-loop) → c .before .before .before .before .args .l % row (settingsOf (c .before .before .before .before .args .s)) ≢ 0
+unfolding row
+used c = c .if1 .left
+
+mul-row : tie.Need-mul-row Inv-loop μ-loop
+mul-row c = omega arith
+
+add-row : tie.Need-add-row Inv-loop μ-loop
+add-row c = omega arith
+
+rem-if1 : tie.Need-rem-if1 Inv-loop μ-loop
+rem-if1 c = omega arith
+
+returns : tie.Need-returns Inv-loop μ-loop
+unfolding row
+returns c = sym (free-list _ _ _ _ (c .if1 .taken))
+
+get4-requires : tie.Need-get4-requires Inv-loop μ-loop
+get4-requires c κs = list-reads (c .before .before .before .before .pre) Count refl refl
+
+get2-requires : tie.Need-get2-requires Inv-loop μ-loop
+get2-requires c κs = list-reads (c .before .before .before .before .before .pre) Head refl refl
+
+loop-holds : tie.Need-loop-holds Inv-loop μ-loop
+loop-holds c = walk-start _ _ _ _ _ _ (c .before .before .before .before .before .before .pre) (used (c .before .before)) (c .before .get4 .ensures) (c .get2 .ensures)
+
+add-node-requires : tie.Need-add-node-requires Inv-loop μ-loop
+add-node-requires c κs =
+    let start = c .before .before .before .before .before .before .before .before .before in
+    let at = c .before .before in
+    record {
+      laid = start .pre .laid;
+      long = start .pre .payable .tidy .long;
+      counted = walk-counted _ _ _ _ _ _ _ _ (at .loop .inv) (c .before .loop-test .taken);
+      held = walk-held _ _ _ _ _ _ _ _ (at .loop .inv) (start .pre .laid .roomy) (start .pre .inside);
+    }
+
+add-i : tie.Need-add-i Inv-loop μ-loop
+add-i c = omega arith
+
+loop-less : tie.Need-loop-less Inv-loop μ-loop
+loop-less c = omega arith
+
+loop-again : tie.Need-loop-again Inv-loop μ-loop
+loop-again c = walk-next _ _ _ _ _ _ _ _ (c .before .before .before .before .before .loop .inv) _ _ (c .before .before .before .before .loop-test .taken) (c .before .before .add-node .ensures)
+
+same-length : tie.Need-same-length Inv-loop μ-loop
+same-length c = c .before .loop .inv .held .many ∙ sym (c .before .before .before .before .before .before .before .before .pre .held .many)
+
+returns-2 : tie.Need-returns-2 Inv-loop μ-loop
+returns-2 c = walk-end _ _ _ _ _ _ _ _ (c .before .loop .inv) (c .loop-test .left) (used (c .before .before .before .before))
+
+pub add-list-spec : {M : Type 1} → statement M
+add-list-spec =
+    tie.close
+    (tie.spec
+    Inv-loop
+    μ-loop
+    mul-row
+    add-row
+    rem-if1
+    returns
+    get4-requires
+    get2-requires
+    loop-holds
+    add-node-requires
+    add-i
+    loop-less
+    loop-again
+    same-length
+    returns-2)

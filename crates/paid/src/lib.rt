@@ -1,0 +1,105 @@
+// Rule (g) of a switch state, on memory that keeps the rules before it: an arrival credit, with the prices of the nodes that it was
+// spent on, is K.
+use layout::Shape;
+use layout::Table;
+use ledger::Finding;
+ghost use mathlib.Core.Path.{_≡_};
+ghost use Prim.Native.Nat.{_-_, _<_};
+ghost use Rattle.ledger.specs.Ledger.{owner, cell};
+ghost use Rattle.layout.specs.Tables.{settingsOf, Laid};
+ghost use Rattle.paid.specs.Paid.{addList, sumsOf, settledAt, dueFound, paidFound};
+ghost use Rattle.paid.specs.Passes.{InQueue, Adds, Added, AddsList, Pays, Settles, SettlesAt};
+
+// The credit cell of node x, which is of this queue and not of queue 0.
+fn cell_of(s: Shape, x: u16, queue: usize) -> usize
+    requires { ⌜ InQueue s x queue ⌝ }
+    ensures { λ r. ⌜ r ≡ cell (settingsOf s) (owner x) (queue - 1) ⌝ }
+{
+    let queues = s.queues;
+    let port = (x / 2048) as usize;
+    port * (queues - 1) + (queue - 1)
+}
+
+// Adds the price of node x to the sum of its cell, and answers the node after x.
+fn add_node(m: &[u8], s: Shape, sums: &mut [u64], x: u16) -> u16
+    requires { ⌜ Adds s (now m) (now sums) x ⌝ }
+    ensures { λ r. ⌜ Added (settingsOf s) (now (m .entry)) (now (sums .entry)) x (now (sums .exit)) r ⌝ }
+{
+    let at = layout::slot_of(s, x);
+    let next = layout::get2(m, s, Table::Next, at);
+    let queue = layout::get1(m, s, Table::Queue, at) as usize;
+    if queue == 0 {
+        return next;
+    }
+    let price = layout::get1(m, s, Table::Price, at) as u64;
+    let c = cell_of(s, x, queue);
+    sums[c] = sums[c] + price;
+    next
+}
+
+// Adds the prices of the nodes of list l, unless it is a free list.
+fn add_list(m: &[u8], s: Shape, sums: &mut [u64], l: usize)
+    requires { ⌜ AddsList s (now m) (now sums) l ⌝ }
+    ensures { λ _. ⌜ now (sums .exit) ≡ addList (settingsOf s) (now (m .entry)) (now (sums .entry)) l ⌝ }
+{
+    let row = 2 + 2 * s.queues;
+    if l % row == 0 {
+        return;
+    }
+    let n = layout::get4(m, s, Table::Count, l);
+    let mut x = layout::get2(m, s, Table::Head, l);
+    let mut i: u32 = 0;
+    while i < n {
+        x = add_node(m, s, sums, x);
+        i += 1;
+    }
+}
+
+// Adds the prices of all nodes that aren't free to sums of 0.
+fn add_lists(m: &[u8], s: Shape, sums: &mut [u64])
+    requires { ⌜ Pays s (now m) (now sums) ⌝ }
+    ensures { λ _. ⌜ now (sums .exit) ≡ sumsOf (settingsOf s) (now (m .entry)) ⌝ }
+{
+    let lists = s.lists;
+    let mut l = 0;
+    while l < lists {
+        add_list(m, s, sums, l);
+        l += 1;
+    }
+}
+
+// Whether the credit of cell c and its sum are K together.
+fn settled(m: &[u8], s: Shape, sums: &[u64], c: usize) -> bool
+    requires { ⌜ SettlesAt s (now m) (now sums) c ⌝ }
+    ensures { λ r. ⌜ r ≡ settledAt (settingsOf s) (now (m .entry)) (now (sums .entry)) c ⌝ }
+{
+    let credit = s.credit as u64;
+    let arrival = layout::get2(m, s, Table::Arrival, c) as u64;
+    let sum = sums[c];
+    arrival + sum == credit
+}
+
+// The first cell that isn't settled.
+fn first_due(m: &[u8], s: Shape, sums: &[u64]) -> Finding
+    requires { ⌜ Settles s (now m) (now sums) ⌝ }
+    ensures { λ r. ⌜ r ≡ dueFound (settingsOf s) (now (m .entry)) (now (sums .entry)) ⌝ }
+{
+    let cells = s.cells;
+    let mut c = 0;
+    while c < cells {
+        if !settled(m, s, sums, c) {
+            return Finding::At(c);
+        }
+        c += 1;
+    }
+    Finding::Whole
+}
+
+// Rule (g): the first cell whose credit and prices aren't K together. The caller lends a sum of 0 for each cell.
+pub fn paid(m: &[u8], s: Shape, sums: &mut [u64]) -> Finding
+    requires { ⌜ Pays s (now m) (now sums) ⌝ }
+    ensures { λ r. ⌜ r ≡ paidFound (settingsOf s) (now (m .entry)) ⌝ }
+{
+    add_lists(m, s, sums);
+    first_due(m, s, sums)
+}
