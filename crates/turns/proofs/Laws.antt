@@ -23,13 +23,15 @@ use Rattle.ledger.proofs.Header.{price-free}
 use Rattle.ledger.proofs.Keep.{Fits, first-fits}
 use Rattle.ledger.proofs.Ready.{word-lt, picked-ready}
 use Rattle.ledger.proofs.Rows.{roomy}
-use Rattle.layout.specs.declared.Table.the-variants.{Head, Count}
-use Rattle.layout.specs.Tables.{lists, get}
+use Rattle.layout.specs.declared.Table.the-variants.{Last, Arrival, Outward, Head, Count}
+use Rattle.layout.specs.Tables.{lists, get, put}
 use Rattle.layout.specs.Picture.{packetAt, ledgerIn, StateOf}
-use Rattle.memory.specs.Writes.{headOf, serveMem, turnMem}
+use Rattle.memory.specs.Ends.{popMem, pushMem}
+use Rattle.memory.specs.Writes.{headOf, moveMem, creditMem, serveMem}
 use Rattle.memory.specs.Memory.{acted}
 use Rattle.memory.proofs.Paint.{empty-is, some-is, counted-some}
-use Rattle.memory.proofs.Square.{first-held}
+use Rattle.memory.proofs.Chains.{node-from}
+use Rattle.memory.proofs.Square.{first-held, j-is, given-fits}
 
 -- ---- one queue
 
@@ -173,3 +175,40 @@ module _ (S : Settings) (m : List ℕ) (p : ℕ) where
       pub leaves-is : (leaves k (sideOf q), serveMem S p q k m) ≡ acted S m (turn p)
       unfolding acted
       leaves-is = rw (leb-not (S .ports) p hp, eqb-not (readyWord S N p) 0 n) (ap (λ (j : Packet). (leaves j (sideOf q), serveMem S p q k m)) (sym k-is))
+
+-- ---- what serving writes
+
+pub home-in : (S : Settings) (x : ℕ) → isNode S x ≡ true → x / 2048 < S .ports
+home-in S x n = node-from S x n .home
+
+pub free-in : (S : Settings) → Roomy S → (h : ℕ) → h < S .ports → place# S (free h) < lists S
+free-in S ok h hh = place#-lt S (free h) (hh, omega (arith, ok .some-queues))
+
+module _ (S : Settings) (m : List ℕ) (s : StateOf S m) (p q : ℕ) (hp : p < S .ports) (hq : q < S .queues) (some : 0 < get S m Count (place# S (prefetched p q))) where
+  abbrev P : Packet
+  P = packetAt S m (headOf S m (prefetched p q))
+
+  filled : isEmpty (listAt S (ledgerIn S m) (prefetched p q)) ≡ false
+  filled = some-is S m (place# S (prefetched p q)) (place#-lt S (prefetched p q) (hp, hq)) (λ z. omega (arith, z))
+
+  -- the credit that goes back fits
+  pub given-small : arrivalOf S (ledgerIn S m) (owner (headOf S m (prefetched p q))) q + P .price < 65536
+  unfolding packetAt
+  given-small =
+      let ok = roomy S (s .sound .rows) in
+      subst (λ (k : Packet). arrivalOf S (ledgerIn S m) (owner (k .node)) q + k .price < 65536) (j-is S ok m s p q hp hq filled)
+      (given-fits S ok m s p q hp hq filled)
+
+  pub serve-mem : (m′ : List ℕ) (g l : ℕ)
+      → g ≡ arrivalOf S (ledgerIn S m) (owner (headOf S m (prefetched p q))) q + P .price
+      → l ≡ outwardOf S (ledgerIn S m) p q - P .price
+      → m′ ≡ put S Last p q (creditMem S Outward p q l (creditMem S Arrival (owner (headOf S m (prefetched p q))) q g (moveMem S (prefetched p q) (free (owner (headOf S m (prefetched p q)))) m)))
+      → m′ ≡ serveMem S p q P m
+  unfolding serveMem packetAt
+  serve-mem m′ g l eg el e = e ∙ rw (eg, el)
+
+-- the shift, in the words of the places
+pub moves-home : (S : Settings) (m : List ℕ) (p q : ℕ) (m′ : List ℕ) (a b x : ℕ) → a ≡ place# S (prefetched p q) → b ≡ place# S (free (x / 2048)) → x ≡ headOf S m (prefetched p q)
+    → m′ ≡ pushMem S b (get S m Head a) (popMem S a m) → m′ ≡ moveMem S (prefetched p q) (free (owner (headOf S m (prefetched p q)))) m
+unfolding moveMem
+moves-home S m p q m′ a b x ea eb ex e = e ∙ rw (eb, ea, ex)

@@ -1,0 +1,131 @@
+-- `arrivals::admit` meets its contract: each return is a law of what the judgement is there. Assumes nothing.
+use mathlib.Core.Path.{_≡_, sym, ap, _∙_}
+use Prim.Native.Nat.{ℕ}
+use native.Mathlib.Omega.{arith}
+use borrow.Author.Needs.{needs}
+use Rattle.ledger.specs.Ledger.{Packet, recorded, free, place#, arrivalOf}
+use Rattle.ledger.specs.Answers.{sentOf}
+use Rattle.header.specs.Parse.{headerOf}
+use Rattle.layout.specs.declared.Table.the-variants.{Head, Count}
+use Rattle.layout.specs.Tables.{settingsOf, get}
+use Rattle.layout.specs.Picture.{ledgerIn}
+use Rattle.lists.specs.Ends.{InList}
+use Rattle.arrivals.specs.Admission.{accepted, packetFor}
+use Rattle.arrivals.proofs.Laws as laws
+use Rattle.arrivals.proofs.admit.Statement.{statement}
+use Rattle.arrivals.proofs.admit.Tie as tie
+
+free-list-requires : tie.Need-free-list-requires
+free-list-requires c κs = search needs
+
+in-list : (c : tie.After-free-list) → let a = c .before .before .args in InList (a .s) (c .free-list .result) (a .m .now)
+in-list c =
+    let st = c .before .before in
+    let a = st .args in
+    record {
+      laid = st .pre .priced .laid;
+      long = st .pre .long;
+      inside = rw (c .free-list .ensures) (laws.lists-in (settingsOf (a .s)) (st .pre .priced .laid .roomy) (a .p) (st .pre .port) .0);
+    }
+
+first-requires : tie.Need-first-requires
+first-requires c κs = in-list c
+
+packet-of-requires : tie.Need-packet-of-requires
+packet-of-requires c κs = search needs
+
+-- the packet is made of the first free node
+packet-is : (c : tie.After-packet-of) → let a = c .before .before .before .before .args in
+    sentOf (c .packet-of .result) ≡ packetFor (settingsOf (a .s)) (a .m .now) (a .p) (headerOf (a .f))
+packet-is c =
+    let a = c .before .before .before .before .args in
+    c .packet-of .ensures
+    ∙ ap (λ (x : ℕ). recorded (settingsOf (a .s)) x (headerOf (a .f))) (c .before .first .ensures ∙ ap (get (settingsOf (a .s)) (a .m .now) Head) (c .before .before .free-list .ensures))
+
+queue-is : (c : tie.After-packet-of) → let a = c .before .before .before .before .args in
+    c .packet-of .result .queue ≡ packetFor (settingsOf (a .s)) (a .m .now) (a .p) (headerOf (a .f)) .queue
+queue-is c = ap (λ (k : Packet). k .queue) (packet-is c)
+
+price-is : (c : tie.After-packet-of) → let a = c .before .before .before .before .args in
+    c .packet-of .result .price ≡ packetFor (settingsOf (a .s)) (a .m .now) (a .p) (headerOf (a .f)) .price
+price-is c = ap (λ (k : Packet). k .price) (packet-is c)
+
+cast-price : tie.Need-cast-price
+cast-price c = search needs
+
+cast-arrival : tie.Need-cast-arrival
+cast-arrival c = search needs
+
+arrival-requires : tie.Need-arrival-requires
+arrival-requires c κs =
+    let k = c .before .before in
+    let st = k .before .before .before .before in
+    let a = st .args in
+    record {
+      laid = st .pre .priced .laid;
+      long = st .pre .long;
+      port = st .pre .port;
+      queue = rw (queue-is k) (laws.queue-in (settingsOf (a .s)) (st .pre .priced .laid .roomy) _ (headerOf (a .f)));
+    }
+
+-- the credit is that of its queue
+credit-is : (c : tie.After-arrival) → let a = c .before .before .before .before .before .before .before .args in
+    c .arrival .result ≡ arrivalOf (settingsOf (a .s)) (ledgerIn (settingsOf (a .s)) (a .m .now)) (a .p) (packetFor (settingsOf (a .s)) (a .m .now) (a .p) (headerOf (a .f)) .queue)
+credit-is c =
+    let k = c .before .before .before in
+    let a = k .before .before .before .before .args in
+    c .arrival .ensures ∙ ap (arrivalOf (settingsOf (a .s)) (ledgerIn (settingsOf (a .s)) (a .m .now)) (a .p)) (queue-is k)
+
+returns : tie.Need-returns
+returns c =
+    let k = c .before .before .before .before in
+    let st = k .before .before .before .before in
+    let a = st .args in
+    laws.no-credit (settingsOf (a .s)) (st .pre .priced .laid .roomy) (a .p) (st .pre .port) (a .m .now) (headerOf (a .f))
+    (omega (arith, c .if1 .taken, credit-is (c .before), price-is k))
+
+count-requires : tie.Need-count-requires
+count-requires c κs = in-list (c .before .before .before .before .before .before)
+
+count-is : (c : tie.After-count) → let a = c .before .before .before .before .before .before .before .before .before .args in
+    c .count .result ≡ get (settingsOf (a .s)) (a .m .now) Count (place# (settingsOf (a .s)) (free (a .p)))
+count-is c =
+    let free = c .before .before .before .before .before .before .before in
+    let a = free .before .before .args in
+    c .count .ensures ∙ ap (get (settingsOf (a .s)) (a .m .now) Count) (free .free-list .ensures)
+
+returns-2 : tie.Need-returns-2
+returns-2 c =
+    let e = c .before .before in
+    let k = e .before .before .before .before in
+    let st = k .before .before .before .before in
+    let a = st .args in
+    laws.no-node (settingsOf (a .s)) (st .pre .priced .laid .roomy) (a .p) (st .pre .port) (a .m .now) (headerOf (a .f))
+    (omega (arith, e .if1 .left, credit-is (e .before), price-is k))
+    (sym (count-is (c .before)) ∙ c .if2 .taken)
+
+returns-3 : tie.Need-returns-3
+returns-3 c =
+    let e = c .before .before in
+    let k = e .before .before .before .before in
+    let st = k .before .before .before .before in
+    let a = st .args in
+    ap accepted (packet-is k)
+    ∙ laws.admits (settingsOf (a .s)) (st .pre .priced .laid .roomy) (a .p) (st .pre .port) (a .m .now) (headerOf (a .f))
+    (omega (arith, e .if1 .left, credit-is (e .before), price-is k))
+    (λ z. c .if2 .left (count-is (c .before) ∙ z))
+
+pub admit-spec : {M : Type 1} → statement M
+admit-spec =
+    tie.close
+    (tie.spec
+    free-list-requires
+    first-requires
+    packet-of-requires
+    cast-price
+    cast-arrival
+    arrival-requires
+    returns
+    count-requires
+    returns-2
+    returns-3)

@@ -1,0 +1,59 @@
+-- `arrivals::arrive` meets its contract: the judge decides, and the packet that it accepts is taken in. Assumes nothing.
+use mathlib.Core.Path.{sym, ap, _∙_}
+use borrow.Author.Needs.{needs}
+use Rattle.ledger.specs.Answers.{sentOf}
+use Rattle.layout.specs.Tables.{settingsOf}
+use Rattle.arrivals.specs.Admission.{admittedOf}
+use Rattle.arrivals.proofs.Laws.{turned-away, Arrives, arrives}
+use Rattle.arrivals.proofs.arrive.Statement.{statement}
+use Rattle.arrivals.proofs.arrive.Tie as tie
+
+judge-arrive-requires : tie.Need-judge-arrive-requires
+judge-arrive-requires c κs = search needs
+
+enum-known-admitted : tie.Need-enum-known-admitted
+enum-known-admitted c = search needs
+
+enum-known-admitted-2 : tie.Need-enum-known-admitted-2
+enum-known-admitted-2 c = search needs
+
+went : (c : tie.After-admitted2) → let a = c .before .before .before .before .before .before .args in
+    Arrives (a .s) (a .m .now) (a .port) (a .h .now) (sentOf (c .admitted2 .given .0 .0))
+went c =
+    let st = c .before .before .before .before .before .before in
+    let a = st .args in
+    arrives (a .s) (a .m .now) (st .pre) (a .port) (a .h .now) (sentOf (c .admitted2 .given .0 .0))
+    (sym (ap admittedOf (c .admitted2 .given .1)) ∙ c .before .before .judge-arrive .ensures)
+
+take-in-requires : tie.Need-take-in-requires
+take-in-requires c κs = went (c .before .before) .take
+
+same-length : tie.Need-same-length
+same-length c = search needs
+
+returns : tie.Need-returns
+returns c =
+    let j = c .before .before .before in
+    let a = j .before .before .before .before .args in
+    sym (turned-away (settingsOf (a .s)) (a .m .now) (a .port) (a .h .now) _ (sym (ap admittedOf (c .before .admitted .given .1)) ∙ j .judge-arrive .ensures))
+
+same-length-2 : tie.Need-same-length-2
+same-length-2 c = search needs
+
+returns-2 : tie.Need-returns-2
+returns-2 c =
+    let done = c .before .before .before in
+    rw (done .take-in .ensures) (sym (went (done .before .before .before) .outcome))
+
+pub arrive-spec : {M : Type 1} → statement M
+arrive-spec =
+    tie.close
+    (tie.spec
+    judge-arrive-requires
+    enum-known-admitted
+    enum-known-admitted-2
+    take-in-requires
+    same-length
+    returns
+    same-length-2
+    returns-2)

@@ -1,0 +1,65 @@
+-- `arrivals::judge_arrive` meets its contract: the port, then the header's own verdict, then what its fields ask. Assumes nothing.
+use mathlib.Core.Path.{_≡_, sym, ap, _∙_}
+use borrow.Author.Needs.{needs}
+use Rattle.header.specs.Parse.{headerOf}
+use Rattle.header.specs.Judge.{good, verdict, verdictOf}
+use Rattle.layout.specs.Tables.{settingsOf}
+use Rattle.arrivals.proofs.Laws as laws
+use Rattle.arrivals.proofs.judge_arrive.Statement.{statement}
+use Rattle.arrivals.proofs.judge_arrive.Tie as tie
+
+returns : tie.Need-returns
+returns c =
+    let a = c .before .before .before .args in
+    laws.no-port (settingsOf (a .s)) (a .m .now) (a .port) (a .h .now) (c .if1 .taken)
+
+judge-requires : tie.Need-judge-requires
+judge-requires c κs = search needs
+
+enum-known-judged : tie.Need-enum-known-judged
+enum-known-judged c = search needs
+
+enum-known-judged-2 : tie.Need-enum-known-judged-2
+enum-known-judged-2 c = search needs
+
+-- the header has no fault of its own
+passed : (c : tie.After-judged2) → let a = c .before .before .before .before .before .before .args in
+    good (headerOf (c .judged2 .given .0 .0)) ≡ verdict (a .port) (a .h .now)
+passed c = sym (ap verdictOf (c .judged2 .given .1)) ∙ c .before .before .judge .ensures
+
+admit-requires : tie.Need-admit-requires
+admit-requires c κs =
+    let e = c .before .before .before .before in
+    let st = e .before .before .before in
+    record {
+      priced = record { laid = st .pre .laid; len = laws.len-in (st .args .port) (st .args .h .now) _ (passed (c .before)) };
+      long = st .pre .state .long;
+      port = e .if1 .left;
+    }
+
+returns-2 : tie.Need-returns-2
+returns-2 c =
+    let j = c .before .before .before in
+    let a = j .before .before .before .before .args in
+    laws.bad-header (settingsOf (a .s)) (a .m .now) (a .port) (a .h .now) (j .before .if1 .left) _
+    (sym (ap verdictOf (c .before .judged .given .1)) ∙ j .judge .ensures)
+
+returns-3 : tie.Need-returns-3
+returns-3 c =
+    let f = c .before .before in
+    let e = f .before .before .before in
+    let a = e .before .before .before .args in
+    c .admit .ensures
+    ∙ laws.good-header (settingsOf (a .s)) (a .m .now) (a .port) (a .h .now) (e .if1 .left) (headerOf (f .judged2 .given .0 .0)) (passed f)
+
+pub judge-arrive-spec : {M : Type 1} → statement M
+judge-arrive-spec =
+    tie.close
+    (tie.spec
+    returns
+    judge-requires
+    enum-known-judged
+    enum-known-judged-2
+    admit-requires
+    returns-2
+    returns-3)

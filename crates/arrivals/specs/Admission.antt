@@ -1,0 +1,67 @@
+-- What judging an arrival gives, what the code's answer means, and what its parts ask. Assumes nothing.
+use mathlib.Core.Path.{_≡_}
+use mathlib.Core.List.{List, [], _∷_}
+use Prim.Native.Nat.{ℕ, _^_, _≤_, _<_}
+use lib.Dec.{ltb}
+use lib.ListN.{length}
+use Rattle.ledger.specs.Settings.{Settings, size}
+use Rattle.ledger.specs.Rules.{Rule, refuse, guard}
+use Rattle.ledger.specs.Header.{Fields, fieldsOf}
+use Rattle.ledger.specs.Ledger.{Packet, recorded, free, place#, listAt, arrivalOf}
+use Rattle.ledger.specs.Calls.{arrive, isEmpty, rules}
+use Rattle.ledger.specs.Answers.{numberOf, sentOf}
+use Rattle.layout.specs.declared.Shape.{Shape}
+use Rattle.layout.specs.declared.Table.the-variants.{Count}
+use Rattle.layout.specs.Tables.{get, settingsOf, Laid}
+use Rattle.layout.specs.Picture.{ledgerIn}
+use Rattle.memory.specs.Ends.{Tidy}
+use Rattle.memory.specs.Writes.{headOf}
+use Rattle.arrivals.specs.declared.Admitted.{Admitted}
+use Rattle.arrivals.specs.declared.Admitted.the-variants.{Good, No}
+
+pub data Admission : Type 0 where
+  accepted : Packet → Admission
+  rejected : ℕ → Admission
+
+abbrev pub admittedOf : Admitted → Admission
+admittedOf (Good k) = accepted (sentOf k)
+admittedOf (No r) = rejected (numberOf r)
+
+-- what a header with these fields makes of port p's first free node
+abbrev pub packetFor : Settings → List ℕ → ℕ → Fields → Packet
+packetFor S m p f = recorded S (headOf S m (free p)) f
+
+-- the first refusal that applies, or else the packet
+unfoldable pub judgedArrival : Settings → List ℕ → ℕ → List ℕ → Admission
+judgedArrival S m p h = guard (rules S (ledgerIn S m) (arrive p h)) rejected (accepted (packetFor S m p (fieldsOf h)))
+
+-- the refusals that are left where the port is right and the header has no fault of its own
+abbrev pub lastRules : Settings → List ℕ → ℕ → Fields → List Rule
+lastRules S m p f =
+    refuse 10 (ltb (arrivalOf S (ledgerIn S m) p (packetFor S m p f .queue)) (packetFor S m p f .price))
+    ∷ refuse 11 (isEmpty (listAt S (ledgerIn S m) (free p)))
+    ∷ []
+
+unfoldable pub judgedFields : Settings → List ℕ → ℕ → Fields → Admission
+judgedFields S m p f = guard (lastRules S m p f) rejected (accepted (packetFor S m p f))
+
+-- a header whose price fits
+pub record CanPrice (s : Shape) (f : Fields) : Type 0 where
+  pub laid : Laid s
+  pub len : f .len < 2 ^ 13
+
+-- and a port of a memory long enough
+pub record CanAdmit (s : Shape) (p : ℕ) (f : Fields) (m : List ℕ) : Type 0 where
+  pub priced : CanPrice s f
+  pub long : size (settingsOf s) ≤ length m
+  pub port : p < s .ports
+
+-- packet k is of port p's first free node, and its price can be paid
+pub record CanTakeIn (s : Shape) (p : ℕ) (k : Packet) (m : List ℕ) : Type 0 where
+  pub laid : Laid s
+  pub tidy : Tidy (settingsOf s) m
+  pub port : p < s .ports
+  pub queue : k .queue < s .queues
+  pub some : 0 < get (settingsOf s) m Count (place# (settingsOf s) (free p))
+  pub node : k .node ≡ headOf (settingsOf s) m (free p)
+  pub afford : k .price ≤ arrivalOf (settingsOf s) (ledgerIn (settingsOf s) m) p (k .queue)

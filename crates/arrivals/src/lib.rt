@@ -1,0 +1,114 @@
+// Arrive, on a memory that is a switch state: judged first, then a free node takes the packet in.
+use header::HeaderFields;
+use header::Judged;
+use layout::Shape;
+use ledger::Entry;
+use ledger::EntryId;
+use ledger::Refusal;
+use ledger::Sent;
+ghost use mathlib.Core.Path.{_≡_};
+ghost use mathlib.Core.List.{List};
+ghost use Prim.Native.Nat.{ℕ};
+ghost use Rattle.ledger.specs.Ledger.{recorded};
+ghost use Rattle.ledger.specs.Answers.{sentOf, entryReply};
+ghost use Rattle.ledger.specs.Calls.{Reply, arrive};
+ghost use Rattle.header.specs.Parse.{headerOf};
+ghost use Rattle.layout.specs.Tables.{settingsOf};
+ghost use Rattle.memory.specs.Writes.{arriveMem};
+ghost use Rattle.memory.specs.Judged.{Works};
+ghost use Rattle.memory.specs.Memory.{acted};
+ghost use Rattle.arrivals.specs.Admission.{admittedOf, judgedFields, judgedArrival, CanPrice, CanAdmit, CanTakeIn};
+
+// What the judge of an arrival says: the packet to record, or the refusal.
+pub enum Admitted {
+    Good(Sent),
+    No(Refusal),
+}
+
+// The packet that a header with these fields makes of node x.
+fn packet_of(s: Shape, x: u16, f: HeaderFields) -> Sent
+    requires { ⌜ CanPrice s (headerOf f) ⌝ }
+    ensures { λ r. ⌜ sentOf r ≡ recorded (settingsOf s) x (headerOf f) ⌝ }
+{
+    let queues = s.queues;
+    let beat = s.beat;
+    let queue = header::queue_of(queues as u32, f.queue as u32);
+    let price = header::price_of(beat as u32, queue, f.len as u32);
+    Sent {
+        entry: EntryId(x),
+        length: f.len,
+        queue: queue as u8,
+        destination: f.dest,
+        timestamp: f.stamp,
+        poisoned: f.poisoned,
+        transaction: f.transaction,
+        price: price as u8,
+    }
+}
+
+// The refusals that are left where the port and the header are right: credit, then a free node.
+fn admit(m: &[u8], s: Shape, p: usize, f: HeaderFields) -> Admitted
+    requires { ⌜ CanAdmit s p (headerOf f) (now m) ⌝ }
+    ensures { λ r. ⌜ admittedOf r ≡ judgedFields (settingsOf s) (now (m .entry)) p (headerOf f) ⌝ }
+{
+    let free = lists::free_list(s, p);
+    let k = packet_of(s, lists::first(m, s, free), f);
+    let price = k.price as u16;
+    let credit = parts::arrival(m, s, p, k.queue as usize);
+    if credit < price {
+        return Admitted::No(Refusal::NoCredit);
+    }
+    if lists::count(m, s, free) == 0 {
+        return Admitted::No(Refusal::NoFreeNode);
+    }
+    Admitted::Good(k)
+}
+
+// The first refusal of an arrival that applies, or the packet that arrives.
+pub fn judge_arrive(m: &[u8], s: Shape, port: u32, h: &[u8]) -> Admitted
+    requires { ⌜ Works s (now m) ⌝ }
+    ensures { λ r. ⌜ admittedOf r ≡ judgedArrival (settingsOf s) (now (m .entry)) port (now (h .entry)) ⌝ }
+{
+    let p = port as usize;
+    let ports = s.ports;
+    if ports <= p {
+        return Admitted::No(Refusal::NoPort);
+    }
+    let judged = header::judge(h, port);
+    match judged {
+        Judged::No(r) => Admitted::No(r),
+        Judged::Good(f) => admit(m, s, p, f),
+    }
+}
+
+// Packet k, of port p's first free node, goes to the end of the ingress list, paid from the port's arrival credit.
+fn take_in(m: &mut [u8], s: Shape, p: usize, k: Sent)
+    requires { ⌜ CanTakeIn s p (sentOf k) (now m) ⌝ }
+    ensures { λ _. ⌜ now (m .exit) ≡ arriveMem (settingsOf s) p (sentOf k) (now (m .entry)) ⌝ }
+{
+    let q = k.queue as usize;
+    let price = k.price as u16;
+    let credit = parts::arrival(m, s, p, q);
+    let from = lists::free_list(s, p);
+    let to = lists::ingress_list(s, p);
+    let x = lists::pop(m, s, from);
+    parts::record(m, s, k);
+    lists::push(m, s, to, x);
+    parts::set_arrival(m, s, p, q, credit - price);
+}
+
+// The header recorded for the port's first free node, which goes to the end of the ingress list.
+pub fn arrive(m: &mut [u8], s: Shape, port: u32, h: &[u8]) -> Entry
+    requires { ⌜ Works s (now m) ⌝ }
+    ensures { λ r. ⌜ _≡_ {A = Reply × List ℕ} (entryReply r, now (m .exit)) (acted (settingsOf s) (now (m .entry)) (arrive port (now (h .entry)))) ⌝ }
+{
+    let admitted = judge_arrive(m, s, port, h);
+    match admitted {
+        Admitted::No(r) => Entry::No(r),
+        Admitted::Good(k) => {
+            take_in(m, s, port as usize, k);
+            let id = k.entry;
+            Entry::Node(id)
+        }
+    }
+}
