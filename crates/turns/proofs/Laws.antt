@@ -14,7 +14,7 @@ use Rattle.ledger.specs.Settings.{Settings}
 use Rattle.ledger.specs.Header.{price}
 use Rattle.ledger.specs.Ledger.{owner, isNode, Packet, Place, free, prefetched, place#, Ledger, listAt, arrivalOf, outwardOf, lastOf, oldest}
 use Rattle.ledger.specs.Ready.{bit, covered, isReady, wordOf, readyWord, maskedAbove, pick}
-use Rattle.ledger.specs.Calls.{Reply, refused, idle, leaves, word, turn, ready, sideOf, isEmpty, firstOf}
+use Rattle.ledger.specs.Calls.{Reply, refused, idle, leaves, word, turn, ready, Side, sideOf, isEmpty, firstOf}
 use Rattle.ledger.specs.Sound.{Roomy}
 use Rattle.ledger.proofs.Tests.{leb-is, leb-not, leb-yes, eqb-yes, eqb-not, true≢false}
 use Rattle.ledger.proofs.Places.{Place·In, place#-lt}
@@ -212,3 +212,11 @@ pub moves-home : (S : Settings) (m : List ℕ) (p q : ℕ) (m′ : List ℕ) (a 
     → m′ ≡ pushMem S b (get S m Head a) (popMem S a m) → m′ ≡ moveMem S (prefetched p q) (free (owner (headOf S m (prefetched p q)))) m
 unfolding moveMem
 moves-home S m p q m′ a b x ea eb ex e = e ∙ rw (eb, ea, ex)
+
+-- what leaves, as the code has it
+pub turn-leaves : (S : Settings) (m : List ℕ) (p : ℕ) (hp : p < S .ports) (s : StateOf S m) (n : readyWord S (ledgerIn S m) p ≡ 0 → ⊥)
+    → (q′ : ℕ) → q′ ≡ pick (lastOf (ledgerIn S m) p) (readyWord S (ledgerIn S m) p)
+    → (k′ : Packet) (side : Side) (m′ : List ℕ)
+    → k′ ≡ packetAt S m (headOf S m (prefetched p q′)) → side ≡ sideOf q′ → m′ ≡ serveMem S p q′ (packetAt S m (headOf S m (prefetched p q′))) m
+    → _≡_ {A = Reply × List ℕ} (leaves k′ side, m′) (acted S m (turn p))
+turn-leaves S m p hp s n q′ eq k′ side m′ ek es em = rw (ek, es, em, eq) (leaves-is S m p hp s n)

@@ -150,7 +150,7 @@ returns c =
     let S = settingsOf (a .s) in
     let m = a .m .now in
     let moved : sh .shift .last .0 ≡ moveMem S (prefetched (a .p) (a .q)) (free (owner (headOf S m (prefetched (a .p) (a .q))))) m =
-        moves-home S m (a .p) (a .q) (sh .shift .last .0) (l .prefetch-list .result) (sh .before .free-list .result) (f .first .result) (l .prefetch-list .ensures) (sh .before .free-list .ensures) (first-is f) (sh .shift .ensures .memory) in
+    moves-home S m (a .p) (a .q) (sh .shift .last .0) (l .prefetch-list .result) (sh .before .free-list .result) (f .first .result) (l .prefetch-list .ensures) (sh .before .free-list .ensures) (first-is f) (sh .shift .ensures .memory) in
     record {
       packet = packet-is pk;
       memory =
