@@ -1,0 +1,118 @@
+// The nine calls of the queue manager, for any memory and any numbers: nothing has to be checked by the caller. Each contract is an
+// equation that fixes answer and memory: (reply, memory after) is M of the call and the memory before.
+use ledger::Entry;
+use ledger::EntryId;
+use ledger::Plain;
+use ledger::Readiness;
+use ledger::Refusal;
+use ledger::Turned;
+use ledger::Whereabouts;
+use moves::Stitched;
+use setup::Settings;
+use sound::Tested;
+ghost use mathlib.Core.Path.{_≡_};
+ghost use mathlib.Core.List.{List};
+ghost use Prim.Native.Nat.{ℕ};
+ghost use Rattle.ledger.specs.Answers.{plainReply, stitchReply, entryReply, turnReply, readyReply, whereReply};
+ghost use Rattle.ledger.specs.Calls.{Reply, arrive, stitch, prefetch, credit, mapTo, turn, ready, whereIs};
+ghost use Rattle.ledger.specs.Desk.{act};
+ghost use Rattle.memory.specs.Memory.{M};
+ghost use Rattle.moves.specs.Stitched.{recordIn};
+ghost use Rattle.setup.specs.Told.{callOf};
+
+// Setup: writes the starting ledger, also over an older one.
+pub fn set_up(m: &mut [u8], told: Settings) -> Plain
+    ensures { λ r. ⌜ _≡_ {A = Reply × List ℕ} (plainReply r, now (m .exit)) (M (callOf told) (now (m .entry))) ⌝ }
+{
+    setup::setup(m, told)
+}
+
+// Arrive: takes a node of the port for the header; answers its entry id.
+pub fn arrive(m: &mut [u8], port: u32, header: &[u8]) -> Entry
+    ensures { λ r. ⌜ _≡_ {A = Reply × List ℕ} (entryReply r, now (m .exit)) (M (act (arrive port (now (header .entry)))) (now (m .entry))) ⌝ }
+{
+    let tested = sound::test(m);
+    match tested {
+        Tested::State(s) => arrivals::arrive(m, s, port, header),
+        Tested::NoState => Entry::No(Refusal::NoState),
+    }
+}
+
+// Stitch: the port's oldest ingress node to the egress list of the mapped port; answers the ten-byte record.
+pub fn stitch(m: &mut [u8], port: u32) -> Stitched
+    ensures { λ r. ⌜ _≡_ {A = Reply × List ℕ} (stitchReply (r .answer) (r .record), now (m .exit)) (M (act (stitch port)) (now (m .entry))) ⌝ }
+    ensures { λ r. ⌜ r .record ≡ recordIn (M (act (stitch port)) (now (m .entry)) .0) ⌝ }
+{
+    let tested = sound::test(m);
+    match tested {
+        Tested::State(s) => moves::stitch(m, s, port),
+        Tested::NoState => Stitched {
+            answer: Plain::No(Refusal::NoState),
+            record: [0u8; 10],
+        },
+    }
+}
+
+// Prefetch: the oldest egress node of a queue to the end of its prefetch list; answers its entry id.
+pub fn prefetch(m: &mut [u8], port: u32, queue: u32) -> Entry
+    ensures { λ r. ⌜ _≡_ {A = Reply × List ℕ} (entryReply r, now (m .exit)) (M (act (prefetch port queue)) (now (m .entry))) ⌝ }
+{
+    let tested = sound::test(m);
+    match tested {
+        Tested::State(s) => moves::prefetch(m, s, port, queue),
+        Tested::NoState => Entry::No(Refusal::NoState),
+    }
+}
+
+// Credit: adds to a queue's outward credit.
+pub fn credit(m: &mut [u8], port: u32, queue: u32, amount: u32) -> Plain
+    ensures { λ r. ⌜ _≡_ {A = Reply × List ℕ} (plainReply r, now (m .exit)) (M (act (credit port queue amount)) (now (m .entry))) ⌝ }
+{
+    let tested = sound::test(m);
+    match tested {
+        Tested::State(s) => credits::credit(m, s, port, queue, amount),
+        Tested::NoState => Plain::No(Refusal::NoState),
+    }
+}
+
+// Map: sets the port of one destination id.
+pub fn map_to(m: &mut [u8], id: u32, port: u32) -> Plain
+    ensures { λ r. ⌜ _≡_ {A = Reply × List ℕ} (plainReply r, now (m .exit)) (M (act (mapTo id port)) (now (m .entry))) ⌝ }
+{
+    let tested = sound::test(m);
+    match tested {
+        Tested::State(s) => credits::map_to(m, s, id, port),
+        Tested::NoState => Plain::No(Refusal::NoState),
+    }
+}
+
+// Turn: what leaves the port, or idle.
+pub fn turn(m: &mut [u8], port: u32) -> Turned
+    ensures { λ r. ⌜ _≡_ {A = Reply × List ℕ} (turnReply r, now (m .exit)) (M (act (turn port)) (now (m .entry))) ⌝ }
+{
+    let tested = sound::test(m);
+    match tested {
+        Tested::State(s) => turns::turn(m, s, port),
+        Tested::NoState => Turned::No(Refusal::NoState),
+    }
+}
+
+// Ready: the port's ready word and ready count.
+pub fn ready(m: &[u8], port: u32) -> Readiness
+    ensures { λ r. ⌜ readyReply r ≡ M (act (ready port)) (now (m .entry)) .0 ⌝ }
+{
+    match sound::test(m) {
+        Tested::State(s) => turns::ready(m, s, port),
+        Tested::NoState => Readiness::No(Refusal::NoState),
+    }
+}
+
+// Where: the node's list and its position in it.
+pub fn where_is(m: &[u8], id: EntryId) -> Whereabouts
+    ensures { λ r. ⌜ whereReply r ≡ M (act (whereIs (id .0))) (now (m .entry)) .0 ⌝ }
+{
+    match sound::test(m) {
+        Tested::State(s) => finds::where_is(m, s, id),
+        Tested::NoState => Whereabouts::No(Refusal::NoState),
+    }
+}
