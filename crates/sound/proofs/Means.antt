@@ -1,0 +1,200 @@
+-- No rule is broken exactly where the memory is a switch state. Assumes nothing.
+use mathlib.Core.Path.{_≡_, refl, sym, ap, subst, _∙_}
+use mathlib.Core.Bool.{Bool, true, false}
+use mathlib.Core.List.{List}
+use Prim.Native.Nat.{ℕ}
+use native.Mathlib.Omega.{arith}
+use Rattle.ledger.specs.declared.Finding.{Finding}
+use Rattle.ledger.specs.declared.Finding.the-variants.{Whole as whole, At}
+use Rattle.ledger.specs.Settings.{Settings, ids}
+use Rattle.ledger.specs.Sound.{Shaped}
+use Rattle.ledger.proofs.Tests.{true≢false}
+use Rattle.ledger.proofs.Rows.{roomy}
+use Rattle.layout.specs.declared.Shape.{Shape}
+use Rattle.layout.specs.declared.Table.the-variants.{Mapped, Last, Arrival, Outward}
+use Rattle.layout.specs.Tables.{cells, get, settingsOf}
+use Rattle.layout.specs.Picture as picture
+use Rattle.layout.specs.Picture.{settingsIn, ledgerIn, StateOf}
+use Rattle.memory.specs.Ends.{Tidy}
+use Rattle.memory.specs.Memory.{state-dec}
+use Rattle.memory.specs.Judged.{Works}
+use Rattle.memory.proofs.Chains.{length-tabulate, length-lists, state-tidy}
+use Rattle.ranges.specs.declared.Opened.{Opened}
+use Rattle.ranges.specs.declared.Opened.the-variants.{Fine, Wrong}
+use Rattle.ranges.specs.Opening.{shapeFor, opened, Open}
+use Rattle.ranges.specs.Ranges.{rangesFound}
+use Rattle.ranges.proofs.Opening.{shape-is, opened-is, opened-fine}
+use Rattle.ranges.proofs.Items.{ranges-means}
+use Rattle.once.specs.Once.{onceFound}
+use Rattle.once.proofs.Means.{found-whole, whole-found}
+use Rattle.fits.specs.declared.NodeRule.the-variants.{OwnPort, OwnQueue, Record}
+use Rattle.fits.specs.Fits.{fitsFound}
+use Rattle.fits.proofs.Means.{own-port-means, own-queue-means, record-means}
+use Rattle.paid.specs.Paid.{paidFound}
+use Rattle.paid.proofs.Owing.{paid-means}
+use Rattle.sound.specs.declared.Broken.{Broken}
+use Rattle.sound.specs.declared.Broken.the-variants.{Whole, A, B, C, D, E, F, G}
+use Rattle.sound.specs.declared.Tested.the-variants.{State, NoState}
+use Rattle.sound.specs.Sound.{orNext, nodesBroken, openBroken, brokenBy, brokenIn, testedBy, testedIn}
+
+-- ---- one rule and the next
+
+isWhole : Broken → Bool
+isWhole (Whole s) = true
+isWhole A = false
+isWhole (B i) = false
+isWhole (C i) = false
+isWhole (D i) = false
+isWhole (E i) = false
+isWhole (F i) = false
+isWhole (G i) = false
+
+not-whole : (b : Broken) (s : Shape) → isWhole b ≡ false → b ≡ Whole s → ⊥
+unfolding isWhole
+not-whole b s n e = true≢false (sym (ap isWhole e) ∙ n)
+
+-- where no rule is broken, the first has found nothing, and nor have the next
+or-passed : (f : Finding) (rule : ℕ → Broken) (next : Broken) (s : Shape) → ((i : ℕ) → isWhole (rule i) ≡ false) → orNext f rule next ≡ Whole s
+    → (f ≡ whole) × (next ≡ Whole s)
+or-passed whole rule next s n e = (refl, e)
+or-passed (At i) rule next s n e = absurd (not-whole (rule i) s (n i) e)
+
+-- ---- what the rules say together
+
+shaped : (S : Settings) (m : List ℕ) → Shaped S (ledgerIn S m)
+unfolding ledgerIn
+shaped S m = record {
+  lists-long = length-lists S m;
+  arrival-long = length-tabulate (get S m Arrival) 0 (cells S);
+  outward-long = length-tabulate (get S m Outward) 0 (cells S);
+  last-long = length-tabulate (get S m Last) 0 (S .ports);
+  mapped-long = length-tabulate (get S m Mapped) 0 ids;
+}
+
+-- every rule from (b) on finds nothing
+record Clean (S : Settings) (m : List ℕ) : Type 0 where
+  b : rangesFound S m ≡ whole
+  c : onceFound S m ≡ whole
+  d : fitsFound OwnPort S m ≡ whole
+  e : fitsFound OwnQueue S m ≡ whole
+  f : fitsFound Record S m ≡ whole
+  g : paidFound S m ≡ whole
+
+module _ (m : List ℕ) (s : Shape) where
+  clean-whole : Clean (settingsOf s) m → openBroken s m ≡ Whole s
+  unfolding openBroken nodesBroken
+  clean-whole k = rw (k .b, k .c, k .d, k .e, k .f, k .g)
+
+  whole-clean : (t : Shape) → openBroken s m ≡ Whole t → Clean (settingsOf s) m × (s ≡ t)
+  unfolding openBroken nodesBroken isWhole
+  whole-clean t e =
+      let S : Settings = settingsOf s in
+      let b = or-passed (rangesFound S m) B _ t (λ i. refl) e in
+      let c = or-passed (onceFound S m) C _ t (λ i. refl) (b .1) in
+      let d = or-passed (fitsFound OwnPort S m) D _ t (λ i. refl) (c .1) in
+      let f = or-passed (fitsFound OwnQueue S m) E _ t (λ i. refl) (d .1) in
+      let g = or-passed (fitsFound Record S m) F _ t (λ i. refl) (f .1) in
+      let h = or-passed (paidFound S m) G _ t (λ i. refl) (g .1) in
+      let same : s ≡ t = cc (h .1) in
+      (record { b = b .0; c = c .0; d = d .0; e = f .0; f = g .0; g = h .0 }, same)
+
+  module _ (o : Open m s) where
+    pub passed-once : onceFound (settingsOf s) m ≡ whole → Tidy (settingsOf s) m
+    passed-once e =
+        let w = found-whole (settingsOf s) m e in
+        record { long = rw (o .settings-are) (o .long); hangs = w .0; once = λ y. omega (arith, w .1 y) }
+
+    clean-state : Clean (settingsOf s) m → StateOf (settingsOf s) m
+    clean-state k =
+        let S : Settings = settingsOf s in
+        let w = found-whole S m (k .c) in
+        let proper = record-means S m .0 (k .f) in
+        let tidy = passed-once (k .c) in
+        record {
+          long = tidy .long;
+          hangs = w .0;
+          sound = record {
+            rows = rw (o .settings-are) (o .rows);
+            orderly = record {
+              shaped = shaped S m;
+              ranges = ranges-means S m (o .laid .roomy) .0 (k .b);
+              once = w .1;
+              owned = own-port-means S m .0 (k .d);
+              queued = own-queue-means S m .0 (k .e);
+              proper = proper;
+              paid = paid-means S m (o .laid .roomy) (record { tidy = tidy; proper = proper }) .0 (k .g);
+            };
+          };
+        }
+
+state-clean : (S : Settings) (m : List ℕ) → StateOf S m → Clean S m
+state-clean S m t =
+    let R = roomy S (t .sound .rows) in
+    let o = t .sound .orderly in
+    record {
+      b = ranges-means S m R .1 (o .ranges);
+      c = whole-found S m R (t .hangs, o .once);
+      d = own-port-means S m .1 (o .owned);
+      e = own-queue-means S m .1 (o .queued);
+      f = record-means S m .1 (o .proper);
+      g = paid-means S m R (record { tidy = state-tidy S m t; proper = o .proper }) .1 (o .paid);
+    }
+
+-- ---- no rule is broken exactly in a switch state
+
+module _ (m : List ℕ) where
+  pub whole-state : (s : Shape) → brokenIn m ≡ Whole s → Works s m
+  unfolding brokenIn isWhole
+  whole-state s = go (opened m) refl
+    where
+      go : (o : Opened) → opened m ≡ o → brokenBy o m ≡ Whole s → Works s m
+      go (Fine t) p e =
+          let o = opened-fine m t p in
+          let k = whole-clean m t s e in
+          subst (λ (r : Shape). Works r m) (k .1)
+          (record { laid = o .laid; settings-are = o .settings-are; state = clean-state m t o (k .0) })
+      go Wrong p e = absurd (not-whole A s refl e)
+
+  pub state-whole : picture.State m → brokenIn m ≡ Whole (shapeFor (settingsIn m))
+  unfolding brokenIn
+  state-whole t = rw (opened-is m (t .sound .rows) (t .long)) (clean-whole m (shapeFor (settingsIn m)) (state-clean (settingsIn m) m t))
+
+  -- ---- what is told of a memory
+
+  works-state : (s : Shape) → Works s m → picture.State m
+  works-state s w = subst (λ (S : Settings). StateOf S m) (w .settings-are) (w .state)
+
+  pub tested-is : (s : Shape) → Works s m → State s ≡ testedIn m
+  unfolding testedIn
+  tested-is s w = go (state-dec m)
+    where
+      go : (d : Dec (picture.State m)) → State s ≡ testedBy m d
+      go (yes t) = ap State (shape-is s (w .laid) ∙ ap shapeFor (w .settings-are))
+      go (no n) = absurd (n (works-state s w))
+
+  pub tested-not : (picture.State m → ⊥) → NoState ≡ testedIn m
+  unfolding testedIn
+  tested-not n = go (state-dec m)
+    where
+      go : (d : Dec (picture.State m)) → NoState ≡ testedBy m d
+      go (yes t) = absurd (n t)
+      go (no k) = refl
+
+  pub tested-state : (s : Shape) → testedIn m ≡ State s → Works s m
+  unfolding testedIn
+  tested-state s = go (state-dec m)
+    where
+      go : (d : Dec (picture.State m)) → testedBy m d ≡ State s → Works s m
+      go (yes t) e =
+          let p : shapeFor (settingsIn m) ≡ s = cc in
+          let o = opened-fine m (shapeFor (settingsIn m)) (opened-is m (t .sound .rows) (t .long)) in
+          subst (λ (r : Shape). Works r m) p (record { laid = o .laid; settings-are = refl; state = t })
+      go (no n) e = absurd (let z : _≡_ {A = ℕ} 0 1 = cc in omega arith)
+
+  pub tested-none : testedIn m ≡ NoState → picture.State m → ⊥
+  unfolding testedIn
+  tested-none e t = go (state-dec m) e
+    where
+      go : (d : Dec (picture.State m)) → testedBy m d ≡ NoState → ⊥
+      go (yes t) e = let z : _≡_ {A = ℕ} 0 1 = cc in omega arith
+      go (no n) e = n t

@@ -1,0 +1,67 @@
+-- `sound::open_broken` meets its contract: a rule that finds nothing leaves the answer to the next. Assumes nothing.
+use mathlib.Core.Path.{_≡_, sym, _∙_}
+use borrow.Author.Needs.{needs}
+use Rattle.ledger.specs.declared.Finding.the-variants.{Whole}
+use Rattle.layout.specs.Tables.{settingsOf}
+use Rattle.ranges.specs.Ranges.{rangesFound}
+use Rattle.ranges.proofs.Opening.{open-held}
+use Rattle.once.specs.Once.{onceFound}
+use Rattle.sound.specs.Sound.{openBroken}
+use Rattle.sound.proofs.Means.{passed-once}
+use Rattle.sound.proofs.open_broken.Statement.{statement}
+use Rattle.sound.proofs.open_broken.Tie as tie
+
+-- what each rule has found where the next is tested
+ranged : (c : tie.After-enum-told) → rangesFound (settingsOf (c .before .before .before .before .args .s)) (c .before .before .before .before .args .m .now) ≡ Whole
+ranged c = sym (c .before .before .ranges .ensures) ∙ c .enum-told .given .1
+
+met : (c : tie.After-enum-told2) → onceFound (settingsOf (c .before .before .before .before .before .before .before .args .s)) (c .before .before .before .before .before .before .before .args .m .now) ≡ Whole
+met c = sym (c .before .before .once-in .ensures) ∙ c .enum-told2 .given .1
+
+ranges-requires : tie.Need-ranges-requires
+ranges-requires c κs = open-held (c .before .pre)
+
+enum-known-i : tie.Need-enum-known-i
+enum-known-i c = search needs
+
+returns : tie.Need-returns
+unfolding openBroken
+returns c = rw (sym (c .before .before .before .ranges .ensures) ∙ c .before .i .given .1)
+
+enum-told : tie.Need-enum-told
+enum-told c = search needs
+
+once-in-requires : tie.Need-once-in-requires
+once-in-requires c κs = search needs
+
+enum-known-i-2 : tie.Need-enum-known-i-2
+enum-known-i-2 c = search needs
+
+returns-2 : tie.Need-returns-2
+unfolding openBroken
+returns-2 c = rw (ranged (c .before .before .before .before), sym (c .before .before .before .once-in .ensures) ∙ c .before .i2 .given .1)
+
+enum-told-2 : tie.Need-enum-told-2
+enum-told-2 c = search needs
+
+nodes-broken-requires : tie.Need-nodes-broken-requires
+nodes-broken-requires c κs = let o = c .before .before .before .before .before .before .before .pre in record { opens = o; tidy = passed-once _ _ o (met c) }
+
+returns-3 : tie.Need-returns-3
+unfolding openBroken
+returns-3 c = rw (ranged (c .before .before .before .before), met (c .before)) (c .nodes-broken .ensures)
+
+pub open-broken-spec : {M : Type 1} → statement M
+open-broken-spec =
+    tie.close
+    (tie.spec
+    ranges-requires
+    enum-known-i
+    returns
+    enum-told
+    once-in-requires
+    enum-known-i-2
+    returns-2
+    enum-told-2
+    nodes-broken-requires
+    returns-3)

@@ -1,0 +1,72 @@
+-- Which rule a memory breaks first, and whether it is a switch state. Assumes nothing.
+use mathlib.Core.List.{List}
+use Prim.Native.Nat.{ℕ}
+use Rattle.ledger.specs.declared.Finding.{Finding}
+use Rattle.ledger.specs.declared.Finding.the-variants.{Whole as whole, At}
+use Rattle.layout.specs.declared.Shape.{Shape}
+use Rattle.layout.specs.Tables.{settingsOf}
+use Rattle.layout.specs.Picture as picture
+use Rattle.layout.specs.Picture.{settingsIn}
+use Rattle.memory.specs.Ends.{Tidy}
+use Rattle.memory.specs.Memory.{state-dec}
+use Rattle.ranges.specs.declared.Opened.{Opened}
+use Rattle.ranges.specs.declared.Opened.the-variants.{Fine, Wrong}
+use Rattle.ranges.specs.Opening.{shapeFor, opened, Open}
+use Rattle.ranges.specs.Ranges.{rangesFound}
+use Rattle.once.specs.Once.{onceFound}
+use Rattle.fits.specs.declared.NodeRule.the-variants.{OwnPort, OwnQueue, Record}
+use Rattle.fits.specs.Fits.{fitsFound}
+use Rattle.paid.specs.Paid.{paidFound}
+use Rattle.paid.specs.Passes.{Payable}
+use Rattle.sound.specs.declared.Broken.{Broken}
+use Rattle.sound.specs.declared.Broken.the-variants.{Whole, A, B, C, D, E, F, G}
+use Rattle.sound.specs.declared.Tested.{Tested}
+use Rattle.sound.specs.declared.Tested.the-variants.{State, NoState}
+
+-- ---- the first rule that is broken
+
+-- what a rule finds breaks it; else what comes after it counts
+abbrev pub orNext : Finding → (ℕ → Broken) → Broken → Broken
+orNext whole rule next = next
+orNext (At i) rule next = rule i
+
+-- (d) to (g)
+unfoldable pub nodesBroken : Shape → List ℕ → Broken
+nodesBroken s m =
+    orNext (fitsFound OwnPort (settingsOf s) m) D
+    (orNext (fitsFound OwnQueue (settingsOf s) m) E
+    (orNext (fitsFound Record (settingsOf s) m) F
+    (orNext (paidFound (settingsOf s) m) G
+    (Whole s))))
+
+-- (b) to (g)
+unfoldable pub openBroken : Shape → List ℕ → Broken
+openBroken s m = orNext (rangesFound (settingsOf s) m) B (orNext (onceFound (settingsOf s) m) C (nodesBroken s m))
+
+abbrev pub brokenBy : Opened → List ℕ → Broken
+brokenBy (Fine s) m = openBroken s m
+brokenBy Wrong m = A
+
+unfoldable pub brokenIn : List ℕ → Broken
+brokenIn m = brokenBy (opened m) m
+
+-- ---- whether it is a switch state
+
+abbrev pub testedBy : (m : List ℕ) → Dec (picture.State m) → Tested
+testedBy m (yes s) = State (shapeFor (settingsIn m))
+testedBy m (no n) = NoState
+
+unfoldable pub testedIn : List ℕ → Tested
+testedIn m = testedBy m (state-dec m)
+
+-- ---- what the functions ask
+
+-- a memory of shape s that keeps rules (a) to (c)
+pub record Tied (s : Shape) (m : List ℕ) : Type 0 where
+  pub opens : Open m s
+  pub tidy : Tidy (settingsOf s) m
+
+-- and one that keeps rule (f) too
+pub record Recorded (s : Shape) (m : List ℕ) : Type 0 where
+  pub opens : Open m s
+  pub payable : Payable (settingsOf s) m

@@ -1,0 +1,103 @@
+// Is a memory of any bytes a switch state? The seven rules in the paper's order, up to the first that is broken.
+use fits::NodeRule;
+use layout::Shape;
+use ledger::Finding;
+use ranges::Opened;
+ghost use mathlib.Core.Path.{_≡_};
+ghost use Rattle.layout.specs.Tables.{settingsOf};
+ghost use Rattle.ranges.specs.Opening.{Open};
+ghost use Rattle.once.specs.Once.{onceFound};
+ghost use Rattle.paid.specs.Paid.{paidFound};
+ghost use Rattle.sound.specs.Sound.{Tied, Recorded, nodesBroken, openBroken, brokenIn, testedIn};
+
+// The first rule that a memory breaks, with the first item that shows it; or none, with the memory's shape.
+pub enum Broken {
+    Whole(Shape),
+    A,
+    B(usize),
+    C(usize),
+    D(usize),
+    E(usize),
+    F(usize),
+    G(usize),
+}
+
+// What a call needs to know of a memory.
+pub enum Tested {
+    State(Shape),
+    NoState,
+}
+
+// Rule (c), with marks for as many nodes as a state may have.
+fn once_in(m: &[u8], s: Shape) -> Finding
+    requires { ⌜ Open (now m) s ⌝ }
+    ensures { λ r. ⌜ r ≡ onceFound (settingsOf s) (now (m .entry)) ⌝ }
+{
+    let mut marks = [0u8; 1024];
+    let all = s.all;
+    once::once(m, s, &mut marks[..all])
+}
+
+// Rule (g), with a sum for each port and queue but 0.
+fn paid_in(m: &[u8], s: Shape) -> Finding
+    requires { ⌜ Recorded s (now m) ⌝ }
+    ensures { λ r. ⌜ r ≡ paidFound (settingsOf s) (now (m .entry)) ⌝ }
+{
+    let mut sums = [0u64; 92];
+    let cells = s.cells;
+    paid::paid(m, s, &mut sums[..cells])
+}
+
+// Rules (d) to (g).
+fn nodes_broken(m: &[u8], s: Shape) -> Broken
+    requires { ⌜ Tied s (now m) ⌝ }
+    ensures { λ r. ⌜ r ≡ nodesBroken s (now (m .entry)) ⌝ }
+{
+    if let Finding::At(x) = fits::fits(m, s, NodeRule::OwnPort) {
+        return Broken::D(x);
+    }
+    if let Finding::At(x) = fits::fits(m, s, NodeRule::OwnQueue) {
+        return Broken::E(x);
+    }
+    if let Finding::At(x) = fits::fits(m, s, NodeRule::Record) {
+        return Broken::F(x);
+    }
+    if let Finding::At(c) = paid_in(m, s) {
+        return Broken::G(c);
+    }
+    Broken::Whole(s)
+}
+
+// Rules (b) to (g).
+fn open_broken(m: &[u8], s: Shape) -> Broken
+    requires { ⌜ Open (now m) s ⌝ }
+    ensures { λ r. ⌜ r ≡ openBroken s (now (m .entry)) ⌝ }
+{
+    if let Finding::At(i) = ranges::ranges(m, s) {
+        return Broken::B(i);
+    }
+    if let Finding::At(i) = once_in(m, s) {
+        return Broken::C(i);
+    }
+    nodes_broken(m, s)
+}
+
+// The first rule that is broken.
+pub fn first_broken(m: &[u8]) -> Broken
+    ensures { λ r. ⌜ r ≡ brokenIn (now (m .entry)) ⌝ }
+{
+    match ranges::open(m) {
+        Opened::Fine(s) => open_broken(m, s),
+        Opened::Wrong => Broken::A,
+    }
+}
+
+// Whether a memory is a switch state.
+pub fn test(m: &[u8]) -> Tested
+    ensures { λ r. ⌜ r ≡ testedIn (now (m .entry)) ⌝ }
+{
+    if let Broken::Whole(s) = first_broken(m) {
+        return Tested::State(s);
+    }
+    Tested::NoState
+}

@@ -1,0 +1,50 @@
+-- `switch::stitch` meets its contract: where the test says a state, the act on it is the call; else refusal 3. Assumes nothing.
+use mathlib.Core.Path.{_≡_, sym, ap, _∙_}
+use borrow.Author.Needs.{needs}
+use Rattle.ledger.specs.Calls.{stitch}
+use Rattle.moves.specs.Stitched.{recordIn}
+use Rattle.ledger.specs.Calls.{Reply}
+use mathlib.Core.List.{List}
+use Prim.Native.Nat.{ℕ}
+use Rattle.sound.proofs.Means.{tested-state}
+use Rattle.switch.proofs.Laws.{on-state, off-state}
+use Rattle.switch.proofs.stitch.Statement.{statement}
+use Rattle.switch.proofs.stitch.Tie as tie
+
+test-requires : tie.Need-test-requires
+test-requires c κs = search needs
+
+enum-known-tested : tie.Need-enum-known-tested
+enum-known-tested c = search needs
+
+stitch-requires : tie.Need-stitch-requires
+stitch-requires c κs =
+    let t = c .before .before in
+    let a = t .before .before .before .before .before .args in
+    tested-state (a .m .now) _ (sym (t .before .before .test .ensures) ∙ t .tested .given .1)
+
+enum-told : tie.Need-enum-told
+enum-told c = search needs
+
+same-length : tie.Need-same-length
+same-length c = search needs
+
+returns : tie.Need-returns
+returns c =
+    let p = c .before .before in
+    let t = p .before .before .before in
+    let a = t .before .before .before .before .before .args in
+    let e = on-state _ (a .m .now) (sym (t .before .before .test .ensures) ∙ t .tested .given .1) (stitch (a .port)) in
+    (p .stitch .ensures .0 ∙ e, p .stitch .ensures .1 ∙ ap (λ (out : Reply × List ℕ). recordIn (out .0)) e)
+
+same-length-2 : tie.Need-same-length-2
+same-length-2 c = search needs
+
+returns-2 : tie.Need-returns-2
+returns-2 c =
+    let a = c .before .before .before .before .before .args in
+    let e = off-state (a .m .now) (sym (c .before .before .test .ensures) ∙ c .enum-told .given .1) (stitch (a .port)) in
+    (e, ap (λ (out : Reply × List ℕ). recordIn (out .0)) e)
+
+pub stitch-spec : {M : Type 1} → statement M
+stitch-spec = tie.close (tie.spec test-requires enum-known-tested stitch-requires enum-told same-length returns same-length-2 returns-2)
