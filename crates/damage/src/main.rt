@@ -1,0 +1,306 @@
+// The calls and the test of the seven rules against an independent model: for six settings, 300 steps of traffic, a line for the memory
+// that they leave, then a line for each of 400 damages of one byte. The model, tools/damage_model.py, wrote this program's stdout.
+use setup::Settings;
+use sound::Broken;
+ghost use Prim.Native.Nat.{_<_, _≤_};
+
+// x modulo n, where n is no constant: proved here once.
+fn within(x: usize, n: usize) -> usize
+    requires { ⌜ 0 < n ⌝ }
+    ensures { λ r. ⌜ r < n ⌝ }
+{
+    x % n
+}
+
+// A linear congruence modulo 2³²; a draw is its upper 16 bits.
+struct Draws {
+    x: u32,
+}
+
+impl Draws {
+    fn next(self) -> Draws {
+        let x = self.x as u64;
+        Draws {
+            x: ((x * 1664525 + 1013904223) % 4294967296) as u32,
+        }
+    }
+
+    // The draw at hand, taken below n.
+    fn below(self, n: u32) -> u32
+        requires { ⌜ 0 < n ⌝ }
+        ensures { λ r. ⌜ r < n ⌝ }
+    {
+        within(self.x as usize / 65536, n as usize) as u32
+    }
+}
+
+// One byte behind those that wait in out; a full out is written first, so that a write moves many lines.
+fn put(out: &mut [u8; 4096], at: usize, b: u8) -> usize {
+    if at < 4096 {
+        out[at] = b;
+        return at + 1;
+    }
+    io::write_all(1, out);
+    out[0] = b;
+    1
+}
+
+// What still waits is written.
+fn flush(out: &[u8], at: usize) {
+    if at <= out.len() {
+        io::write_all(1, &out[..at]);
+    }
+}
+
+fn text(out: &mut [u8; 4096], start: usize, s: &[u8]) -> usize {
+    let mut at = start;
+    let mut i = 0;
+    while i < s.len() {
+        at = put(out, at, s[i]);
+        i += 1;
+    }
+    at
+}
+
+// A number and what follows it.
+fn number(out: &mut [u8; 4096], at: usize, n: u64, after: u8) -> usize {
+    let mut digits = [0u8; 20];
+    let k = io::decimal(n, &mut digits);
+    let end = text(out, at, &digits[..k]);
+    put(out, end, after)
+}
+
+// A rule's letter and the item that shows it broken.
+fn item(out: &mut [u8; 4096], at: usize, letter: u8, i: usize) -> usize {
+    let spaced = put(out, at, letter);
+    let end = put(out, spaced, b' ');
+    number(out, end, i as u64, b'\n')
+}
+
+fn rule(out: &mut [u8; 4096], at: usize, found: Broken) -> usize {
+    match found {
+        Broken::Whole(_) => text(out, at, b"-\n"),
+        Broken::A => text(out, at, b"a\n"),
+        Broken::B(i) => item(out, at, b'b', i),
+        Broken::C(i) => item(out, at, b'c', i),
+        Broken::D(i) => item(out, at, b'd', i),
+        Broken::E(i) => item(out, at, b'e', i),
+        Broken::F(i) => item(out, at, b'f', i),
+        Broken::G(i) => item(out, at, b'g', i),
+    }
+}
+
+// A packet's header arrives: eight draws.
+fn arrive(m: &mut [u8; 16384], d: Draws) -> Draws {
+    let source = d.next();
+    let dest = source.next();
+    let queue = dest.next();
+    let length = queue.next();
+    let poisoned = length.next();
+    let high = poisoned.next();
+    let low = high.next();
+    let transaction = low.next();
+    let port = source.below(4);
+    let q = queue.below(24);
+    let bytes = 12 + length.below(200);
+    let mut h = [0u8; 10];
+    h[0] = (dest.below(4) * 64 + port * 16 + q / 2) as u8;
+    h[1] = (q % 2 * 128 + bytes / 64) as u8;
+    h[2] = (bytes % 64 * 4 + poisoned.below(2) * 2) as u8;
+    h[3] = (high.below(65536) / 256) as u8;
+    h[4] = high.below(256) as u8;
+    h[5] = (low.below(65536) / 256) as u8;
+    h[6] = low.below(256) as u8;
+    h[8] = transaction.below(256) as u8;
+    h[9] = crc::checksum(&h[..9]);
+    switch::arrive(m, port, &h);
+    transaction
+}
+
+fn stitch(m: &mut [u8; 16384], d: Draws) -> Draws {
+    let port = d.next();
+    switch::stitch(m, port.below(4));
+    port
+}
+
+fn prefetch(m: &mut [u8; 16384], d: Draws) -> Draws {
+    let port = d.next();
+    let queue = port.next();
+    switch::prefetch(m, port.below(4), queue.below(24));
+    queue
+}
+
+fn credit(m: &mut [u8; 16384], d: Draws) -> Draws {
+    let port = d.next();
+    let queue = port.next();
+    let amount = queue.next();
+    switch::credit(m, port.below(4), 1 + queue.below(23), amount.below(100));
+    amount
+}
+
+// One time in four an id is mapped, otherwise a port has its turn.
+fn map_or_turn(m: &mut [u8; 16384], d: Draws) -> Draws {
+    let which = d.next();
+    let first = which.next();
+    if 0 < which.below(4) {
+        switch::turn(m, first.below(4));
+        return first;
+    }
+    let port = first.next();
+    switch::map_to(m, first.below(4), port.below(4));
+    port
+}
+
+// One step of traffic; what a call answers shows in the memory that it leaves.
+fn step(m: &mut [u8; 16384], d: Draws) -> Draws {
+    let kind = d.next();
+    let k = kind.below(8);
+    if k <= 2 {
+        return arrive(m, kind);
+    }
+    if k <= 4 {
+        return stitch(m, kind);
+    }
+    if k == 5 {
+        return prefetch(m, kind);
+    }
+    if k == 6 {
+        return credit(m, kind);
+    }
+    map_or_turn(m, kind)
+}
+
+fn traffic(m: &mut [u8; 16384], start: Draws) -> Draws {
+    let mut d = start;
+    let mut i: usize = 0;
+    while i < 300 {
+        d = step(m, d);
+        i += 1;
+    }
+    d
+}
+
+// A byte by its place, so that two bytes that change places show.
+fn weighed(i: usize, b: u8) -> u64 {
+    let place = i % 251 + 1;
+    place as u64 * b as u64
+}
+
+// The sum over the bytes below the size.
+fn checksum(m: &[u8; 16384], size: usize) -> u64
+    requires { ⌜ size ≤ 16384 ⌝ }
+{
+    let mut sum: u64 = 0;
+    let mut i = 0;
+    while i < size {
+        sum = std::num::wrapping_add_u64(sum, weighed(i, m[i]));
+        i += 1;
+    }
+    sum
+}
+
+// One byte is changed, the first broken rule told, and the byte set back: three draws.
+fn damage(
+    m: &mut [u8; 16384],
+    size: usize,
+    d: Draws,
+    j: u64,
+    out: &mut [u8; 4096],
+    start: usize,
+) -> usize
+    requires { ⌜ 0 < size ⌝ }
+    requires { ⌜ size ≤ 16384 ⌝ }
+{
+    let high = d.next();
+    let low = high.next();
+    let value = low.next();
+    let drawn = high.below(65536) * 65536 + low.below(65536);
+    let p = within(drawn as usize, size);
+    let old = m[p];
+    m[p] = value.below(256) as u8;
+    let found = sound::first_broken(m);
+    m[p] = old;
+    let second = number(out, start, j, b' ');
+    let third = number(out, second, p as u64, b' ');
+    rule(out, third, found)
+}
+
+fn damages(
+    m: &mut [u8; 16384],
+    size: usize,
+    start: Draws,
+    out: &mut [u8; 4096],
+    begin: usize,
+) -> usize
+    requires { ⌜ 0 < size ⌝ }
+    requires { ⌜ size ≤ 16384 ⌝ }
+{
+    let mut d = start;
+    let mut at = begin;
+    let mut j: u64 = 0;
+    while j < 400 {
+        at = damage(m, size, d, j, out, at);
+        d = d.next().next().next();
+        j += 1;
+    }
+    at
+}
+
+fn size_for(nodes: u32) -> usize
+    requires { ⌜ 1 ≤ nodes ⌝ }
+    requires { ⌜ nodes ≤ 256 ⌝ }
+    ensures { λ r. ⌜ 0 < r ⌝ }
+    ensures { λ r. ⌜ r ≤ 16384 ⌝ }
+{
+    layout::size_of(layout::shape_of(4, 24, nodes as usize, 64, 1, 0))
+}
+
+// What one setting gives; start is the congruence's.
+fn run(
+    nodes: u32,
+    beat: u32,
+    slots: u32,
+    credit: u32,
+    start: u32,
+    out: &mut [u8; 4096],
+    first: usize,
+) -> usize
+    requires { ⌜ 1 ≤ nodes ⌝ }
+    requires { ⌜ nodes ≤ 256 ⌝ }
+{
+    let mut m = [165u8; 16384];
+    switch::set_up(
+        &mut m,
+        Settings {
+            nodes: nodes,
+            beat: beat,
+            slots: slots,
+            credit: credit,
+        },
+    );
+    let d = traffic(&mut m, Draws { x: start });
+    let size = size_for(nodes);
+    let second = number(out, first, nodes as u64, b' ');
+    let third = number(out, second, beat as u64, b' ');
+    let fourth = number(out, third, slots as u64, b' ');
+    let fifth = number(out, fourth, credit as u64, b' ');
+    let sixth = number(out, fifth, size as u64, b' ');
+    let end = number(out, sixth, checksum(&m, size), b'\n');
+    damages(&mut m, size, d, out, end)
+}
+
+// The six settings, each with a start of its own.
+fn run_all(out: &mut [u8; 4096]) {
+    let a = run(1, 64, 1, 0, 12345, out, 0);
+    let b = run(1, 512, 8, 65535, 12346, out, a);
+    let c = run(2, 128, 2, 300, 12347, out, b);
+    let d = run(255, 256, 8, 65535, 12348, out, c);
+    let e = run(256, 64, 1, 1000, 12349, out, d);
+    let f = run(256, 512, 8, 65535, 12350, out, e);
+    flush(out, f);
+}
+
+fn main() {
+    let mut out = [0u8; 4096];
+    run_all(&mut out);
+}
