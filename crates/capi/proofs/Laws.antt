@@ -1,0 +1,97 @@
+-- How a call's answer is put together from the reply and the room, which ids are no nodes, and the size; with no code. Assumes nothing.
+use mathlib.Core.Path.{_≡_, refl, sym, ap, _∙_}
+use mathlib.Core.Logic.{inl}
+use mathlib.Core.Bool.{Bool, true, false, cond}
+use mathlib.Core.List.{List}
+use Prim.Native.Nat.{ℕ, _+_, _*_, _≤_, _<_}
+use native.Mathlib.Omega.{arith}
+use lib.Dec.{ltb}
+use Rattle.ledger.specs.Settings.{Settings, settings, inRows, row, size}
+use Rattle.ledger.specs.Ledger.{owner, isNode}
+use Rattle.ledger.specs.Calls.{Reply, refused, whereIs}
+use Rattle.ledger.specs.Desk.{act}
+use Rattle.ledger.specs.Answers.{numberOf}
+use Rattle.ledger.specs.declared.Refusal.{Refusal}
+use Rattle.ledger.specs.declared.Refusal.the-variants.{ShortMemory, BadSetting, NoState, NoPort, NoQueue, HeaderSize, Checksum, Source, TooShort, NoCredit, NoFreeNode, NothingThere, SlotsInUse, TooMuchCredit, NoSuchId}
+use Rattle.ledger.proofs.Tests.{ltb-yes, ltb-not}
+use Rattle.ledger.proofs.Rows.{Rows, this-build, size-is, beat-is}
+use Rattle.layout.specs.Picture.{settingsIn, State}
+use Rattle.memory.specs.Memory.{state-dec, acted, tested, M}
+use Rattle.setup.proofs.Answers.{no-rows, rows-beat}
+use Rattle.capi.specs.Rooms.{numberIn, told, toldIn, shown, placeRoom, sizeFor}
+
+-- ---- the answer
+
+module _ (x : Reply) (m : List ℕ) (out : Reply × List ℕ) (r : ℕ) (e : (x, m) ≡ out) (number : r ≡ numberIn x) where
+  pub tells : (r, m) ≡ told out
+  tells = rw number (ap told e)
+
+  pub tells-in : {A : Type 0} (room : Reply → A → A) (old new : A) → new ≡ room x old → (r, m, new) ≡ toldIn room old out
+  tells-in room old new q = rw (number, q) (ap (toldIn room old) e)
+
+pub shows : {A : Type 0} (room : Reply → A → A) (x y : Reply) (r : ℕ) (old new : A) → x ≡ y → r ≡ numberIn x → new ≡ room x old → (r, new) ≡ shown room old y
+shows room x y r old new e p q = rw (p, q) (ap (shown room old) e)
+
+-- 0 is no refusal's number: an answer of 0 says that the call was done
+pub never-zero : (no : Refusal) → 1 ≤ numberOf no
+never-zero ShortMemory = omega arith
+never-zero BadSetting = omega arith
+never-zero NoState = omega arith
+never-zero NoPort = omega arith
+never-zero NoQueue = omega arith
+never-zero HeaderSize = omega arith
+never-zero Checksum = omega arith
+never-zero Source = omega arith
+never-zero TooShort = omega arith
+never-zero NoCredit = omega arith
+never-zero NoFreeNode = omega arith
+never-zero NothingThere = omega arith
+never-zero SlotsInUse = omega arith
+never-zero TooMuchCredit = omega arith
+never-zero NoSuchId = omega arith
+
+-- ---- ids that are no nodes
+
+no-node : (S : Settings) → inRows S ≡ true → (y : ℕ) → 65535 ≤ y → isNode S y ≡ false
+unfolding isNode
+no-node S h y k = let b = this-build S h in rw (ltb-not (owner y) (S .ports) (omega arith))
+
+-- from 65535 on where is refused: 15, but 3 first
+pub beyond : (m : List ℕ) (y : ℕ) → 65535 ≤ y → (State m → M (act (whereIs y)) m ≡ (refused 15, m)) × ((State m → ⊥) → M (act (whereIs y)) m ≡ (refused 3, m))
+unfolding M acted
+beyond m y k = go (state-dec m)
+  where
+    go : (d : Dec (State m)) → (State m → tested m d (whereIs y) ≡ (refused 15, m)) × ((State m → ⊥) → tested m d (whereIs y) ≡ (refused 3, m))
+    go (yes s) = (λ t. rw (no-node (settingsIn m) (s .sound .rows) y k), λ n. absurd (n s))
+    go (no n) = (λ s. absurd (n s), λ n. refl)
+
+-- so an entry above 65535 may be asked as 65535
+pub asked-same :
+    (m old : List ℕ) (y : ℕ)
+    → shown (placeRoom (cond (ltb 65535 y) 65535 y)) old (M (act (whereIs (cond (ltb 65535 y) 65535 y))) m .0) ≡ shown (placeRoom y) old (M (act (whereIs y)) m .0)
+asked-same m old y = go (ltb 65535 y) refl
+  where
+    same : 65535 < y → (d : Dec (State m)) → shown (placeRoom 65535) old (M (act (whereIs 65535)) m .0) ≡ shown (placeRoom y) old (M (act (whereIs y)) m .0)
+    same h (yes s) = rw (beyond m 65535 (omega arith) .0 s, beyond m y (omega arith) .0 s)
+    same h (no n) = rw (beyond m 65535 (omega arith) .1 n, beyond m y (omega arith) .1 n)
+
+    go : (t : Bool) → ltb 65535 y ≡ t → shown (placeRoom (cond t 65535 y)) old (M (act (whereIs (cond t 65535 y))) m .0) ≡ shown (placeRoom y) old (M (act (whereIs y)) m .0)
+    go true e = same (ltb-yes 65535 y e) (state-dec m)
+    go false e = refl
+
+-- ---- the size
+
+pub size-none : (n : ℕ) → (Rows (settings n 64 1 0) → ⊥) → 0 ≡ sizeFor n
+unfolding sizeFor
+size-none n h = rw (sym (no-rows (settings n 64 1 0) h))
+
+pub size-some : (n : ℕ) → 1 ≤ n → n ≤ 256 → 1988 + 52 * n ≡ sizeFor n
+unfolding sizeFor
+size-some n h k =
+    let e : inRows (settings n 64 1 0) ≡ true = sym (rows-beat n 64 1 0 h k (omega arith) (omega arith) (omega arith)) ∙ beat-is 64 (inl refl) in
+    rw e (sym (size-is (settings n 64 1 0) e))
+
+-- the other settings do not count: memory of this size is never too short for setup
+pub size-any : (n b d k : ℕ) → size (settings n b d k) ≡ size (settings n 64 1 0)
+unfolding size row
+size-any n b d k = refl

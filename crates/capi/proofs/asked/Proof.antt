@@ -1,0 +1,17 @@
+-- `capi::asked` meets its contract: by its test. Assumes nothing.
+use borrow.Author.Needs.{needs}
+use Rattle.ledger.proofs.Tests.{ltb-is, ltb-not}
+use Rattle.capi.proofs.asked.Statement.{statement}
+use Rattle.capi.proofs.asked.Tie as tie
+
+cast-result : tie.Need-cast-result
+cast-result c = search needs
+
+returns : tie.Need-returns
+returns c = rw (ltb-is 65535 _ (c .if1 .taken))
+
+returns-2 : tie.Need-returns-2
+returns-2 c = rw (ltb-not 65535 _ (c .if1 .left))
+
+pub asked-spec : {M : Type 1} → statement M
+asked-spec = tie.close (tie.spec cast-result returns returns-2)

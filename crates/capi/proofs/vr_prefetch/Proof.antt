@@ -1,0 +1,23 @@
+-- `capi::vr_prefetch` meets its contract: the answer and the room follow the reply of the call. Assumes nothing.
+use borrow.Author.Needs.{needs}
+use Rattle.capi.specs.Rooms.{entryRoom}
+use Rattle.capi.proofs.Laws.{tells-in}
+use Rattle.capi.proofs.vr_prefetch.Statement.{statement}
+use Rattle.capi.proofs.vr_prefetch.Tie as tie
+
+prefetch-requires : tie.Need-prefetch-requires
+prefetch-requires c κs = search needs
+
+put-entry-requires : tie.Need-put-entry-requires
+put-entry-requires c κs = search needs
+
+same-length : tie.Need-same-length
+same-length c = search needs
+
+returns : tie.Need-returns
+returns c =
+    let w = c .put-entry .ensures in
+    tells-in _ _ _ _ (c .before .before .before .before .prefetch .ensures) (w .0) entryRoom _ _ (w .1)
+
+pub vr-prefetch-spec : {M : Type 1} → statement M
+vr-prefetch-spec = tie.close (tie.spec prefetch-requires put-entry-requires same-length returns)

@@ -1,0 +1,20 @@
+-- `capi::vr_ready` meets its contract: the answer and the room follow the reply of the call. Assumes nothing.
+use borrow.Author.Needs.{needs}
+use Rattle.capi.specs.Rooms.{readyRoom}
+use Rattle.capi.proofs.Laws.{shows}
+use Rattle.capi.proofs.vr_ready.Statement.{statement}
+use Rattle.capi.proofs.vr_ready.Tie as tie
+
+ready-requires : tie.Need-ready-requires
+ready-requires c κs = search needs
+
+put-ready-requires : tie.Need-put-ready-requires
+put-ready-requires c κs = search needs
+
+returns : tie.Need-returns
+returns c =
+    let w = c .put-ready .ensures in
+    shows readyRoom _ _ _ _ _ (c .before .before .before .ready .ensures) (w .0) (w .1)
+
+pub vr-ready-spec : {M : Type 1} → statement M
+vr-ready-spec = tie.close (tie.spec ready-requires put-ready-requires returns)

@@ -1,0 +1,31 @@
+-- `capi::vr_where` meets its contract: an id that is too large is asked as another that is no node, and the answer is the same. Assumes nothing.
+use mathlib.Core.Path.{ap, _∙_}
+use Prim.Native.Nat.{ℕ}
+use borrow.Author.Needs.{needs}
+use Rattle.ledger.specs.Calls.{whereIs}
+use Rattle.ledger.specs.Desk.{act}
+use Rattle.memory.specs.Memory.{M}
+use Rattle.capi.specs.Rooms.{shown, placeRoom}
+use Rattle.capi.proofs.Laws.{shows, asked-same}
+use Rattle.capi.proofs.vr_where.Statement.{statement}
+use Rattle.capi.proofs.vr_where.Tie as tie
+
+asked-requires : tie.Need-asked-requires
+asked-requires c κs = search needs
+
+where-is-requires : tie.Need-where-is-requires
+where-is-requires c κs = search needs
+
+put-place-requires : tie.Need-put-place-requires
+put-place-requires c κs = search needs
+
+returns : tie.Need-returns
+returns c =
+    let a = c .before .before .before .before .before .args in
+    let w = c .put-place .ensures in
+    shows (placeRoom (c .before .before .before .asked .result)) _ _ _ _ _ (c .before .before .where-is .ensures) (w .0) (w .1)
+    ∙ ap (λ (y : ℕ). shown (placeRoom y) (a .place .now) (M (act (whereIs y)) (a .mem .now) .0)) (c .before .before .before .asked .ensures)
+    ∙ asked-same (a .mem .now) (a .place .now) (a .entry)
+
+pub vr-where-spec : {M : Type 1} → statement M
+vr-where-spec = tie.close (tie.spec asked-requires where-is-requires put-place-requires returns)

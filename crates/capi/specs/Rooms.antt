@@ -1,0 +1,125 @@
+-- What a call of the C interface answers and leaves in the lent room, read off the reply: 0 and the reply's values, or the number of the
+-- refusal and the room as it was. Assumes nothing.
+use mathlib.Core.Bool.{cond}
+use mathlib.Core.List.{List, [], _∷_}
+use Prim.Native.Nat.{ℕ, _/_, _%_, _^_}
+use lib.ListN.{set}
+use Rattle.ledger.specs.Settings.{settings, inRows, size}
+use Rattle.ledger.specs.Ledger.{Packet, Place, free, ingress, egress, prefetched, portOf}
+use Rattle.ledger.specs.Calls.{Side, inside, outside, Reply, refused, done, entry, stitched, idle, leaves, word, found}
+
+-- the refusal's number; 0 for any other reply
+abbrev pub numberIn : Reply → ℕ
+numberIn (refused n) = n
+numberIn done = 0
+numberIn (entry x) = 0
+numberIn (stitched b) = 0
+numberIn idle = 0
+numberIn (leaves k s) = 0
+numberIn (word w n) = 0
+numberIn (found v i) = 0
+
+-- what a call answers and leaves: the number and the memory
+abbrev pub told : Reply × List ℕ → ℕ × List ℕ
+told out = (numberIn (out .0), out .1)
+
+-- the same with a room, which becomes what `room` makes of the reply and of the room as it was lent
+abbrev pub toldIn : {A : Type 0} → (Reply → A → A) → A → Reply × List ℕ → ℕ × List ℕ × A
+toldIn room old out = (numberIn (out .0), out .1, room (out .0) old)
+
+-- of a call that has the memory for reading only: the number and the room
+abbrev pub shown : {A : Type 0} → (Reply → A → A) → A → Reply → ℕ × A
+shown room old x = (numberIn x, room x old)
+
+-- ---- arrive, prefetch: the entry id
+
+abbrev pub entryRoom : Reply → ℕ → ℕ
+entryRoom (refused n) old = old
+entryRoom done old = old
+entryRoom (entry x) old = x
+entryRoom (stitched b) old = old
+entryRoom idle old = old
+entryRoom (leaves k s) old = old
+entryRoom (word w n) old = old
+entryRoom (found v i) old = old
+
+-- ---- stitch: the ten bytes of the record
+
+abbrev pub recordRoom : Reply → List ℕ → List ℕ
+recordRoom (refused n) old = old
+recordRoom done old = old
+recordRoom (entry x) old = old
+recordRoom (stitched b) old = b
+recordRoom idle old = old
+recordRoom (leaves k s) old = old
+recordRoom (word w n) old = old
+recordRoom (found v i) old = old
+
+-- ---- turn: sixteen bytes
+
+abbrev pub sideByte : Side → ℕ
+sideByte inside = 1
+sideByte outside = 2
+
+-- kind (1), queue (1), entry id (2), length (2), destination id (2), timestamp (4), poisoned (1), transaction id (1), price (2)
+unfoldable pub sentBytes : Packet → Side → List ℕ
+sentBytes k s =
+    sideByte s ∷ k .queue ∷ k .node / 256 ∷ k .node % 256 ∷ k .len / 256 ∷ k .len % 256 ∷ k .dest / 256 ∷ k .dest % 256
+    ∷ k .stamp / 2 ^ 24 ∷ k .stamp / 2 ^ 16 % 256 ∷ k .stamp / 2 ^ 8 % 256 ∷ k .stamp % 256
+    ∷ k .poisoned ∷ k .transaction ∷ k .price / 256 ∷ k .price % 256 ∷ []
+
+-- an idle turn writes the kind alone
+abbrev pub sentRoom : Reply → List ℕ → List ℕ
+sentRoom (refused n) old = old
+sentRoom done old = old
+sentRoom (entry x) old = old
+sentRoom (stitched b) old = old
+sentRoom idle old = set old 0 0
+sentRoom (leaves k s) old = sentBytes k s
+sentRoom (word w n) old = old
+sentRoom (found v i) old = old
+
+-- ---- ready: the word and the count
+
+abbrev pub readyRoom : Reply → ℕ × ℕ → ℕ × ℕ
+readyRoom (refused n) old = old
+readyRoom done old = old
+readyRoom (entry x) old = old
+readyRoom (stitched b) old = old
+readyRoom idle old = old
+readyRoom (leaves k s) old = old
+readyRoom (word w n) old = (w, n)
+readyRoom (found v i) old = old
+
+-- ---- where: eight bytes
+
+abbrev pub kindByte : Place → ℕ
+kindByte (free p) = 0
+kindByte (ingress p) = 1
+kindByte (egress p q) = 2
+kindByte (prefetched p q) = 3
+
+abbrev pub queueByte : Place → ℕ
+queueByte (free p) = 0
+queueByte (ingress p) = 0
+queueByte (egress p q) = q
+queueByte (prefetched p q) = q
+
+-- entry id (2), list kind (1), port (1), queue or 0 (1), zero (1), position (2)
+unfoldable pub placeBytes : ℕ → Place → ℕ → List ℕ
+placeBytes y v i = y / 256 ∷ y % 256 ∷ kindByte v ∷ portOf v ∷ queueByte v ∷ 0 ∷ i / 256 ∷ i % 256 ∷ []
+
+abbrev pub placeRoom : ℕ → Reply → List ℕ → List ℕ
+placeRoom y (refused n) old = old
+placeRoom y done old = old
+placeRoom y (entry x) old = old
+placeRoom y (stitched b) old = old
+placeRoom y idle old = old
+placeRoom y (leaves k s) old = old
+placeRoom y (word w n) old = old
+placeRoom y (found v i) old = placeBytes y v i
+
+-- ---- the bytes of a state, which no setting but the nodes changes: asked with the least of the others. 0 if the nodes are not in their row
+
+unfoldable pub sizeFor : ℕ → ℕ
+sizeFor n = cond (inRows (settings n 64 1 0)) (size (settings n 64 1 0)) 0
