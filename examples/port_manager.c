@@ -1,0 +1,128 @@
+/* A port manager in C: packets arrive at two ports, go to port 3 by way of the map, and leave it turn by turn. Each step is printed. */
+#include <inttypes.h>
+#include <stdio.h>
+#include <stdlib.h>
+#include <string.h>
+
+#include "ventorupo.h"
+
+enum { NODES = 4, BEAT = 64, SLOTS = 2, CREDIT = 16, OUT = 3 };
+
+struct packet {
+    uint32_t destination, source, queue, length, timestamp, transaction;
+};
+
+static uint8_t *mem;
+static size_t len;
+
+static uint32_t be(const uint8_t *at, int n)
+{
+    uint32_t x = 0;
+    while (n-- > 0) x = x << 8 | *at++;
+    return x;
+}
+
+/* CRC-8 of polynomial x^8 + x^2 + x + 1, from 0 on. */
+static uint8_t checksum(const uint8_t *at, size_t n)
+{
+    uint8_t c = 0;
+    while (n-- > 0) {
+        c ^= *at++;
+        for (int i = 0; i < 8; i++) c = (uint8_t)(c & 0x80 ? c << 1 ^ 0x07 : c << 1);
+    }
+    return c;
+}
+
+static void make_header(struct packet p, uint8_t h[10])
+{
+    uint32_t first = p.destination << 22 | p.source << 20 | p.queue << 15 | p.length << 2;
+    memset(h, 0, 10);
+    for (int i = 0; i < 3; i++) h[i] = (uint8_t)(first >> (16 - 8 * i));
+    for (int i = 0; i < 4; i++) h[3 + i] = (uint8_t)(p.timestamp >> (24 - 8 * i));
+    h[8] = (uint8_t)p.transaction;
+    h[9] = checksum(h, 9);
+}
+
+/* Whether a call was done; a refusal is printed. */
+static int done(const char *step, uint32_t answer)
+{
+    if (answer == 0) return 1;
+    printf("%s: refused %" PRIu32 "\n", step, answer);
+    return 0;
+}
+
+static void bring(struct packet p)
+{
+    uint8_t header[10], record[10];
+    uint16_t entry;
+    make_header(p, header);
+    if (!done("arrive", vr_arrive(mem, len, p.source, header, sizeof header, &entry))) return;
+    printf("arrive: port %" PRIu32 ", queue %" PRIu32 ", length %" PRIu32 ": entry %u\n", p.source, p.queue, p.length, (unsigned)entry);
+    if (!done("stitch", vr_stitch(mem, len, p.source, record))) return;
+    printf("stitch: entry %" PRIu32 " to port %u, queue %u\n", be(record, 2), record[5], record[4]);
+}
+
+/* Fills the slots of a queue of the port that packets leave by. */
+static void fetch(uint32_t queue)
+{
+    uint16_t entry;
+    while (done("prefetch", vr_prefetch(mem, len, OUT, queue, &entry)))
+        printf("prefetch: queue %" PRIu32 ": entry %u\n", queue, (unsigned)entry);
+}
+
+static void show_ready(void)
+{
+    uint64_t word;
+    uint32_t count;
+    if (done("ready", vr_ready(mem, len, OUT, &word, &count)))
+        printf("ready: word %06" PRIx64 ", count %" PRIu32 "\n", word, count);
+}
+
+static void show_place(uint32_t entry)
+{
+    static const char *kinds[] = {"free", "ingress", "egress", "prefetch"};
+    uint8_t at[8];
+    if (done("where", vr_where(mem, len, entry, at)))
+        printf("where: entry %" PRIu32 ": %s of port %u, queue %u, position %" PRIu32 "\n", be(at, 2), kinds[at[2]], at[3], at[4], be(at + 6, 2));
+}
+
+/* Turns until the port is idle. */
+static void send_all(void)
+{
+    uint8_t s[16];
+    while (done("turn", vr_turn(mem, len, OUT, s))) {
+        if (s[0] == 0) {
+            puts("turn: idle");
+            return;
+        }
+        printf("turn: %s: queue %u, entry %" PRIu32 ", length %" PRIu32 ", destination %" PRIu32 ", time %" PRIu32 ", transaction %u, price %" PRIu32 "\n",
+               s[0] == 1 ? "inside" : "outside", s[1], be(s + 2, 2), be(s + 4, 2), be(s + 6, 2), be(s + 8, 4), s[13], be(s + 14, 2));
+    }
+}
+
+int main(void)
+{
+    len = (size_t)vr_size(NODES);
+    mem = calloc(len, 1);
+    if (mem == NULL) return 1;
+    printf("size: %zu bytes\n", len);
+    send_all(); /* zero bytes are no switch state */
+    if (!done("setup", vr_setup(mem, len, NODES, BEAT, SLOTS, CREDIT))) return 1;
+    if (!done("map", vr_map(mem, len, 1, OUT))) return 1;
+    bring((struct packet){1, 0, 5, 77, 1000, 1});
+    bring((struct packet){1, 0, 0, 12, 1001, 2});
+    bring((struct packet){1, 2, 5, 140, 1002, 3});
+    bring((struct packet){1, 2, 5, 8191, 1003, 4}); /* costs more than the arrival credit */
+    show_place(2 * 2048);
+    fetch(0);
+    fetch(5);
+    show_ready();
+    send_all(); /* queue 5 has no outward credit yet */
+    if (!done("credit", vr_credit(mem, len, OUT, 5, 4))) return 1;
+    show_ready();
+    send_all();
+    show_place(2 * 2048);
+    show_place(70000);
+    free(mem);
+    return 0;
+}

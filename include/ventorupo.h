@@ -1,0 +1,80 @@
+/* The queue manager of the packet switch: four ports, 24 queues a port, in memory that the caller lends.
+ *
+ * Every call but vr_size answers 0, or the number of a refusal; a refused call changes no byte that was lent, the room for its answer
+ * included. Nothing has to be checked beforehand: any memory and any numbers are taken.
+ *
+ *   no.  meaning                                    given by
+ *    1   memory shorter than the nodes need         setup
+ *    2   a setting not in its row                   setup
+ *    3   memory is no switch state                  all but setup
+ *    4   port above 3                               all with a port
+ *    5   queue above 23; for credit also 0          prefetch, credit
+ *    6   header not ten bytes                       arrive
+ *    7   checksum differs                           arrive
+ *    8   header's source isn't the arriving port    arrive
+ *    9   length under 12                            arrive
+ *   10   price above arrival credit                 arrive
+ *   11   free list empty                            arrive
+ *   12   list to take from is empty                 stitch, prefetch
+ *   13   all slots in use                           prefetch
+ *   14   sum above 65,535                           credit
+ *   15   id above 3; no such node                   map, where
+ *
+ * Setup tests 2, then 1. The others test 3 first, then in the table's order, but map tests 15 before 4.
+ *
+ * What C asks remains the caller's: each pointer is valid, and not null, for the length given (a room for its whole size); pointers to
+ * uint16_t, uint32_t and uint64_t are aligned; the memories lent to one call do not overlap; and no two calls run at once on a memory
+ * that one of them may change.
+ *
+ * Numbers are wide on purpose: port 70,000 is refused 4, an amount above 65,535 is a sum above 65,535, an entry above 65,535 is no node.
+ */
+#ifndef VENTORUPO_H
+#define VENTORUPO_H
+
+#include <stddef.h>
+#include <stdint.h>
+
+#ifdef __cplusplus
+extern "C" {
+#endif
+
+/* The bytes that a state of so many nodes a port takes; 0 if nodes is not in its row. */
+uint64_t vr_size(uint32_t nodes);
+
+/* Writes the starting ledger, also over an older one: nodes a port 1 to 256; beat 64, 128, 256 or 512; slots of a prefetch list 1 to 8;
+ * credit, the arrival credit of each port and queue, 0 to 65,535. Bytes past vr_size(nodes) are never changed, by this call or another. */
+uint32_t vr_setup(uint8_t *mem, size_t len, uint32_t nodes, uint32_t beat, uint32_t slots, uint32_t credit);
+
+/* Takes the front of the port's free list, records the ten-byte header and appends the node to ingress. Writes the entry id. */
+uint32_t vr_arrive(uint8_t *mem, size_t len, uint32_t port, const uint8_t *header, size_t header_len, uint16_t *entry);
+
+/* Takes the oldest ingress node to the egress list of the port that the map names now. Writes ten bytes, big-endian:
+ * entry id (2), length (2), queue (1), mapped port (1), timestamp (4). */
+uint32_t vr_stitch(uint8_t *mem, size_t len, uint32_t port, uint8_t record[10]);
+
+/* Takes the oldest egress node of the queue to the end of its prefetch list. Writes the entry id. */
+uint32_t vr_prefetch(uint8_t *mem, size_t len, uint32_t port, uint32_t queue, uint16_t *entry);
+
+/* Adds the amount to the queue's outward credit. */
+uint32_t vr_credit(uint8_t *mem, size_t len, uint32_t port, uint32_t queue, uint32_t amount);
+
+/* Sets the port of one destination id, 0 to 3. */
+uint32_t vr_map(uint8_t *mem, size_t len, uint32_t id, uint32_t port);
+
+/* Lets one packet leave the port, or none if nothing is ready. Writes sixteen bytes, big-endian: kind (1: 0 idle, 1 inside, 2 outside),
+ * queue (1), entry id (2), length (2), destination id (2), timestamp (4), poisoned (1), transaction id (1), price (2).
+ * An idle turn writes the kind alone; the other 15 bytes stay. */
+uint32_t vr_turn(uint8_t *mem, size_t len, uint32_t port, uint8_t sent[16]);
+
+/* Writes the port's ready word, bit q for queue q, and the number of ones in it. */
+uint32_t vr_ready(const uint8_t *mem, size_t len, uint32_t port, uint64_t *word, uint32_t *count);
+
+/* Writes where the node stands, eight bytes, big-endian: entry id (2), list kind (1: 0 free, 1 ingress, 2 egress, 3 prefetch), port (1),
+ * queue or 0 (1), zero (1), position in the list from 0 (2). */
+uint32_t vr_where(const uint8_t *mem, size_t len, uint32_t entry, uint8_t place[8]);
+
+#ifdef __cplusplus
+}
+#endif
+
+#endif
