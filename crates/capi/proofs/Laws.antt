@@ -6,13 +6,10 @@ use mathlib.Core.List.{List}
 use Prim.Native.Nat.{ℕ, _+_, _*_, _≤_, _<_}
 use native.Mathlib.Omega.{arith}
 use lib.Dec.{ltb}
-use Rattle.ledger.specs.Settings.{Settings, settings, inRows, row, size}
+use Rattle.ledger.specs.Settings.{Settings, settings, inRows}
 use Rattle.ledger.specs.Ledger.{owner, isNode}
 use Rattle.ledger.specs.Calls.{Reply, refused, whereIs}
 use Rattle.ledger.specs.Desk.{act}
-use Rattle.ledger.specs.Answers.{numberOf}
-use Rattle.ledger.specs.declared.Refusal.{Refusal}
-use Rattle.ledger.specs.declared.Refusal.the-variants.{ShortMemory, BadSetting, NoState, NoPort, NoQueue, HeaderSize, Checksum, Source, TooShort, NoCredit, NoFreeNode, NothingThere, SlotsInUse, TooMuchCredit, NoSuchId}
 use Rattle.ledger.proofs.Tests.{ltb-yes, ltb-not}
 use Rattle.ledger.proofs.Rows.{Rows, this-build, size-is, beat-is}
 use Rattle.layout.specs.Picture.{settingsIn, State}
@@ -31,24 +28,6 @@ module _ (x : Reply) (m : List ℕ) (out : Reply × List ℕ) (r : ℕ) (e : (x,
 
 pub shows : {A : Type 0} (room : Reply → A → A) (x y : Reply) (r : ℕ) (old new : A) → x ≡ y → r ≡ numberIn x → new ≡ room x old → (r, new) ≡ shown room old y
 shows room x y r old new e p q = rw (p, q) (ap (shown room old) e)
-
--- 0 is no refusal's number: an answer of 0 says that the call was done
-pub never-zero : (no : Refusal) → 1 ≤ numberOf no
-never-zero ShortMemory = omega arith
-never-zero BadSetting = omega arith
-never-zero NoState = omega arith
-never-zero NoPort = omega arith
-never-zero NoQueue = omega arith
-never-zero HeaderSize = omega arith
-never-zero Checksum = omega arith
-never-zero Source = omega arith
-never-zero TooShort = omega arith
-never-zero NoCredit = omega arith
-never-zero NoFreeNode = omega arith
-never-zero NothingThere = omega arith
-never-zero SlotsInUse = omega arith
-never-zero TooMuchCredit = omega arith
-never-zero NoSuchId = omega arith
 
 -- ---- ids that are no nodes
 
@@ -90,8 +69,3 @@ unfolding sizeFor
 size-some n h k =
     let e : inRows (settings n 64 1 0) ≡ true = sym (rows-beat n 64 1 0 h k (omega arith) (omega arith) (omega arith)) ∙ beat-is 64 (inl refl) in
     rw e (sym (size-is (settings n 64 1 0) e))
-
--- the other settings do not count: memory of this size is never too short for setup
-pub size-any : (n b d k : ℕ) → size (settings n b d k) ≡ size (settings n 64 1 0)
-unfolding size row
-size-any n b d k = refl

@@ -1,0 +1,63 @@
+-- What a C caller may count on, read off the contracts' definitions. Assumes nothing.
+use mathlib.Core.Path.{_≡_, refl}
+use mathlib.Core.Bool.{true}
+use mathlib.Core.List.{List}
+use Prim.Native.Nat.{ℕ, _≤_}
+use native.Mathlib.Omega.{arith}
+use Rattle.ledger.specs.Settings.{settings, row, size}
+use Rattle.ledger.specs.Calls.{Reply, refused, done, entry, stitched, idle, leaves, word, found}
+use Rattle.ledger.specs.Desk.{Call}
+use Rattle.ledger.specs.Answers.{numberOf}
+use Rattle.ledger.specs.declared.Refusal.{Refusal}
+use Rattle.ledger.specs.declared.Refusal.the-variants.{ShortMemory, BadSetting, NoState, NoPort, NoQueue, HeaderSize, Checksum, Source, TooShort, NoCredit, NoFreeNode, NothingThere, SlotsInUse, TooMuchCredit, NoSuchId}
+use Rattle.ledger.specs.Demand.{isRefused}
+use Rattle.memory.specs.Memory.{M}
+use Rattle.memory.proofs.Square.{refusal-keeps-bytes}
+use Rattle.capi.specs.Rooms.{numberIn, toldIn, entryRoom, recordRoom, sentRoom, readyRoom, placeRoom}
+
+-- 0 is no refusal's number: an answer of 0 says that the call was done
+pub never-zero : (no : Refusal) → 1 ≤ numberOf no
+never-zero ShortMemory = omega arith
+never-zero BadSetting = omega arith
+never-zero NoState = omega arith
+never-zero NoPort = omega arith
+never-zero NoQueue = omega arith
+never-zero HeaderSize = omega arith
+never-zero Checksum = omega arith
+never-zero Source = omega arith
+never-zero TooShort = omega arith
+never-zero NoCredit = omega arith
+never-zero NoFreeNode = omega arith
+never-zero NothingThere = omega arith
+never-zero SlotsInUse = omega arith
+never-zero TooMuchCredit = omega arith
+never-zero NoSuchId = omega arith
+
+-- a refusal leaves every room as it was lent
+abbrev Keeps : {A : Type 0} → (Reply → A → A) → Type 0
+Keeps {A} room = (n : ℕ) (old : A) → room (refused n) old ≡ old
+
+pub rooms-kept : Keeps entryRoom × Keeps recordRoom × Keeps sentRoom × Keeps readyRoom × ((y : ℕ) → Keeps (placeRoom y))
+rooms-kept = (λ n old. refl, λ n old. refl, λ n old. refl, λ n old. refl, λ y n old. refl)
+
+-- where the answer is not 0, no byte that was lent differs
+module _ {A : Type 0} (room : Reply → A → A) (kept : Keeps room) where
+  refusal-only : (x : Reply) (old : A) → (numberIn x ≡ 0 → ⊥) → (isRefused x ≡ true) × (room x old ≡ old)
+  refusal-only (refused n) old h = (refl, kept n old)
+  refusal-only done old h = absurd (h refl)
+  refusal-only (entry x) old h = absurd (h refl)
+  refusal-only (stitched b) old h = absurd (h refl)
+  refusal-only idle old h = absurd (h refl)
+  refusal-only (leaves k s) old h = absurd (h refl)
+  refusal-only (word w n) old h = absurd (h refl)
+  refusal-only (found v i) old h = absurd (h refl)
+
+  pub nothing-differs : (c : Call) (m : List ℕ) (old : A) → (numberIn (M c m .0) ≡ 0 → ⊥) → toldIn room old (M c m) ≡ (numberIn (M c m .0), m, old)
+  nothing-differs c m old h =
+      let l = refusal-only (M c m .0) old h in
+      rw (refusal-keeps-bytes c m (l .0), l .1)
+
+-- the other settings do not count: memory of this size is never too short for setup
+pub size-any : (n b d k : ℕ) → size (settings n b d k) ≡ size (settings n 64 1 0)
+unfolding size row
+size-any n b d k = refl
