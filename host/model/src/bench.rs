@@ -14,9 +14,12 @@ pub fn bench(input: &[u8]) -> Vec<u8> {
     let mut number = 0u64;
     while !rest.is_empty() {
         number += 1;
-        let Some((call, after)) = read_field(rest) else {
-            lines += &format!("{number} bad\n");
-            break;
+        let (call, after) = match read_field(rest) {
+            Some(field) => field,
+            None => {
+                lines += &format!("{number} bad\n");
+                break;
+            }
         };
         rest = after;
         lines += &format!("{number} {}\n", words(&model.call(&call)));
@@ -27,10 +30,13 @@ pub fn bench(input: &[u8]) -> Vec<u8> {
 /// One field, and the bytes after it; none if it is bad: another tag, a wrong
 /// length or a cut field.
 fn read_field(bytes: &[u8]) -> Option<(Call, &[u8])> {
-    let (&[tag, high, low], rest) = bytes.split_first_chunk()?;
+    let (tag, high, low, rest) = match bytes {
+        &[tag, high, low, ref rest @ ..] => (tag, high, low, rest),
+        _ => return None,
+    };
     let length = u16::from_be_bytes([high, low]) as usize;
-    let (value, after) = rest.split_at_checked(length)?;
-    Some((read_call(tag, value)?, after))
+    let value = rest.get(..length)?;
+    Some((read_call(tag, value)?, &rest[length..]))
 }
 
 /// The call in a field; none for another tag or a wrong length.

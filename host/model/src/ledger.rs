@@ -207,8 +207,9 @@ impl Ledger {
             Choice::WholeWord => pick(self.ready_word(p), self.ports[p].last_served),
             Choice::EarlyOut => self.first_ready(p),
         };
-        let Some(queue) = chosen else {
-            return Ok(Reply::Idle);
+        let queue = match chosen {
+            Some(queue) => queue,
+            None => return Ok(Reply::Idle),
         };
         let q = queue as usize;
         let leaving = self.ports[p].prefetch[q]

@@ -138,7 +138,8 @@ pub fn price(length: u32, queue: u32, beat: u32) -> u32 {
     if queue == 0 {
         0
     } else {
-        (length - SHORTEST).div_ceil(beat)
+        // Rounded up.
+        (length - SHORTEST + beat - 1) / beat
     }
 }
 
@@ -162,6 +163,16 @@ impl Model {
             memory_len,
             choice,
             ledger: None,
+        }
+    }
+
+    /// Memory that holds this ledger, which may be read off somebody's bytes.
+    /// The calls count on a sound one: ask `check` first.
+    pub fn with_ledger(memory_len: usize, ledger: Ledger) -> Model {
+        Model {
+            memory_len,
+            choice: Choice::default(),
+            ledger: Some(ledger),
         }
     }
 

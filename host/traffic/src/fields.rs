@@ -82,7 +82,7 @@ pub fn stream(seed: u64, n: usize) -> Vec<u8> {
 fn bad_end(random: &mut Random) -> Vec<u8> {
     let tag = random.among(1, 7) as u8;
     let right = right_length(tag);
-    let fill = random.next() as u8;
+    let fill = random.word() as u8;
     match random.below(4) {
         0 => {
             let other = if random.one_in(4) {

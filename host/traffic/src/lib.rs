@@ -9,13 +9,13 @@ mod random;
 mod tests;
 
 pub use fields::{field, stream};
+pub use random::Random;
 
 use model::checksum::crc8;
 use model::{
     size, Call, Ledger, Model, Settings, ENTRIES_PER_PORT, LONGEST, MOST_CREDIT, PORTS, QUEUES,
     SHORTEST,
 };
-use random::Random;
 
 /// The ten bytes of a header, with its checksum. Each field must fit its width.
 #[allow(clippy::too_many_arguments)]
@@ -166,8 +166,9 @@ impl Traffic {
 
     /// The next call. It looks at the model's state and doesn't make the call.
     pub fn next(&mut self, model: &Model) -> Call {
-        let Some(ledger) = model.ledger() else {
-            return self.before_setup(model);
+        let ledger = match model.ledger() {
+            Some(ledger) => ledger,
+            None => return self.before_setup(model),
         };
         self.go_on_in_phase(ledger);
         if self.random.one_in(self.profile.calls_per_setup()) {
@@ -365,9 +366,9 @@ impl Traffic {
         let r = &mut self.random;
         let timestamp = match r.below(8) {
             0 => r.pick(&[0, 1, u32::MAX, 1 << 31]),
-            _ => r.next() as u32,
+            _ => r.word() as u32,
         };
-        let (offered, transaction) = (r.next() as u8, r.next() as u8);
+        let (offered, transaction) = (r.word() as u8, r.word() as u8);
         header(
             r.below(4),
             source,
@@ -719,7 +720,7 @@ impl Traffic {
                 };
                 let mut header = self.header(source, queue, length);
                 if self.random.one_in(3) {
-                    header[self.random.below(10) as usize] ^= self.random.next() as u8;
+                    header[self.random.below(10) as usize] ^= self.random.word() as u8;
                 }
                 if self.random.one_in(4) {
                     header.resize(self.random.below(21) as usize, 0xA5);

@@ -8,7 +8,8 @@ impl Random {
         Random(seed)
     }
 
-    pub fn next(&mut self) -> u64 {
+    /// Any 64 bits.
+    pub fn word(&mut self) -> u64 {
         self.0 = self.0.wrapping_add(0x9E37_79B9_7F4A_7C15);
         let mut z = self.0;
         z = (z ^ (z >> 30)).wrapping_mul(0xBF58_476D_1CE4_E5B9);
@@ -18,13 +19,13 @@ impl Random {
 
     /// 0 to `end` - 1. The little unevenness of the remainder doesn't matter.
     pub fn below(&mut self, end: u32) -> u32 {
-        (self.next() % u64::from(end)) as u32
+        (self.word() % u64::from(end)) as u32
     }
 
     /// `first` to `last`, both included.
     pub fn among(&mut self, first: u32, last: u32) -> u32 {
         let span = u64::from(last - first) + 1;
-        first + (self.next() % span) as u32
+        first + (self.word() % span) as u32
     }
 
     /// True once in so many times.

@@ -228,7 +228,10 @@ fn fields_go_through_the_bench_program() {
         let (mut input, mut wanted, mut number) = (Vec::new(), String::new(), 0);
         for _ in 0..20_000 {
             let call = traffic.next(&model);
-            let Some(field) = field(&call) else { continue };
+            let field = match field(&call) {
+                Some(field) => field,
+                None => continue,
+            };
             input.extend(field);
             number += 1;
             let reply = model.call(&call);

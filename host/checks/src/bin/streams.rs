@@ -1,0 +1,61 @@
+//! Runs the bench program, given by its path, on seeded streams of tagged
+//! fields and compares what it writes with the model's bench, line for line.
+//!
+//!     streams BENCH STREAMS SEED
+
+use std::io::Write;
+use std::process::{exit, Command, Stdio};
+
+fn run(program: &str, input: &[u8]) -> std::io::Result<Vec<u8>> {
+    let mut child = Command::new(program)
+        .stdin(Stdio::piped())
+        .stdout(Stdio::piped())
+        .spawn()?;
+    let mut to = child.stdin.take().expect("a pipe");
+    let bytes = input.to_vec();
+    // Written from a thread, since the program may answer before it has read all; it may also end at a bad field and leave the rest.
+    let writer = std::thread::spawn(move || {
+        let _ = to.write_all(&bytes);
+    });
+    let output = child.wait_with_output()?;
+    let _ = writer.join();
+    Ok(output.stdout)
+}
+
+fn main() {
+    let words: Vec<String> = std::env::args().collect();
+    if words.len() != 4 {
+        eprintln!("usage: streams BENCH STREAMS SEED");
+        exit(2);
+    }
+    let count: u64 = words[2].parse().expect("a number of streams");
+    let first: u64 = words[3].parse().expect("a seed");
+    let mut lines = 0;
+    for i in 0..count {
+        let seed = first + i;
+        let fields = [0, 1, 3, 30, 300, 3000][(i % 6) as usize];
+        let input = traffic::stream(seed, fields);
+        let said = match run(&words[1], &input) {
+            Ok(said) => said,
+            Err(e) => {
+                eprintln!("streams: {} does not run: {}", words[1], e);
+                exit(1);
+            }
+        };
+        let expected = model::bench::bench(&input);
+        if said != expected {
+            let a = String::from_utf8_lossy(&said);
+            let b = String::from_utf8_lossy(&expected);
+            for (n, (x, y)) in a.lines().zip(b.lines()).enumerate() {
+                if x != y {
+                    eprintln!("line {}: bench says '{}', the model '{}'", n + 1, x, y);
+                    break;
+                }
+            }
+            eprintln!("streams: seed {} with {} fields differs", seed, fields);
+            exit(1);
+        }
+        lines += expected.iter().filter(|b| **b == b'\n').count();
+    }
+    println!("bench program: {} streams, {} lines, as the model's", count, lines);
+}

@@ -1,0 +1,95 @@
+//! How often each answer came.
+
+use std::fmt;
+
+use model::{Call, Reply};
+
+const NAMES: [&str; 10] = [
+    "setup",
+    "arrive",
+    "stitch",
+    "prefetch",
+    "credit",
+    "map",
+    "turn",
+    "idle turn",
+    "ready",
+    "where",
+];
+
+#[derive(Debug, Clone, Default, PartialEq, Eq)]
+pub struct Counts {
+    /// In the order of `NAMES`.
+    accepted: [u64; 10],
+    /// By the refusal's number; cell 0 stays 0.
+    refused: [u64; 16],
+}
+
+impl Counts {
+    pub fn note(&mut self, call: &Call, reply: &Reply) {
+        if let Reply::Refused(number) = reply {
+            self.refused[*number as usize] += 1;
+            return;
+        }
+        let kind = match call {
+            Call::Setup(_) => 0,
+            Call::Arrive { .. } => 1,
+            Call::Stitch { .. } => 2,
+            Call::Prefetch { .. } => 3,
+            Call::Credit { .. } => 4,
+            Call::Map { .. } => 5,
+            Call::Turn { .. } if *reply == Reply::Idle => 7,
+            Call::Turn { .. } => 6,
+            Call::Ready { .. } => 8,
+            Call::Where { .. } => 9,
+        };
+        self.accepted[kind] += 1;
+    }
+
+    pub fn add(&mut self, other: &Counts) {
+        for (cell, more) in self.accepted.iter_mut().zip(&other.accepted) {
+            *cell += more;
+        }
+        for (cell, more) in self.refused.iter_mut().zip(&other.refused) {
+            *cell += more;
+        }
+    }
+
+    pub fn calls(&self) -> u64 {
+        self.accepted.iter().chain(&self.refused).sum()
+    }
+
+    /// The refusals that came less often than they should.
+    pub fn too_rare(&self, least_1_to_3: u64, least_4_to_15: u64) -> Vec<(usize, u64)> {
+        (1..=15)
+            .map(|number| (number, self.refused[number]))
+            .filter(|&(number, times)| {
+                let least = if number <= 3 {
+                    least_1_to_3
+                } else {
+                    least_4_to_15
+                };
+                times < least
+            })
+            .collect()
+    }
+
+    /// Was every kind of call accepted so often at least?
+    pub fn each_call_at_least(&self, least: u64) -> bool {
+        self.accepted.iter().all(|&times| times >= least)
+    }
+}
+
+impl fmt::Display for Counts {
+    fn fmt(&self, f: &mut fmt::Formatter<'_>) -> fmt::Result {
+        write!(f, "accepted:")?;
+        for (name, times) in NAMES.iter().zip(self.accepted) {
+            write!(f, " {name} {times},")?;
+        }
+        write!(f, "\nrefused:")?;
+        for (number, times) in self.refused.iter().enumerate().skip(1) {
+            write!(f, " [{number}] {times}")?;
+        }
+        Ok(())
+    }
+}

@@ -1,0 +1,138 @@
+//! One call of the proved library, told in the model's words.
+
+use model::{Call, ListKind, Packet, Reply, Side};
+use ventorupo::calls;
+
+/// Rooms start with these bytes, so that a byte that should stay is seen.
+const FILL: u8 = 0xA7;
+
+/// What a refused call must leave in its room.
+fn refused<T: PartialEq + std::fmt::Debug>(
+    number: u32,
+    room: T,
+    before: T,
+) -> Result<Reply, String> {
+    if room != before {
+        return Err(format!("refused {number}, but the room is {room:?}"));
+    }
+    match u8::try_from(number) {
+        Ok(number @ 1..=15) => Ok(Reply::Refused(number)),
+        _ => Err(format!("answered {number}")),
+    }
+}
+
+/// Make the call on this memory. The error is a broken rule on answers and
+/// rooms, whatever the model says.
+pub fn call(memory: &mut [u8], call: &Call) -> Result<Reply, String> {
+    match call {
+        Call::Setup(s) => match calls::setup(memory, s.nodes, s.beat, s.slots, s.credit) {
+            0 => Ok(Reply::Done),
+            number => refused(number, (), ()),
+        },
+        Call::Arrive { port, header } => {
+            let kept = header.clone();
+            let mut entry = 0xA7A7;
+            let number = calls::arrive(memory, *port, header, &mut entry);
+            if *header != kept {
+                return Err("the header's bytes differ".into());
+            }
+            match number {
+                0 => Ok(Reply::Entry(entry)),
+                _ => refused(number, entry, 0xA7A7),
+            }
+        }
+        Call::Stitch { port } => {
+            let mut record = [FILL; 10];
+            match calls::stitch(memory, *port, &mut record) {
+                0 => Ok(Reply::Stitched(record)),
+                number => refused(number, record, [FILL; 10]),
+            }
+        }
+        Call::Prefetch { port, queue } => {
+            let mut entry = 0xA7A7;
+            match calls::prefetch(memory, *port, *queue, &mut entry) {
+                0 => Ok(Reply::Entry(entry)),
+                number => refused(number, entry, 0xA7A7),
+            }
+        }
+        Call::Credit {
+            port,
+            queue,
+            amount,
+        } => match calls::credit(memory, *port, *queue, *amount) {
+            0 => Ok(Reply::Done),
+            number => refused(number, (), ()),
+        },
+        Call::Map { id, port } => match calls::map(memory, *id, *port) {
+            0 => Ok(Reply::Done),
+            number => refused(number, (), ()),
+        },
+        Call::Turn { port } => {
+            let mut sent = [FILL; 16];
+            match calls::turn(memory, *port, &mut sent) {
+                0 => turned(&sent),
+                number => refused(number, sent, [FILL; 16]),
+            }
+        }
+        Call::Ready { port } => {
+            let before = (0xA7A7_A7A7_A7A7_A7A7, 0xA7A7_A7A7);
+            let (mut word, mut count) = before;
+            match calls::ready(memory, *port, &mut word, &mut count) {
+                0 => Ok(Reply::Word(word, count)),
+                number => refused(number, (word, count), before),
+            }
+        }
+        Call::Where { entry } => {
+            let mut place = [FILL; 8];
+            match calls::place_of(memory, *entry, &mut place) {
+                0 => found(*entry, &place),
+                number => refused(number, place, [FILL; 8]),
+            }
+        }
+    }
+}
+
+/// Read here byte by byte, not by the wrapper, which is tried as well.
+fn turned(sent: &[u8; 16]) -> Result<Reply, String> {
+    let two = |at: usize| u32::from(sent[at]) << 8 | u32::from(sent[at + 1]);
+    let side = match sent[0] {
+        // An idle turn writes the kind alone.
+        0 if sent[1..] == [FILL; 15] => return Ok(Reply::Idle),
+        1 => Side::Inside,
+        2 => Side::Outside,
+        _ => return Err(format!("a turn wrote {sent:?}")),
+    };
+    // Wider in the room than in the model.
+    let (destination, poisoned) = (two(6), sent[12]);
+    if destination > 3 || poisoned > 1 {
+        return Err(format!("a turn wrote {sent:?}"));
+    }
+    let packet = Packet {
+        entry: two(2) as u16,
+        length: two(4) as u16,
+        queue: sent[1],
+        destination: destination as u8,
+        timestamp: two(8) << 16 | two(10),
+        poisoned: poisoned == 1,
+        transaction: sent[13],
+        price: two(14),
+    };
+    Ok(Reply::Leaves(packet, side))
+}
+
+fn found(entry: u32, place: &[u8; 8]) -> Result<Reply, String> {
+    let two = |at: usize| u32::from(place[at]) << 8 | u32::from(place[at + 1]);
+    let (port, queue) = (u32::from(place[3]), u32::from(place[4]));
+    let kind = match place[2] {
+        0 => ListKind::Free { port },
+        1 => ListKind::Ingress { port },
+        2 => ListKind::Egress { port, queue },
+        3 => ListKind::Prefetch { port, queue },
+        _ => return Err(format!("where wrote {place:?}")),
+    };
+    // Free and ingress lists have no queue; byte 5 is always 0.
+    if two(0) != entry || place[5] != 0 || (place[2] < 2 && queue != 0) {
+        return Err(format!("where {entry} wrote {place:?}"));
+    }
+    Ok(Reply::Found(kind, two(6)))
+}

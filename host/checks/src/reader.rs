@@ -1,0 +1,342 @@
+//! A reader of the state's bytes, written from docs/LAYOUT.md alone.
+
+use std::collections::VecDeque;
+
+use model::ledger::entry_id;
+use model::{size, Ledger, ListKind, Model, Packet, Settings, PORTS, QUEUES};
+
+const CREDITS: usize = (PORTS * (QUEUES - 1)) as usize;
+const LISTS_PER_PORT: usize = 2 * QUEUES as usize + 2;
+pub const LISTS: usize = PORTS as usize * LISTS_PER_PORT;
+
+/// A table: where it starts and how wide an element is.
+#[derive(Debug, Clone, Copy)]
+pub struct Table {
+    pub start: usize,
+    pub width: usize,
+}
+
+impl Table {
+    /// Element `i`, big-endian.
+    pub fn get(self, memory: &[u8], i: usize) -> u32 {
+        let at = self.start + i * self.width;
+        memory[at..at + self.width]
+            .iter()
+            .fold(0, |number, &byte| number << 8 | u32::from(byte))
+    }
+
+    pub fn set(self, memory: &mut [u8], i: usize, number: u32) {
+        let at = self.start + i * self.width;
+        let bytes = number.to_be_bytes();
+        memory[at..at + self.width].copy_from_slice(&bytes[4 - self.width..]);
+    }
+}
+
+/// The tables of a state of so many nodes a port.
+#[derive(Debug, Clone, Copy)]
+pub struct Tables {
+    pub setting: Table,
+    pub mapped: Table,
+    pub last: Table,
+    pub arrival: Table,
+    pub outward: Table,
+    pub head: Table,
+    pub tail: Table,
+    pub count: Table,
+    pub next: Table,
+    pub length: Table,
+    pub stamp: Table,
+    pub queue: Table,
+    pub dest: Table,
+    pub poisoned: Table,
+    pub transaction: Table,
+    pub price: Table,
+    /// Where the last one ends.
+    pub size: usize,
+}
+
+impl Tables {
+    pub fn of(nodes: usize) -> Tables {
+        let all_nodes = PORTS as usize * nodes;
+        let mut end = 0;
+        // Each starts where the one before it ends.
+        let mut table = |width: usize, elements: usize| {
+            let start = end;
+            end += width * elements;
+            Table { start, width }
+        };
+        let mut tables = Tables {
+            setting: table(2, 6),
+            mapped: table(1, 4),
+            last: table(1, PORTS as usize),
+            arrival: table(2, CREDITS),
+            outward: table(2, CREDITS),
+            head: table(2, LISTS),
+            tail: table(2, LISTS),
+            count: table(4, LISTS),
+            next: table(2, all_nodes),
+            length: table(2, all_nodes),
+            stamp: table(4, all_nodes),
+            queue: table(1, all_nodes),
+            dest: table(1, all_nodes),
+            poisoned: table(1, all_nodes),
+            transaction: table(1, all_nodes),
+            price: table(1, all_nodes),
+            size: 0,
+        };
+        tables.size = end;
+        tables
+    }
+}
+
+/// The number of a credit cell of a queue above 0.
+pub fn credit_cell(port: usize, queue: usize) -> usize {
+    port * (QUEUES as usize - 1) + queue - 1
+}
+
+/// The number of a list.
+pub fn list_number(kind: ListKind) -> usize {
+    let base = |port: u32| port as usize * LISTS_PER_PORT;
+    match kind {
+        ListKind::Free { port } => base(port),
+        ListKind::Ingress { port } => base(port) + 1,
+        ListKind::Egress { port, queue } => base(port) + 2 + queue as usize,
+        ListKind::Prefetch { port, queue } => base(port) + 2 + (QUEUES + queue) as usize,
+    }
+}
+
+/// The bytes of a state being read.
+struct Reader<'m> {
+    memory: &'m [u8],
+    tables: Tables,
+    nodes: usize,
+}
+
+impl Reader<'_> {
+    /// A node's element in the tables of nodes; none if the id is no node's.
+    fn element(&self, entry: u32) -> Option<usize> {
+        let (port, index) = (entry as usize / 2048, entry as usize % 2048);
+        (port < PORTS as usize && index < self.nodes).then(|| port * self.nodes + index)
+    }
+
+    fn list(&self, kind: ListKind) -> Result<VecDeque<u16>, String> {
+        let number = list_number(kind);
+        let count = self.tables.count.get(self.memory, number) as usize;
+        // A longer one would have a node twice; and reading it must end.
+        if count > PORTS as usize * self.nodes {
+            return Err(format!("(c) {kind:?} has {count} nodes"));
+        }
+        let mut list = VecDeque::with_capacity(count);
+        let mut entry = self.tables.head.get(self.memory, number);
+        for _ in 0..count {
+            let element = self
+                .element(entry)
+                .ok_or_else(|| format!("(c) {entry} in {kind:?} is no node"))?;
+            list.push_back(entry as u16);
+            entry = self.tables.next.get(self.memory, element);
+        }
+        let tail = self.tables.tail.get(self.memory, number);
+        match list.back() {
+            Some(&last) if u32::from(last) != tail => {
+                Err(format!("(c) {kind:?} ends at {last}, its tail is {tail}"))
+            }
+            _ => Ok(list),
+        }
+    }
+
+    fn packet(&self, entry: u16) -> Result<Packet, String> {
+        let element = self.element(entry.into()).ok_or("(c) no node")?;
+        let get = |table: Table| table.get(self.memory, element);
+        let poisoned = get(self.tables.poisoned);
+        // The model's flag has no room for more.
+        if poisoned > 1 {
+            return Err(format!("(f) {entry} has poisoned flag {poisoned}"));
+        }
+        Ok(Packet {
+            entry,
+            length: get(self.tables.length) as u16,
+            queue: get(self.tables.queue) as u8,
+            destination: get(self.tables.dest) as u8,
+            timestamp: get(self.tables.stamp),
+            poisoned: poisoned == 1,
+            transaction: get(self.tables.transaction) as u8,
+            price: get(self.tables.price),
+        })
+    }
+}
+
+/// The ledger that the bytes picture, sound or not; the error says why they
+/// picture none, and begins with the broken rule as the model's check does.
+pub fn ledger(memory: &[u8]) -> Result<Ledger, String> {
+    if memory.len() < 12 {
+        return Err("(a) too short for settings".into());
+    }
+    let setting = |i| Tables::of(0).setting.get(memory, i);
+    if (setting(0), setting(1)) != (PORTS, QUEUES) {
+        return Err("(a) not 4 ports with 24 queues".into());
+    }
+    let settings = Settings {
+        nodes: setting(2),
+        beat: setting(3),
+        slots: setting(4),
+        credit: setting(5),
+    };
+    if !settings.in_their_rows() {
+        return Err(format!("(a) not in their rows: {settings:?}"));
+    }
+    let nodes = settings.nodes as usize;
+    let tables = Tables::of(nodes);
+    assert_eq!(tables.size, size(settings.nodes));
+    if memory.len() < tables.size {
+        return Err(format!("(a) {} bytes are too short", memory.len()));
+    }
+    let reader = Reader {
+        memory,
+        tables,
+        nodes,
+    };
+
+    let mut ledger = Ledger::starting(settings);
+    for (id, port) in ledger.map.iter_mut().enumerate() {
+        *port = tables.mapped.get(memory, id);
+    }
+    for (p, at) in ledger.ports.iter_mut().enumerate() {
+        let port = p as u32;
+        at.last_served = tables.last.get(memory, p);
+        at.free = reader.list(ListKind::Free { port })?;
+        at.ingress = reader.list(ListKind::Ingress { port })?;
+        for q in 0..QUEUES as usize {
+            let queue = q as u32;
+            at.egress[q] = reader.list(ListKind::Egress { port, queue })?;
+            at.prefetch[q] = reader.list(ListKind::Prefetch { port, queue })?;
+            if q > 0 {
+                at.arrival_credit[q] = tables.arrival.get(memory, credit_cell(p, q));
+                at.outward_credit[q] = tables.outward.get(memory, credit_cell(p, q));
+            }
+        }
+    }
+    // A free node's record is not read.
+    let recorded: Vec<u16> = ledger
+        .lists()
+        .filter(|(kind, _)| !matches!(kind, ListKind::Free { .. }))
+        .flat_map(|(_, list)| list.iter().copied())
+        .collect();
+    for entry in recorded {
+        let packet = reader.packet(entry)?;
+        let owner = model::ledger::owner(entry);
+        ledger.ports[owner].packets[model::ledger::index(entry)] = Some(packet);
+    }
+    Ok(ledger)
+}
+
+/// A model on the ledger that the bytes picture; the error says why they are
+/// no switch state.
+pub fn judged(memory: &[u8]) -> Result<Model, String> {
+    let model = Model::with_ledger(memory.len(), ledger(memory)?);
+    model.check()?;
+    Ok(model)
+}
+
+/// The bytes that setup writes: all that the picture does not read is zero.
+pub fn image(settings: Settings) -> Vec<u8> {
+    let nodes = settings.nodes as usize;
+    let tables = Tables::of(nodes);
+    let mut memory = vec![0; tables.size];
+    let row = [
+        PORTS,
+        QUEUES,
+        settings.nodes,
+        settings.beat,
+        settings.slots,
+        settings.credit,
+    ];
+    for (i, &number) in row.iter().enumerate() {
+        tables.setting.set(&mut memory, i, number);
+    }
+    for cell in 0..CREDITS {
+        tables.arrival.set(&mut memory, cell, settings.credit);
+    }
+    for port in 0..PORTS {
+        tables.last.set(&mut memory, port as usize, QUEUES - 1);
+        let free = list_number(ListKind::Free { port });
+        let id = |index: u32| u32::from(entry_id(port, index));
+        tables.head.set(&mut memory, free, id(0));
+        tables.tail.set(&mut memory, free, id(settings.nodes - 1));
+        tables.count.set(&mut memory, free, settings.nodes);
+        for index in 1..settings.nodes {
+            let before = port as usize * nodes + index as usize - 1;
+            tables.next.set(&mut memory, before, id(index));
+        }
+    }
+    memory
+}
+
+#[cfg(test)]
+mod tests {
+    use super::*;
+
+    /// Rows of the table of starts in docs/LAYOUT.md.
+    #[test]
+    fn starts_are_the_published_ones() {
+        for (nodes, wanted) in [
+            (
+                1,
+                [
+                    0, 12, 16, 20, 204, 388, 788, 1188, 1988, 1996, 2004, 2020, 2024, 2028, 2032,
+                    2036, 2040,
+                ],
+            ),
+            (
+                256,
+                [
+                    0, 12, 16, 20, 204, 388, 788, 1188, 1988, 4036, 6084, 10180, 11204, 12228,
+                    13252, 14276, 15300,
+                ],
+            ),
+        ] {
+            let t = Tables::of(nodes);
+            let starts = [
+                t.setting,
+                t.mapped,
+                t.last,
+                t.arrival,
+                t.outward,
+                t.head,
+                t.tail,
+                t.count,
+                t.next,
+                t.length,
+                t.stamp,
+                t.queue,
+                t.dest,
+                t.poisoned,
+                t.transaction,
+                t.price,
+            ]
+            .map(|table| table.start);
+            assert_eq!(starts, wanted[..16]);
+            assert_eq!(t.size, wanted[16]);
+        }
+    }
+
+    #[test]
+    fn the_image_is_read_back() {
+        for nodes in [1, 2, 16, 255, 256] {
+            let settings = Settings {
+                nodes,
+                beat: 128,
+                slots: 3,
+                credit: 65_535,
+            };
+            let model = judged(&image(settings)).unwrap();
+            assert_eq!(model.ledger(), Some(&Ledger::starting(settings)));
+        }
+    }
+
+    #[test]
+    fn zero_bytes_are_no_state() {
+        for len in [0, 1, 11, 12, 2040, 65_536] {
+            assert!(judged(&vec![0; len]).is_err());
+        }
+    }
+}

@@ -1,0 +1,243 @@
+//! Differential runs: library and model side by side.
+
+use std::fmt;
+
+use model::{size, Call, Model, Reply};
+use traffic::{Profile, Random, Traffic};
+
+use crate::counts::Counts;
+use crate::cut::cut_down;
+use crate::{changes_nothing, difference, reader, Desk};
+
+/// Bytes behind the lent memory, to see that nobody writes there.
+const GUARD: usize = 64;
+
+/// A run that can be made again.
+#[derive(Debug, Clone, Copy, PartialEq, Eq)]
+pub struct Plan {
+    pub seed: u64,
+    pub profile: Profile,
+    /// Bytes of lent memory; with it comes the most nodes per port.
+    pub memory_len: usize,
+    pub calls: usize,
+    /// After how many calls the whole ledger is compared.
+    pub ledger_every: usize,
+}
+
+impl Plan {
+    /// The run of a number: all profiles, small pools mostly, and memory with
+    /// a few bytes more than the pool needs.
+    pub fn numbered(seed: u64, number: u64, calls: usize) -> Plan {
+        let mut random = Random::new(seed ^ number.wrapping_mul(0xD1B5_4A32_D192_ED03));
+        const NODES: [u32; 20] = [
+            1, 2, 4, 16, 1, 2, 4, 16, 1, 2, 4, 16, 4, 16, 1, 2, 4, 16, 64, 256,
+        ];
+        let profiles = Profile::ALL.len() as u64;
+        let nodes = NODES[(number / profiles % 20) as usize];
+        Plan {
+            seed: random.word(),
+            profile: Profile::ALL[(number % profiles) as usize],
+            // Under 52 more bytes: no further node.
+            memory_len: size(nodes) + random.below(52) as usize,
+            calls,
+            ledger_every: 256,
+        }
+    }
+}
+
+/// A run that failed, and the few calls that fail as well.
+#[derive(Debug, Clone)]
+pub struct Failure {
+    pub plan: Plan,
+    pub at: usize,
+    pub message: String,
+    pub remaining: Vec<Call>,
+    pub remaining_message: String,
+}
+
+impl fmt::Display for Failure {
+    fn fmt(&self, f: &mut fmt::Formatter<'_>) -> fmt::Result {
+        writeln!(f, "{:?}", self.plan)?;
+        writeln!(f, "fails at call {}: {}", self.at, self.message)?;
+        writeln!(f, "cut down to {} calls:", self.remaining.len())?;
+        for call in &self.remaining {
+            writeln!(f, "    {call:?}")?;
+        }
+        write!(f, "which fail: {}", self.remaining_message)
+    }
+}
+
+/// Library and model side by side, on one memory.
+pub struct Pair<'d, D> {
+    desk: &'d D,
+    pub model: Model,
+    /// A few bytes, the lent bytes, then the guard.
+    memory: Vec<u8>,
+    before: Vec<u8>,
+    /// Where the lent bytes start: at any address, even or odd.
+    start: usize,
+    lent: usize,
+    made: usize,
+    ledger_every: usize,
+}
+
+impl<'d, D: Desk> Pair<'d, D> {
+    /// The memory is zero at first in half of the runs, else anything.
+    pub fn new(desk: &'d D, seed: u64, lent: usize, ledger_every: usize) -> Pair<'d, D> {
+        let mut random = Random::new(!seed);
+        let start = random.below(8) as usize;
+        let mut memory = vec![0; start + lent + GUARD];
+        if random.one_in(2) {
+            memory.fill_with(|| random.word() as u8);
+            // No state, for sure: not 4 ports.
+            memory[start] = 0xFF;
+        }
+        Pair {
+            desk,
+            model: Model::new(lent),
+            before: memory.clone(),
+            memory,
+            start,
+            lent,
+            made: 0,
+            ledger_every,
+        }
+    }
+
+    /// The lent bytes and the guard.
+    pub fn memory(&self) -> &[u8] {
+        &self.memory[self.start..]
+    }
+
+    pub fn lent(&self) -> usize {
+        self.lent
+    }
+
+    /// One call on both. The error says what differs.
+    pub fn call(&mut self, call: &Call) -> Result<Reply, String> {
+        self.before.copy_from_slice(&self.memory);
+        let (start, end) = (self.start, self.start + self.lent);
+        let answer = (self.desk)(&mut self.memory[start..end], call)?;
+        let wanted = self.model.call(call);
+        if answer != wanted {
+            return Err(format!(
+                "the library answers {answer:?}, the model {wanted:?}"
+            ));
+        }
+        let size_now = self.model.ledger().map_or(0, |l| size(l.settings.nodes));
+        let kept_from = if changes_nothing(call, &answer) {
+            0
+        } else {
+            size_now
+        };
+        if self.before[..start] != self.memory[..start] {
+            return Err(format!("after {answer:?} bytes before the memory differ"));
+        }
+        let (before, after) = (&self.before[start..], &self.memory[start..]);
+        if let Some(told) = difference(before, after, kept_from) {
+            return Err(format!("after {answer:?} {told}"));
+        }
+        if let (Call::Setup(settings), Reply::Done) = (call, answer) {
+            let image = reader::image(*settings);
+            if let Some(told) = difference(&image, &after[..size_now], 0) {
+                return Err(format!("after setup {told}"));
+            }
+        }
+        self.made += 1;
+        if self.made % self.ledger_every == 0 {
+            self.compare_ledgers()?;
+        }
+        Ok(answer)
+    }
+
+    /// The whole ledger, read off the bytes, beside the model's.
+    pub fn compare_ledgers(&self) -> Result<(), String> {
+        let pictured = reader::ledger(&self.memory()[..self.lent]);
+        match (pictured, self.model.ledger()) {
+            (Ok(pictured), Some(wanted)) if pictured == *wanted => Ok(()),
+            (Err(_), None) => Ok(()),
+            (Ok(pictured), Some(wanted)) => Err(ledger_difference(&pictured, wanted)),
+            (Ok(_), None) => Err("the memory pictures a ledger and the model has none".into()),
+            (Err(why), Some(_)) => Err(format!("the memory pictures no ledger: {why}")),
+        }
+    }
+}
+
+/// The first part in which two ledgers differ.
+fn ledger_difference(pictured: &model::Ledger, wanted: &model::Ledger) -> String {
+    if pictured.settings != wanted.settings || pictured.map != wanted.map {
+        return format!(
+            "the memory has {:?} {:?}, the model {:?} {:?}",
+            pictured.settings, pictured.map, wanted.settings, wanted.map
+        );
+    }
+    for ((kind, list), (_, wanted_list)) in pictured.lists().zip(wanted.lists()) {
+        if list != wanted_list {
+            return format!("{kind:?} is {list:?} in memory, {wanted_list:?} in the model");
+        }
+    }
+    for (port, (at, wanted_at)) in pictured.ports.iter().zip(&wanted.ports).enumerate() {
+        if at != wanted_at {
+            return format!(
+                "port {port} in memory: arrival {:?} outward {:?} last {} records {:?}; \
+                 in the model: arrival {:?} outward {:?} last {} records {:?}",
+                at.arrival_credit,
+                at.outward_credit,
+                at.last_served,
+                at.packets,
+                wanted_at.arrival_credit,
+                wanted_at.outward_credit,
+                wanted_at.last_served,
+                wanted_at.packets
+            );
+        }
+    }
+    "the ledgers differ".into()
+}
+
+/// Make the run. A failing one is made again, written down and cut down.
+pub fn run<D: Desk>(plan: &Plan, desk: &D, counts: &mut Counts) -> Result<(), Box<Failure>> {
+    let mut pair = Pair::new(desk, plan.seed, plan.memory_len, plan.ledger_every);
+    let mut traffic = Traffic::new(plan.seed, plan.profile);
+    for at in 0..plan.calls {
+        let call = traffic.next(&pair.model);
+        match pair.call(&call) {
+            Ok(reply) => counts.note(&call, &reply),
+            Err(message) => return Err(Box::new(failure(plan, desk, at, message))),
+        }
+    }
+    pair.compare_ledgers()
+        .map_err(|message| Box::new(failure(plan, desk, plan.calls, message)))
+}
+
+fn failure<D: Desk>(plan: &Plan, desk: &D, at: usize, message: String) -> Failure {
+    // The traffic looks at the model only, so it is the same again.
+    let mut model = Model::new(plan.memory_len);
+    let mut traffic = Traffic::new(plan.seed, plan.profile);
+    let mut calls = Vec::new();
+    for _ in 0..plan.calls.min(at + 1) {
+        let call = traffic.next(&model);
+        model.call(&call);
+        calls.push(call);
+    }
+    // Compare the ledger after each call now: it may have differed for long.
+    let message_of = |calls: &[Call]| -> Option<(usize, String)> {
+        let mut pair = Pair::new(desk, plan.seed, plan.memory_len, 1);
+        calls
+            .iter()
+            .enumerate()
+            .find_map(|(at, call)| Some((at, pair.call(call).err()?)))
+    };
+    if let Some((first, _)) = message_of(&calls) {
+        calls.truncate(first + 1);
+    }
+    let remaining = cut_down(&calls, |rest| message_of(rest).is_some());
+    let remaining_message = message_of(&remaining).map_or(String::new(), |(_, message)| message);
+    Failure {
+        plan: *plan,
+        at,
+        message,
+        remaining,
+        remaining_message,
+    }
+}

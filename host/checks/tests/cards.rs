@@ -1,0 +1,274 @@
+//! The paper's cards and check values, through the library.
+
+use model::checksum::crc8;
+use traffic::header;
+use ventorupo::{EntryId, ListKind, Refusal, Settings, Side, Switch, Turn};
+
+const SMALL: Settings = Settings {
+    nodes: 8,
+    beat: 64,
+    slots: 4,
+    credit: 128,
+};
+
+const SHORTEST: [u8; 10] = [0, 0, 0x30, 0, 0, 0, 0, 0, 0, 0x72];
+
+fn switch(settings: Settings) -> Switch<Vec<u8>> {
+    let memory = vec![0; ventorupo::size(settings.nodes).unwrap()];
+    Switch::setup(memory, settings).unwrap()
+}
+
+fn plain(dest: u32, source: u32, queue: u32, length: u32) -> [u8; 10] {
+    header(dest, source, queue, length, false, false, 0, 0, 0)
+}
+
+/// A packet of port 0 for port 0, up to the prefetch list.
+fn bring(switch: &mut Switch<Vec<u8>>, queue: u32, length: u32) {
+    switch.arrive(0, &plain(0, 0, queue, length)).unwrap();
+    switch.stitch(0).unwrap();
+    switch.prefetch(0, queue).unwrap();
+}
+
+/// The queue that a turn of port 0 serves.
+fn served(switch: &mut Switch<Vec<u8>>) -> u8 {
+    match switch.turn(0).unwrap() {
+        Turn::Sent(sent) => sent.queue,
+        Turn::Idle => panic!("idle"),
+    }
+}
+
+/// The published check value of this CRC-8 is F4, for the digits 1 to 9: of
+/// all last bytes, the library takes that one alone.
+#[test]
+fn published_check_value() {
+    assert_eq!(crc8(b"123456789"), 0xF4);
+    for last in 0..=255 {
+        let mut switch = switch(SMALL);
+        let mut header = *b"123456789?";
+        header[9] = last;
+        // Read as a header: source 3, queue 2, length 3,212.
+        let answer = switch.arrive(3, &header);
+        if last != 0xF4 {
+            assert_eq!(answer, Err(Refusal::Checksum));
+            continue;
+        }
+        assert_eq!(answer, Ok(EntryId(3 * 2048)));
+        let record = switch.stitch(3).unwrap();
+        assert_eq!((record.queue, record.length, record.port), (2, 3212, 0));
+        assert_eq!(record.timestamp, u32::from_be_bytes(*b"4567"));
+    }
+}
+
+#[test]
+fn price_cases() {
+    for (length, price) in [(12, 0), (13, 1), (76, 1), (77, 2), (8191, 128)] {
+        for (queue, price) in [(7, price), (0, 0)] {
+            let mut switch = switch(SMALL);
+            bring(&mut switch, queue, length);
+            if price > 0 {
+                switch.credit(0, queue, price - 1).unwrap();
+                assert_eq!(switch.turn(0), Ok(Turn::Idle));
+                switch.credit(0, queue, 1).unwrap();
+            }
+            match switch.turn(0).unwrap() {
+                Turn::Sent(sent) => assert_eq!(u32::from(sent.price), price),
+                Turn::Idle => panic!("idle at length {length}"),
+            }
+        }
+    }
+}
+
+#[test]
+fn ten_zero_bytes() {
+    let mut switch = switch(SMALL);
+    assert_eq!(switch.arrive(0, &[0; 10]), Err(Refusal::PacketTooShort));
+    assert_eq!(switch.arrive(1, &[0; 10]), Err(Refusal::WrongSource));
+}
+
+#[test]
+fn shortest_packet() {
+    let mut switch = switch(SMALL);
+    let mut wrong = SHORTEST;
+    wrong[9] = 0x73;
+    assert_eq!(switch.arrive(0, &wrong), Err(Refusal::Checksum));
+    assert_eq!(switch.arrive(0, &SHORTEST), Ok(EntryId(0)));
+    let mut memory = switch.into_memory();
+    let mut record = [0xFF; 10];
+    assert_eq!(ventorupo::calls::stitch(&mut memory, 0, &mut record), 0);
+    assert_eq!(record, [0, 0, 0, 0x0C, 0, 0, 0, 0, 0, 0]);
+}
+
+#[test]
+fn first_bytes() {
+    let mut header = [0x6B, 0xFF, 0xFC, 0, 0, 0, 0, 0, 0, 0];
+    header[9] = crc8(&header[..9]);
+    let mut switch = switch(SMALL);
+    switch.map(1, 3).unwrap();
+    assert_eq!(switch.arrive(2, &header), Ok(EntryId(2 * 2048)));
+    let record = switch.stitch(2).unwrap();
+    assert_eq!((record.queue, record.length, record.port), (23, 8191, 3));
+}
+
+#[test]
+fn one_node_is_used_again() {
+    let mut switch = switch(Settings { nodes: 1, ..SMALL });
+    assert_eq!(switch.arrive(0, &SHORTEST), Ok(EntryId(0)));
+    assert_eq!(switch.arrive(0, &SHORTEST), Err(Refusal::NoFreeNode));
+    switch.stitch(0).unwrap();
+    switch.prefetch(0, 0).unwrap();
+    assert_eq!(served(&mut switch), 0);
+    assert_eq!(switch.arrive(0, &SHORTEST), Ok(EntryId(0)));
+}
+
+#[test]
+fn three_ready_after_queue_5() {
+    let mut switch = switch(SMALL);
+    bring(&mut switch, 5, 12);
+    assert_eq!(served(&mut switch), 5);
+    for queue in [2, 2, 5, 5, 9, 9] {
+        bring(&mut switch, queue, 12);
+    }
+    for queue in [9, 2, 5] {
+        let ready = switch.ready(0).unwrap();
+        assert_eq!((ready.word, ready.count), (1 << 2 | 1 << 5 | 1 << 9, 3));
+        assert_eq!(served(&mut switch), queue);
+    }
+}
+
+#[test]
+fn all_ready_after_queue_5() {
+    let mut switch = switch(Settings { nodes: 64, ..SMALL });
+    bring(&mut switch, 5, 12);
+    assert_eq!(served(&mut switch), 5);
+    for queue in 0..24 {
+        bring(&mut switch, queue, 12);
+        bring(&mut switch, queue, 12);
+    }
+    for turn in 1..=24 {
+        assert_eq!(switch.ready(0).unwrap().count, 24);
+        assert_eq!(served(&mut switch), (5 + turn) % 24);
+    }
+}
+
+#[test]
+fn outward_credit_at_its_most() {
+    let mut switch = switch(SMALL);
+    switch.credit(3, 23, 65_535).unwrap();
+    assert_eq!(switch.credit(3, 23, 0), Ok(()));
+    assert_eq!(switch.credit(3, 23, 1), Err(Refusal::CreditOverflow));
+    assert_eq!(switch.credit(3, 23, u32::MAX), Err(Refusal::CreditOverflow));
+}
+
+#[test]
+fn nodes_per_port() {
+    for (nodes, accepted) in [(256, true), (0, false), (257, false)] {
+        let settings = Settings { nodes, ..SMALL };
+        match Switch::setup(vec![0; 65_536], settings) {
+            Ok(_) => assert!(accepted),
+            Err((refusal, memory)) => {
+                assert!(!accepted);
+                assert_eq!(refusal, Refusal::SettingOutOfRow);
+                assert_eq!(memory, vec![0; 65_536]);
+            }
+        }
+    }
+}
+
+#[test]
+fn prefetch_with_nothing_to_take_and_full_slots() {
+    let mut switch = switch(Settings { slots: 1, ..SMALL });
+    bring(&mut switch, 3, 12);
+    assert_eq!(switch.prefetch(0, 3), Err(Refusal::NothingToTake));
+    switch.arrive(0, &plain(0, 0, 3, 12)).unwrap();
+    switch.stitch(0).unwrap();
+    assert_eq!(switch.prefetch(0, 3), Err(Refusal::SlotsInUse));
+}
+
+#[test]
+fn the_bench_programs_whole_case() {
+    let settings = Settings {
+        nodes: 1,
+        beat: 64,
+        slots: 1,
+        credit: 16,
+    };
+    let mut switch = switch(settings);
+    assert_eq!(switch.arrive(0, &SHORTEST), Ok(EntryId(0)));
+    assert_eq!(switch.stitch(0).unwrap().entry, EntryId(0));
+    assert_eq!(switch.prefetch(0, 0), Ok(EntryId(0)));
+    assert_eq!(served(&mut switch), 0);
+    assert_eq!(switch.turn(0), Ok(Turn::Idle));
+    assert_eq!(switch.turn(4), Err(Refusal::NoSuchPort));
+}
+
+#[test]
+fn port_3_node_5_is_6149() {
+    let switch = switch(SMALL);
+    let place = switch.place_of(EntryId(6149)).unwrap();
+    assert_eq!(
+        (place.list, place.position),
+        (ListKind::Free { port: 3 }, 5)
+    );
+    assert_eq!((EntryId(6149).port(), EntryId(6149).index()), (3, 5));
+    assert_eq!(switch.place_of(EntryId(8)), Err(Refusal::NoSuchIdOrNode));
+    assert_eq!(switch.place_of(EntryId(8192)), Err(Refusal::NoSuchIdOrNode));
+}
+
+#[test]
+fn a_turn_answers_every_recorded_field() {
+    let mut switch = switch(SMALL);
+    switch.map(3, 1).unwrap();
+    // The reserved bit is set and ignored.
+    let bytes = header(3, 2, 11, 1000, true, true, 0xDEAD_BEEF, 200, 0x5A);
+    switch.arrive(2, &bytes).unwrap();
+    switch.stitch(2).unwrap();
+    switch.prefetch(1, 11).unwrap();
+    switch.credit(1, 11, 16).unwrap();
+    let sent = ventorupo::Sent {
+        side: Side::Outside,
+        queue: 11,
+        entry: EntryId(4096),
+        length: 1000,
+        destination: 3,
+        timestamp: 0xDEAD_BEEF,
+        poisoned: true,
+        transaction: 0x5A,
+        price: 16,
+    };
+    assert_eq!(switch.turn(1), Ok(Turn::Sent(sent)));
+    // Home to the port in its entry id.
+    let place = switch.place_of(EntryId(4096)).unwrap();
+    assert_eq!(
+        (place.list, place.position),
+        (ListKind::Free { port: 2 }, 7)
+    );
+}
+
+/// Lengths that would be ten if they were cut to a byte or two.
+#[test]
+fn headers_of_other_lengths() {
+    let mut switch = switch(SMALL);
+    for length in (0..=300).chain([65_536 + 10, 1 << 20]) {
+        let mut header = SHORTEST.to_vec();
+        header.resize(length, 0);
+        let wanted = match length {
+            10 => Ok(EntryId(0)),
+            _ => Err(Refusal::HeaderLength),
+        };
+        assert_eq!(switch.arrive(0, &header), wanted, "{length} bytes");
+    }
+}
+
+/// Memory of any length from the size on, also where a length cut to two
+/// bytes would be too short.
+#[test]
+fn more_memory_than_needed() {
+    let needed = ventorupo::size(SMALL.nodes).unwrap();
+    for length in [needed, needed + 1, 65_535, 65_536, 65_537, 131_072, 1 << 24] {
+        let mut memory = vec![0x5A; length];
+        let mut switch = Switch::setup(&mut memory[..], SMALL).unwrap();
+        assert_eq!(switch.arrive(0, &SHORTEST), Ok(EntryId(0)));
+        assert_eq!(switch.turn(0), Ok(Turn::Idle));
+        assert!(memory[needed..].iter().all(|&byte| byte == 0x5A));
+    }
+}

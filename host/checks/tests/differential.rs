@@ -1,0 +1,183 @@
+//! Short differential runs; the long ones are `soak`'s.
+
+use checks::counts::Counts;
+use checks::run::{run, Plan};
+use checks::{damage, library, wrapper, Desk};
+use model::{size, Call, Reply};
+use traffic::Profile;
+
+const NODES: [u32; 6] = [1, 2, 4, 16, 64, 256];
+
+fn run_all<D: Desk>(desk: &D, calls: usize) -> Counts {
+    let mut counts = Counts::default();
+    for profile in Profile::ALL {
+        for (seed, nodes) in (1..).zip(NODES) {
+            let plan = Plan {
+                seed,
+                profile,
+                memory_len: size(nodes) + 7,
+                calls: if nodes > 16 { calls / 4 } else { calls },
+                ledger_every: 64,
+            };
+            if let Err(failure) = run(&plan, desk, &mut counts) {
+                panic!("{failure}");
+            }
+        }
+    }
+    counts
+}
+
+#[test]
+fn the_library_agrees_with_the_model() {
+    let counts = run_all(&library::call, 10_000);
+    println!("{counts}");
+    assert_eq!(counts.too_rare(1, 100), []);
+    assert!(counts.each_call_at_least(100));
+}
+
+#[test]
+fn the_wrapper_agrees_with_the_model() {
+    let counts = run_all(&wrapper::call, 5_000);
+    assert_eq!(counts.too_rare(1, 50), []);
+}
+
+/// Memory that no state fits into, of any length down to none.
+#[test]
+fn memory_too_short_for_any_state() {
+    let mut counts = Counts::default();
+    for memory_len in (0..40).chain([100, 1988, size(1) - 1]) {
+        for profile in Profile::ALL {
+            let plan = Plan {
+                seed: memory_len as u64,
+                profile,
+                memory_len,
+                calls: 50,
+                ledger_every: 1,
+            };
+            if let Err(failure) = run(&plan, &library::call, &mut counts) {
+                panic!("{failure}");
+            }
+        }
+    }
+}
+
+#[test]
+fn the_size_is_the_published_formula() {
+    for nodes in 0..2000 {
+        let wanted = (1..=256)
+            .contains(&nodes)
+            .then(|| 1988 + 52 * nodes as usize);
+        assert_eq!(ventorupo::size(nodes), wanted, "{nodes} nodes");
+    }
+    for nodes in [65_536, 65_537, 1 << 31, u32::MAX] {
+        assert_eq!(ventorupo::size(nodes), None);
+    }
+}
+
+#[test]
+fn damaged_memory_is_judged_alike_by_all() {
+    let mut verdicts = damage::Verdicts::default();
+    for number in 0..40 {
+        let plan = damage::Plan::numbered(5, number, 50);
+        if let Err(failure) = damage::run(&plan, &library::call, &mut verdicts) {
+            panic!("{failure}");
+        }
+    }
+    println!("{verdicts}");
+    assert_eq!(verdicts.memories(), 2000);
+    assert!(verdicts.states > 200 && verdicts.no_states > 200);
+}
+
+// Would slips be found? Libraries with one, each found and cut down.
+
+/// The plan on which slips are looked for.
+const SLIPPERY: Plan = Plan {
+    seed: 3,
+    profile: Profile::Valid,
+    memory_len: 1988 + 52 * 4,
+    calls: 20_000,
+    ledger_every: 256,
+};
+
+fn calls_that_remain<D: Desk>(desk: &D) -> Vec<Call> {
+    match run(&SLIPPERY, desk, &mut Counts::default()) {
+        Ok(()) => panic!("the slip was not found"),
+        Err(failure) => {
+            println!("{failure}");
+            failure.remaining
+        }
+    }
+}
+
+/// Giving arrival credit back at prefetch, one of the paper's slips: seen in
+/// the ledger only, some calls later.
+#[test]
+fn a_slip_in_the_ledger_is_found_and_cut_down() {
+    let slip = |memory: &mut [u8], call: &Call| {
+        let reply = library::call(memory, call)?;
+        if let (Call::Prefetch { .. }, Reply::Entry(_)) = (call, reply) {
+            // Arrival credit of port 0 and queue 1, lowest byte.
+            memory[21] = memory[21].wrapping_add(1);
+        }
+        Ok(reply)
+    };
+    // Setup, arrive, stitch, prefetch.
+    assert_eq!(calls_that_remain(&slip).len(), 4);
+}
+
+/// Returning a wrong answer in one case.
+#[test]
+fn a_slip_in_an_answer_is_found_and_cut_down() {
+    let slip = |memory: &mut [u8], call: &Call| match library::call(memory, call)? {
+        Reply::Word(word, count) if count >= 2 => Ok(Reply::Word(word, count - 1)),
+        reply => Ok(reply),
+    };
+    // Setup, ready, and for each of two packets arrive, stitch, prefetch and,
+    // if it has a price, credit.
+    let remaining = calls_that_remain(&slip).len();
+    assert!((8..=10).contains(&remaining), "{remaining} remain");
+}
+
+/// Writing one byte past the size.
+#[test]
+fn a_slip_past_the_size_is_found_and_cut_down() {
+    let slip = |memory: &mut [u8], call: &Call| {
+        let reply = library::call(memory, call)?;
+        if let (Call::Map { id: 3, .. }, Some(last)) = (call, memory.last_mut()) {
+            *last ^= 1;
+        }
+        Ok(reply)
+    };
+    // The map alone, refused 3, changes a byte already.
+    assert_eq!(calls_that_remain(&slip).len(), 1);
+}
+
+/// A test for a state that overlooks one rule.
+#[test]
+fn a_slip_in_the_test_for_a_state_is_found() {
+    let slip = |memory: &mut [u8], call: &Call| {
+        let kept = memory.to_vec();
+        // A last served queue out of range is taken for 0.
+        if memory.len() > 19 && memory[16] > 23 {
+            memory[16] = 0;
+        }
+        let reply = library::call(memory, call)?;
+        if let Reply::Refused(_) | Reply::Idle = reply {
+            memory.copy_from_slice(&kept);
+        }
+        Ok(reply)
+    };
+    let mut found = None;
+    for number in 0..200 {
+        let plan = damage::Plan::numbered(9, number, 50);
+        let result = damage::run(&plan, &slip, &mut damage::Verdicts::default());
+        if let Err(failure) = result {
+            println!("{failure}");
+            found = Some(failure);
+            break;
+        }
+    }
+    let failure = found.expect("the slip was not found");
+    assert_eq!(failure.changes.len(), 1);
+    assert_eq!(failure.changes[0].at, 16);
+}

@@ -1,0 +1,332 @@
+//! How fast the proved library is on this machine, told as Markdown: beside a
+//! bare walk over the same links, and beside the model.
+//!
+//! Every public call but setup first tests whether the memory is a state. The
+//! acts without that test are not exported, so they can't be timed here.
+
+use std::time::Instant;
+
+use checks::library;
+use checks::reader::{Tables, LISTS};
+use model::{size, Call, Choice, Model, Reply, Settings, PORTS, QUEUES};
+use traffic::{header, Profile, Traffic};
+use ventorupo::calls;
+
+/// How often each thing is timed. The best counts: other work on the machine
+/// only ever adds time.
+const SAMPLES: usize = 300;
+
+/// Nanoseconds that the work takes.
+fn timed(work: impl FnOnce()) -> f64 {
+    let start = Instant::now();
+    work();
+    start.elapsed().as_nanos() as f64
+}
+
+fn settings(nodes: u32) -> Settings {
+    Settings {
+        nodes,
+        beat: 64,
+        slots: 8,
+        credit: 5000,
+    }
+}
+
+/// A setup, then valid traffic without further setups.
+fn valid_traffic(nodes: u32, calls: usize) -> Vec<Call> {
+    let mut model = Model::new(size(nodes));
+    let mut list = vec![Call::Setup(settings(nodes))];
+    model.call(&list[0]);
+    let mut traffic = Traffic::new(1, Profile::Valid);
+    while list.len() <= calls {
+        let call = traffic.next(&model);
+        if !matches!(call, Call::Setup(_)) {
+            model.call(&call);
+            list.push(call);
+        }
+    }
+    list
+}
+
+/// Memory after traffic: nodes in many lists, in no particular order.
+fn used_memory(nodes: u32) -> Vec<u8> {
+    let mut memory = vec![0; size(nodes)];
+    for call in valid_traffic(nodes, 3000 + 20 * nodes as usize) {
+        library::call(&mut memory, &call).unwrap();
+    }
+    memory
+}
+
+/// The bare walk: every list from its head along the links, as many nodes as
+/// its count says. Nothing is tested but the slice's end. It goes on from a sum
+/// and isn't inlined, so that no compiler can make many walks one.
+#[inline(never)]
+fn walk(memory: &[u8], tables: &Tables, nodes: usize, mut sum: u64) -> u64 {
+    let two = |at: usize| usize::from(u16::from_be_bytes([memory[at], memory[at + 1]]));
+    for list in 0..LISTS {
+        let at = tables.count.start + 4 * list;
+        let count = [memory[at], memory[at + 1], memory[at + 2], memory[at + 3]];
+        let mut entry = two(tables.head.start + 2 * list);
+        for _ in 0..u32::from_be_bytes(count) {
+            sum += entry as u64;
+            let element = (entry >> 11) * nodes + (entry & 2047);
+            entry = two(tables.next.start + 2 * element);
+        }
+    }
+    sum
+}
+
+fn the_test_for_a_state() {
+    println!("### The test for a state: ready, beside a bare walk of the same links\n");
+    println!("| N | nodes in all | ready, ns | ns a node | bare walk, ns | ns a node | ratio |");
+    println!("|---|---|---|---|---|---|---|");
+    for nodes in [1, 16, 64, 256] {
+        let memory = used_memory(nodes);
+        let tables = Tables::of(nodes as usize);
+        let times = 8_000 / (40 + nodes as usize);
+        let (mut ready, mut bare, mut sum) = (f64::INFINITY, f64::INFINITY, 0);
+        // In turns, so that both meet the same weather.
+        for _ in 0..SAMPLES {
+            let spent = timed(|| {
+                for _ in 0..times {
+                    let (mut word, mut count) = (0, 0);
+                    assert_eq!(calls::ready(&memory, 0, &mut word, &mut count), 0);
+                }
+            });
+            ready = ready.min(spent / times as f64);
+            let spent = timed(|| {
+                for _ in 0..times {
+                    sum = walk(&memory, &tables, nodes as usize, sum);
+                }
+            });
+            bare = bare.min(spent / times as f64);
+        }
+        // Each walk met each node once.
+        let once: u32 = (0..PORTS)
+            .flat_map(|port| (0..nodes).map(move |index| port * 2048 + index))
+            .sum();
+        assert_eq!(sum, u64::from(once) * (SAMPLES * times) as u64);
+        let all = f64::from(PORTS * nodes);
+        println!(
+            "| {nodes} | {all} | {ready:.0} | {:.1} | {bare:.0} | {:.1} | {:.1} |",
+            ready / all,
+            bare / all,
+            ready / bare
+        );
+    }
+    println!();
+}
+
+const NAMES: [&str; 10] = [
+    "setup",
+    "arrive",
+    "stitch",
+    "prefetch",
+    "credit",
+    "turn",
+    "idle turn",
+    "ready",
+    "where",
+    "map",
+];
+
+/// Nanoseconds a call of each kind, on a switch that is filled and emptied.
+fn each_call(nodes: u32) -> Vec<(&'static str, f64)> {
+    // As many at a port as nodes and slots allow: seven a queue.
+    let packets = nodes.min(7 * (QUEUES - 1));
+    let mut memory = vec![0; size(nodes)];
+    let s = settings(nodes);
+    let rounds = if nodes == 1 { 2000 } else { 20 };
+    let mut least = [f64::INFINITY; NAMES.len()];
+    let queue_of = |packet: u32| 1 + packet % (QUEUES - 1);
+    let headers: Vec<(u32, u32, [u8; 10])> = (0..packets)
+        .flat_map(|packet| (0..PORTS).map(move |port| (port, queue_of(packet))))
+        // Destination id p is mapped to port p: 100 bytes of data, two beats.
+        .map(|(port, queue)| {
+            let bytes = header(port, port, queue, 112, false, false, 7, 0, 0);
+            (port, queue, bytes)
+        })
+        .collect();
+    // The kinds come in phases of one round; a phase is timed as a whole.
+    for _ in 0..rounds {
+        let mut phase = |kind: usize, times: usize, work: &mut dyn FnMut(&mut [u8])| {
+            let spent = timed(|| work(&mut memory));
+            least[kind] = least[kind].min(spent / times as f64);
+        };
+        phase(0, 1, &mut |m| {
+            assert_eq!(calls::setup(m, s.nodes, s.beat, s.slots, s.credit), 0);
+        });
+        phase(9, PORTS as usize, &mut |m| {
+            for port in 0..PORTS {
+                assert_eq!(calls::map(m, port, port), 0);
+            }
+        });
+        phase(1, headers.len(), &mut |m| {
+            let mut entry = 0;
+            for (port, _, bytes) in &headers {
+                assert_eq!(calls::arrive(m, *port, bytes, &mut entry), 0);
+            }
+        });
+        phase(2, headers.len(), &mut |m| {
+            let mut record = [0; 10];
+            for (port, ..) in &headers {
+                assert_eq!(calls::stitch(m, *port, &mut record), 0);
+            }
+        });
+        phase(3, headers.len(), &mut |m| {
+            let mut entry = 0;
+            for (port, queue, _) in &headers {
+                assert_eq!(calls::prefetch(m, *port, *queue, &mut entry), 0);
+            }
+        });
+        phase(6, PORTS as usize, &mut |m| {
+            let mut sent = [0; 16];
+            for port in 0..PORTS {
+                assert_eq!((calls::turn(m, port, &mut sent), sent[0]), (0, 0));
+            }
+        });
+        phase(4, headers.len(), &mut |m| {
+            for (port, queue, _) in &headers {
+                assert_eq!(calls::credit(m, *port, *queue, 2), 0);
+            }
+        });
+        phase(7, PORTS as usize, &mut |m| {
+            for port in 0..PORTS {
+                let (mut word, mut count) = (0, 0);
+                assert_eq!(calls::ready(m, port, &mut word, &mut count), 0);
+            }
+        });
+        phase(8, PORTS as usize, &mut |m| {
+            let mut place = [0; 8];
+            for port in 0..PORTS {
+                assert_eq!(calls::place_of(m, port * 2048 + nodes / 2, &mut place), 0);
+            }
+        });
+        phase(5, headers.len(), &mut |m| {
+            let mut sent = [0; 16];
+            for (port, ..) in &headers {
+                assert_eq!((calls::turn(m, *port, &mut sent), sent[0]), (0, 2));
+            }
+        });
+    }
+    NAMES.into_iter().zip(least).collect()
+}
+
+fn each_call_through_c() {
+    println!("### Each call through the C interface, ns\n");
+    println!("| call | N = 1 | N = 256 |");
+    println!("|---|---|---|");
+    for ((name, small), (_, large)) in each_call(1).into_iter().zip(each_call(256)) {
+        println!("| {name} | {small:.0} | {large:.0} |");
+    }
+    println!();
+}
+
+/// Nanoseconds for the whole list: library, and model with either choice. Some
+/// passes are made over it, each part of it counts at its best, and the three
+/// take turns, so that all meet the same weather.
+fn whole_list(nodes: u32, list: &[Call]) -> [f64; 3] {
+    const PART: usize = 50;
+    let mut least = vec![[f64::INFINITY; 3]; (list.len() + PART - 1) / PART];
+    for _ in 0..15 {
+        let mut memory = vec![0; size(nodes)];
+        let mut whole = Model::with_choice(size(nodes), Choice::WholeWord);
+        let mut early = Model::with_choice(size(nodes), Choice::EarlyOut);
+        for (part, least) in list.chunks(PART).zip(&mut least) {
+            let mut refused = [0; 3];
+            let refuses = |reply: Reply| matches!(reply, Reply::Refused(_));
+            let spent = [
+                timed(|| {
+                    let calls = part.iter();
+                    refused[0] = calls.filter(|call| quick(&mut memory, call) != 0).count();
+                }),
+                timed(|| {
+                    let calls = part.iter();
+                    refused[1] = calls.filter(|call| refuses(whole.call(call))).count();
+                }),
+                timed(|| {
+                    let calls = part.iter();
+                    refused[2] = calls.filter(|call| refuses(early.call(call))).count();
+                }),
+            ];
+            // The same work, and its answers are used.
+            assert!(refused == [refused[0]; 3]);
+            for (least, spent) in least.iter_mut().zip(spent) {
+                *least = least.min(spent);
+            }
+        }
+    }
+    [0, 1, 2].map(|desk| least.iter().map(|part| part[desk]).sum())
+}
+
+fn beside_the_model() {
+    println!("### Whole public calls on the same valid traffic, ns a call\n");
+    println!("| N | library | model, whole word | ratio | model, early out | ratio |");
+    println!("|---|---|---|---|---|---|");
+    for nodes in [1, 16, 64, 256] {
+        let list = valid_traffic(nodes, 500_000 / (20 + nodes as usize));
+        let [library, whole, early] = whole_list(nodes, &list);
+        let a_call = |all: f64| all / list.len() as f64;
+        println!(
+            "| {nodes} | {:.0} | {:.0} | {:.0} | {:.0} | {:.0} |",
+            a_call(library),
+            a_call(whole),
+            library / whole,
+            a_call(early),
+            library / early
+        );
+    }
+    println!();
+}
+
+/// A call with no check of its rooms: its number and nothing else.
+fn quick(memory: &mut [u8], call: &Call) -> u32 {
+    let mut entry = 0;
+    match call {
+        Call::Setup(s) => calls::setup(memory, s.nodes, s.beat, s.slots, s.credit),
+        Call::Arrive { port, header } => calls::arrive(memory, *port, header, &mut entry),
+        Call::Stitch { port } => calls::stitch(memory, *port, &mut [0; 10]),
+        Call::Prefetch { port, queue } => calls::prefetch(memory, *port, *queue, &mut entry),
+        Call::Credit {
+            port,
+            queue,
+            amount,
+        } => calls::credit(memory, *port, *queue, *amount),
+        Call::Map { id, port } => calls::map(memory, *id, *port),
+        Call::Turn { port } => calls::turn(memory, *port, &mut [0; 16]),
+        Call::Ready { port } => calls::ready(memory, *port, &mut 0, &mut 0),
+        Call::Where { entry } => calls::place_of(memory, *entry, &mut [0; 8]),
+    }
+}
+
+/// The processor's name as Linux tells it.
+fn processor() -> String {
+    std::fs::read_to_string("/proc/cpuinfo")
+        .ok()
+        .and_then(|text| {
+            let line = text.lines().find(|line| line.starts_with("model name"))?;
+            Some(line.split(':').nth(1)?.trim().to_string())
+        })
+        .unwrap_or_else(|| "an unknown processor".into())
+}
+
+fn main() {
+    if cfg!(debug_assertions) {
+        eprintln!("perf: build it optimised, with --release");
+        std::process::exit(2);
+    }
+    // The list is as long as it says: the same work on both sides.
+    let mut memory = vec![0; size(4)];
+    let mut model = Model::new(size(4));
+    for call in valid_traffic(4, 2000) {
+        let wanted = model.call(&call);
+        assert_eq!(library::call(&mut memory, &call), Ok(wanted));
+        assert_ne!(wanted, Reply::Refused(3));
+    }
+    println!("On {}, in one process.\n", processor());
+    the_test_for_a_state();
+    each_call_through_c();
+    beside_the_model();
+    println!("Every call but setup begins with the test for a state. The acts without it are not");
+    println!("exported, so they have no row.");
+}

@@ -1,0 +1,150 @@
+//! What the calls answer, and how it stands in the C interface's rooms.
+
+/// A node's entry id: port × 2048 + index.
+#[derive(Debug, Clone, Copy, PartialEq, Eq, Hash, PartialOrd, Ord)]
+pub struct EntryId(pub u16);
+
+impl EntryId {
+    /// The port that owns the node.
+    pub fn port(self) -> u16 {
+        self.0 / 2048
+    }
+
+    /// The node's index at its port.
+    pub fn index(self) -> u16 {
+        self.0 % 2048
+    }
+}
+
+fn two(bytes: &[u8], at: usize) -> u16 {
+    u16::from_be_bytes([bytes[at], bytes[at + 1]])
+}
+
+fn four(bytes: &[u8], at: usize) -> u32 {
+    u32::from_be_bytes([bytes[at], bytes[at + 1], bytes[at + 2], bytes[at + 3]])
+}
+
+/// Stitch's answer.
+#[derive(Debug, Clone, Copy, PartialEq, Eq)]
+pub struct Record {
+    pub entry: EntryId,
+    /// Header, data and footer, in bytes.
+    pub length: u16,
+    pub queue: u8,
+    /// The port that the destination id is mapped to.
+    pub port: u8,
+    pub timestamp: u32,
+}
+
+impl Record {
+    /// The record in its ten bytes.
+    pub fn from_bytes(bytes: &[u8; 10]) -> Record {
+        Record {
+            entry: EntryId(two(bytes, 0)),
+            length: two(bytes, 2),
+            queue: bytes[4],
+            port: bytes[5],
+            timestamp: four(bytes, 6),
+        }
+    }
+}
+
+/// Where a packet goes when it leaves: inside for queue 0, else outside.
+#[derive(Debug, Clone, Copy, PartialEq, Eq)]
+pub enum Side {
+    Inside,
+    Outside,
+}
+
+/// The packet that a turn sent, with all that was recorded for it.
+#[derive(Debug, Clone, Copy, PartialEq, Eq)]
+pub struct Sent {
+    pub side: Side,
+    pub queue: u8,
+    pub entry: EntryId,
+    /// Header, data and footer, in bytes.
+    pub length: u16,
+    /// The header's destination id.
+    pub destination: u16,
+    pub timestamp: u32,
+    pub poisoned: bool,
+    pub transaction: u8,
+    /// In beats.
+    pub price: u16,
+}
+
+/// A turn's answer.
+#[derive(Debug, Clone, Copy, PartialEq, Eq)]
+pub enum Turn {
+    /// Nothing was ready, and nothing has changed.
+    Idle,
+    Sent(Sent),
+}
+
+impl Turn {
+    /// A turn's answer in its 16 bytes; none if the first is no kind.
+    pub fn from_bytes(bytes: &[u8; 16]) -> Option<Turn> {
+        let side = match bytes[0] {
+            0 => return Some(Turn::Idle),
+            1 => Side::Inside,
+            2 => Side::Outside,
+            _ => return None,
+        };
+        Some(Turn::Sent(Sent {
+            side,
+            queue: bytes[1],
+            entry: EntryId(two(bytes, 2)),
+            length: two(bytes, 4),
+            destination: two(bytes, 6),
+            timestamp: four(bytes, 8),
+            poisoned: bytes[12] != 0,
+            transaction: bytes[13],
+            price: two(bytes, 14),
+        }))
+    }
+}
+
+/// The four kinds of list, with the port and, for the last two, the queue.
+#[derive(Debug, Clone, Copy, PartialEq, Eq)]
+pub enum ListKind {
+    Free { port: u8 },
+    Ingress { port: u8 },
+    Egress { port: u8, queue: u8 },
+    Prefetch { port: u8, queue: u8 },
+}
+
+/// Where a node stands: its list, and the position in it from 0.
+#[derive(Debug, Clone, Copy, PartialEq, Eq)]
+pub struct Place {
+    pub entry: EntryId,
+    pub list: ListKind,
+    pub position: u16,
+}
+
+impl Place {
+    /// A place in its 8 bytes; none if the third is no kind of list.
+    pub fn from_bytes(bytes: &[u8; 8]) -> Option<Place> {
+        let (port, queue) = (bytes[3], bytes[4]);
+        let list = match bytes[2] {
+            0 => ListKind::Free { port },
+            1 => ListKind::Ingress { port },
+            2 => ListKind::Egress { port, queue },
+            3 => ListKind::Prefetch { port, queue },
+            _ => return None,
+        };
+        Some(Place {
+            entry: EntryId(two(bytes, 0)),
+            list,
+            position: two(bytes, 6),
+        })
+    }
+}
+
+/// Ready's answer.
+#[derive(Debug, Clone, Copy, PartialEq, Eq)]
+pub struct Ready {
+    /// Bit q for queue q.
+    pub word: u64,
+    /// The number of ones in the word.
+    pub count: u32,
+}

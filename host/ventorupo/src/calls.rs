@@ -1,0 +1,113 @@
+//! The C interface's calls, with slices for pointers and lengths: each answers
+//! 0 or a refusal's number, and a refusal changes neither memory nor room.
+//!
+//! All of this crate's unsafe code is here. C asks that a pointer is valid for
+//! its length, that it is aligned, and that lent memories do not overlap. A
+//! reference is valid and aligned for its type, a slice's pointer is valid for
+//! its length (also for 0), and two references of which one is `&mut` never
+//! overlap. No call keeps a pointer after it has answered.
+
+mod c {
+    extern "C" {
+        pub fn vr_size(nodes: u32) -> u64;
+        pub fn vr_setup(
+            mem: *mut u8,
+            len: usize,
+            nodes: u32,
+            beat: u32,
+            slots: u32,
+            credit: u32,
+        ) -> u32;
+        pub fn vr_arrive(
+            mem: *mut u8,
+            len: usize,
+            port: u32,
+            header: *const u8,
+            header_len: usize,
+            entry: *mut u16,
+        ) -> u32;
+        pub fn vr_stitch(mem: *mut u8, len: usize, port: u32, record: *mut u8) -> u32;
+        pub fn vr_prefetch(mem: *mut u8, len: usize, port: u32, queue: u32, entry: *mut u16)
+            -> u32;
+        pub fn vr_credit(mem: *mut u8, len: usize, port: u32, queue: u32, amount: u32) -> u32;
+        pub fn vr_map(mem: *mut u8, len: usize, id: u32, port: u32) -> u32;
+        pub fn vr_turn(mem: *mut u8, len: usize, port: u32, sent: *mut u8) -> u32;
+        pub fn vr_ready(
+            mem: *const u8,
+            len: usize,
+            port: u32,
+            word: *mut u64,
+            count: *mut u32,
+        ) -> u32;
+        pub fn vr_where(mem: *const u8, len: usize, entry: u32, place: *mut u8) -> u32;
+    }
+}
+
+/// The bytes that a state of so many nodes a port takes; 0 if there is none.
+pub fn size(nodes: u32) -> u64 {
+    // Sound: no pointer is handed over.
+    unsafe { c::vr_size(nodes) }
+}
+
+pub fn setup(memory: &mut [u8], nodes: u32, beat: u32, slots: u32, credit: u32) -> u32 {
+    // Sound: the slice's own pointer and length.
+    unsafe {
+        c::vr_setup(
+            memory.as_mut_ptr(),
+            memory.len(),
+            nodes,
+            beat,
+            slots,
+            credit,
+        )
+    }
+}
+
+pub fn arrive(memory: &mut [u8], port: u32, header: &[u8], entry: &mut u16) -> u32 {
+    // Sound: two slices with their lengths, and an aligned u16, all apart.
+    unsafe {
+        c::vr_arrive(
+            memory.as_mut_ptr(),
+            memory.len(),
+            port,
+            header.as_ptr(),
+            header.len(),
+            entry,
+        )
+    }
+}
+
+pub fn stitch(memory: &mut [u8], port: u32, record: &mut [u8; 10]) -> u32 {
+    // Sound: the slice with its length; the room has the ten bytes C asks for.
+    unsafe { c::vr_stitch(memory.as_mut_ptr(), memory.len(), port, record.as_mut_ptr()) }
+}
+
+pub fn prefetch(memory: &mut [u8], port: u32, queue: u32, entry: &mut u16) -> u32 {
+    // Sound: the slice with its length, and an aligned u16 apart from it.
+    unsafe { c::vr_prefetch(memory.as_mut_ptr(), memory.len(), port, queue, entry) }
+}
+
+pub fn credit(memory: &mut [u8], port: u32, queue: u32, amount: u32) -> u32 {
+    // Sound: the slice's own pointer and length.
+    unsafe { c::vr_credit(memory.as_mut_ptr(), memory.len(), port, queue, amount) }
+}
+
+pub fn map(memory: &mut [u8], id: u32, port: u32) -> u32 {
+    // Sound: the slice's own pointer and length.
+    unsafe { c::vr_map(memory.as_mut_ptr(), memory.len(), id, port) }
+}
+
+pub fn turn(memory: &mut [u8], port: u32, sent: &mut [u8; 16]) -> u32 {
+    // Sound: the slice with its length; the room has the 16 bytes C asks for.
+    unsafe { c::vr_turn(memory.as_mut_ptr(), memory.len(), port, sent.as_mut_ptr()) }
+}
+
+pub fn ready(memory: &[u8], port: u32, word: &mut u64, count: &mut u32) -> u32 {
+    // Sound: the memory is read only; two aligned rooms, apart from it.
+    unsafe { c::vr_ready(memory.as_ptr(), memory.len(), port, word, count) }
+}
+
+pub fn place_of(memory: &[u8], entry: u32, place: &mut [u8; 8]) -> u32 {
+    // Sound: the memory is read only; the room has the 8 bytes C asks for.
+    unsafe { c::vr_where(memory.as_ptr(), memory.len(), entry, place.as_mut_ptr()) }
+}

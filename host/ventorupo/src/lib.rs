@@ -1,0 +1,207 @@
+//! A safe wrapper over the proved queue manager's C interface.
+//!
+//! A switch has four ports with 24 queues each. Its whole state lives in bytes
+//! that you lend or hand over. A call answers a value or a [`Refusal`], and
+//! after a refusal no byte differs. Nothing has to be checked beforehand, not
+//! even that the bytes are a state.
+//!
+//! ```
+//! use ventorupo::{EntryId, Refusal, Settings, Side, Switch, Turn};
+//!
+//! let settings = Settings { nodes: 1, beat: 64, slots: 1, credit: 16 };
+//! let memory = vec![0; ventorupo::size(settings.nodes).unwrap()];
+//! let mut switch = Switch::setup(memory, settings).map_err(|(why, _)| why)?;
+//!
+//! // Destination 0, source 0, queue 0, length 12.
+//! let header = [0, 0, 0x30, 0, 0, 0, 0, 0, 0, 0x72];
+//! assert_eq!(switch.arrive(0, &header)?, EntryId(0));
+//! assert_eq!(switch.arrive(0, &header), Err(Refusal::NoFreeNode));
+//! assert_eq!(switch.stitch(0)?.length, 12);
+//! switch.prefetch(0, 0)?;
+//! match switch.turn(0)? {
+//!     Turn::Sent(packet) => assert_eq!(packet.side, Side::Inside),
+//!     Turn::Idle => unreachable!(),
+//! }
+//! assert_eq!(switch.turn(0)?, Turn::Idle);
+//! # Ok::<(), Refusal>(())
+//! ```
+
+#![deny(unsafe_code)]
+
+mod answers;
+#[allow(unsafe_code)]
+pub mod calls;
+mod refusal;
+
+pub use answers::{EntryId, ListKind, Place, Ready, Record, Sent, Side, Turn};
+pub use refusal::Refusal;
+
+/// The settings, fixed at setup. Any numbers may stand here; setup refuses
+/// those that are not in their rows.
+#[derive(Debug, Clone, Copy, PartialEq, Eq)]
+pub struct Settings {
+    /// N, nodes per port: 1 to 256.
+    pub nodes: u32,
+    /// Beat in bytes: 64, 128, 256 or 512.
+    pub beat: u32,
+    /// D, prefetch slots per queue: 1 to 8.
+    pub slots: u32,
+    /// K, arrival credit per port and queue, in beats: 0 to 65,535.
+    pub credit: u32,
+}
+
+/// The bytes that a state of so many nodes a port takes; none if no state has
+/// so many.
+///
+/// ```
+/// assert_eq!(ventorupo::size(256), Some(15_300));
+/// assert_eq!(ventorupo::size(257), None);
+/// ```
+pub fn size(nodes: u32) -> Option<usize> {
+    match calls::size(nodes) {
+        0 => None,
+        bytes => usize::try_from(bytes).ok(),
+    }
+}
+
+/// 0 is done, any other number a refusal.
+fn done(number: u32) -> Result<(), Refusal> {
+    match number {
+        0 => Ok(()),
+        _ => Err(Refusal::from_number(number).expect("the library answers 0 to 15")),
+    }
+}
+
+/// A switch over memory that it owns (`Vec<u8>`, `Box<[u8]>`, `[u8; N]`) or
+/// borrows (`&mut [u8]`).
+///
+/// ```
+/// use ventorupo::{Settings, Switch};
+///
+/// let settings = Settings { nodes: 2, beat: 128, slots: 8, credit: 0 };
+/// let mut memory = [0; 2092];
+/// Switch::setup(&mut memory[..], settings).unwrap();
+/// // The state stays in the bytes.
+/// let mut switch = Switch::over(memory);
+/// switch.credit(3, 23, 65_535).unwrap();
+/// assert_eq!(switch.ready(3).unwrap().count, 0);
+/// ```
+#[derive(Debug, Clone)]
+pub struct Switch<M> {
+    memory: M,
+}
+
+impl<M: AsRef<[u8]> + AsMut<[u8]>> Switch<M> {
+    /// Write the starting ledger. A refusal (1 or 2) hands the memory back.
+    pub fn setup(memory: M, settings: Settings) -> Result<Switch<M>, (Refusal, M)> {
+        let mut switch = Switch { memory };
+        match switch.setup_again(settings) {
+            Ok(()) => Ok(switch),
+            Err(refusal) => Err((refusal, switch.memory)),
+        }
+    }
+
+    /// Memory that may hold a state. If it holds none, every call but a setup
+    /// is refused 3.
+    pub fn over(memory: M) -> Switch<M> {
+        Switch { memory }
+    }
+
+    /// Write the starting ledger over what is there. A refusal leaves it.
+    pub fn setup_again(&mut self, settings: Settings) -> Result<(), Refusal> {
+        let Settings {
+            nodes,
+            beat,
+            slots,
+            credit,
+        } = settings;
+        done(calls::setup(
+            self.memory.as_mut(),
+            nodes,
+            beat,
+            slots,
+            credit,
+        ))
+    }
+
+    /// A packet's header arrives at a port: takes a free node for it.
+    pub fn arrive(&mut self, port: u32, header: &[u8]) -> Result<EntryId, Refusal> {
+        let mut entry = 0;
+        done(calls::arrive(
+            self.memory.as_mut(),
+            port,
+            header,
+            &mut entry,
+        ))?;
+        Ok(EntryId(entry))
+    }
+
+    /// The port's oldest ingress node goes to the mapped port's egress list.
+    pub fn stitch(&mut self, port: u32) -> Result<Record, Refusal> {
+        let mut record = [0; 10];
+        done(calls::stitch(self.memory.as_mut(), port, &mut record))?;
+        Ok(Record::from_bytes(&record))
+    }
+
+    /// The oldest egress node goes to the end of the prefetch list.
+    pub fn prefetch(&mut self, port: u32, queue: u32) -> Result<EntryId, Refusal> {
+        let mut entry = 0;
+        done(calls::prefetch(
+            self.memory.as_mut(),
+            port,
+            queue,
+            &mut entry,
+        ))?;
+        Ok(EntryId(entry))
+    }
+
+    /// Adds to the outward credit of a port's queue.
+    pub fn credit(&mut self, port: u32, queue: u32, amount: u32) -> Result<(), Refusal> {
+        done(calls::credit(self.memory.as_mut(), port, queue, amount))
+    }
+
+    /// Maps a destination id to a port.
+    pub fn map(&mut self, id: u32, port: u32) -> Result<(), Refusal> {
+        done(calls::map(self.memory.as_mut(), id, port))
+    }
+
+    /// The next ready queue's oldest packet leaves, if a queue is ready.
+    pub fn turn(&mut self, port: u32) -> Result<Turn, Refusal> {
+        let mut sent = [0; 16];
+        done(calls::turn(self.memory.as_mut(), port, &mut sent))?;
+        Ok(Turn::from_bytes(&sent).expect("the library writes kind 0, 1 or 2"))
+    }
+
+    /// The port's ready word and ready count.
+    pub fn ready(&self, port: u32) -> Result<Ready, Refusal> {
+        let (mut word, mut count) = (0, 0);
+        done(calls::ready(
+            self.memory.as_ref(),
+            port,
+            &mut word,
+            &mut count,
+        ))?;
+        Ok(Ready { word, count })
+    }
+
+    /// Where a node stands.
+    pub fn place_of(&self, entry: EntryId) -> Result<Place, Refusal> {
+        let mut place = [0; 8];
+        done(calls::place_of(
+            self.memory.as_ref(),
+            entry.0.into(),
+            &mut place,
+        ))?;
+        Ok(Place::from_bytes(&place).expect("the library writes list kinds 0 to 3"))
+    }
+
+    /// The bytes that the state lives in.
+    pub fn memory(&self) -> &[u8] {
+        self.memory.as_ref()
+    }
+
+    /// The memory back, with the state in it.
+    pub fn into_memory(self) -> M {
+        self.memory
+    }
+}
