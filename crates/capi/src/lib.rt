@@ -31,7 +31,7 @@ fn refusal(no: Refusal) -> u32
     no.number() as u32
 }
 
-fn plain(answer: Plain) -> u32
+pub fn plain(answer: Plain) -> u32
     ensures { λ r. ⌜ r ≡ numberIn (plainReply answer) ⌝ }
 {
     match answer {
@@ -40,7 +40,7 @@ fn plain(answer: Plain) -> u32
     }
 }
 
-fn put_entry(answer: Entry, room: &mut u16) -> u32
+pub fn put_entry(answer: Entry, room: &mut u16) -> u32
     ensures { λ r. ⌜ (r ≡ numberIn (entryReply answer)) × (now (room .exit) ≡ entryRoom (entryReply answer) (now (room .entry))) ⌝ }
 {
     match answer {
@@ -52,7 +52,7 @@ fn put_entry(answer: Entry, room: &mut u16) -> u32
     }
 }
 
-fn put_record(answer: Plain, bytes: [u8; 10], room: &mut [u8; 10]) -> u32
+pub fn put_record(answer: Plain, bytes: [u8; 10], room: &mut [u8; 10]) -> u32
     ensures { λ r. ⌜ (r ≡ numberIn (stitchReply answer bytes)) × (now (room .exit) ≡ recordRoom (stitchReply answer bytes) (now (room .entry))) ⌝ }
 {
     match answer {
@@ -103,7 +103,7 @@ fn sent_bytes(k: Sent, side: Exit) -> [u8; 16]
     ]
 }
 
-fn put_sent(answer: Turned, room: &mut [u8; 16]) -> u32
+pub fn put_sent(answer: Turned, room: &mut [u8; 16]) -> u32
     ensures { λ r. ⌜ (r ≡ numberIn (turnReply answer)) × (now (room .exit) ≡ sentRoom (turnReply answer) (now (room .entry))) ⌝ }
 {
     match answer {

@@ -1,0 +1,23 @@
+-- `acts::act_arrive` meets its contract: the answer and the room follow the reply of the call. Assumes nothing.
+use borrow.Author.Needs.{needs}
+use Rattle.capi.specs.Rooms.{entryRoom}
+use Rattle.capi.proofs.Laws.{tells-in}
+use Rattle.acts.proofs.act_arrive.Statement.{statement}
+use Rattle.acts.proofs.act_arrive.Tie as tie
+
+arrive-requires : tie.Need-arrive-requires
+arrive-requires c κs = search needs
+
+put-entry-requires : tie.Need-put-entry-requires
+put-entry-requires c κs = search needs
+
+same-length : tie.Need-same-length
+same-length c = search needs
+
+returns : tie.Need-returns
+returns c =
+    let w = c .put-entry .ensures in
+    tells-in _ _ _ _ (c .before .before .before .before .arrive .ensures) (w .0) entryRoom _ _ (w .1)
+
+pub act-arrive-spec : {M : Type 1} → statement M
+act-arrive-spec = tie.close (tie.spec arrive-requires put-entry-requires same-length returns)

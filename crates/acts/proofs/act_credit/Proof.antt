@@ -1,0 +1,20 @@
+-- `acts::act_credit` meets its contract: the answer follows the reply of the call. Assumes nothing.
+use borrow.Author.Needs.{needs}
+use Rattle.capi.proofs.Laws.{tells}
+use Rattle.acts.proofs.act_credit.Statement.{statement}
+use Rattle.acts.proofs.act_credit.Tie as tie
+
+credit-requires : tie.Need-credit-requires
+credit-requires c κs = search needs
+
+plain-requires : tie.Need-plain-requires
+plain-requires c κs = search needs
+
+same-length : tie.Need-same-length
+same-length c = search needs
+
+returns : tie.Need-returns
+returns c = tells _ _ _ _ (c .before .before .before .credit .ensures) (c .plain .ensures)
+
+pub act-credit-spec : {M : Type 1} → statement M
+act-credit-spec = tie.close (tie.spec credit-requires plain-requires same-length returns)

@@ -1,0 +1,23 @@
+-- `acts::act_stitch` meets its contract: the answer and the room follow the reply of the call. Assumes nothing.
+use borrow.Author.Needs.{needs}
+use Rattle.capi.specs.Rooms.{recordRoom}
+use Rattle.capi.proofs.Laws.{tells-in}
+use Rattle.acts.proofs.act_stitch.Statement.{statement}
+use Rattle.acts.proofs.act_stitch.Tie as tie
+
+stitch-requires : tie.Need-stitch-requires
+stitch-requires c κs = search needs
+
+put-record-requires : tie.Need-put-record-requires
+put-record-requires c κs = search needs
+
+same-length : tie.Need-same-length
+same-length c = search needs
+
+returns : tie.Need-returns
+returns c =
+    let w = c .put-record .ensures in
+    tells-in _ _ _ _ (c .before .before .before .before .before .stitch .ensures) (w .0) recordRoom _ _ (w .1)
+
+pub act-stitch-spec : {M : Type 1} → statement M
+act-stitch-spec = tie.close (tie.spec stitch-requires put-record-requires same-length returns)

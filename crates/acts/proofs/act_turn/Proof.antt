@@ -1,0 +1,23 @@
+-- `acts::act_turn` meets its contract: the answer and the room follow the reply of the call. Assumes nothing.
+use borrow.Author.Needs.{needs}
+use Rattle.capi.specs.Rooms.{sentRoom}
+use Rattle.capi.proofs.Laws.{tells-in}
+use Rattle.acts.proofs.act_turn.Statement.{statement}
+use Rattle.acts.proofs.act_turn.Tie as tie
+
+turn-requires : tie.Need-turn-requires
+turn-requires c κs = search needs
+
+put-sent-requires : tie.Need-put-sent-requires
+put-sent-requires c κs = search needs
+
+same-length : tie.Need-same-length
+same-length c = search needs
+
+returns : tie.Need-returns
+returns c =
+    let w = c .put-sent .ensures in
+    tells-in _ _ _ _ (c .before .before .before .before .turn .ensures) (w .0) sentRoom _ _ (w .1)
+
+pub act-turn-spec : {M : Type 1} → statement M
+act-turn-spec = tie.close (tie.spec turn-requires put-sent-requires same-length returns)
