@@ -57,5 +57,8 @@ fn main() {
         }
         lines += expected.iter().filter(|b| **b == b'\n').count();
     }
-    println!("bench program: {} streams, {} lines, as the model's", count, lines);
+    println!(
+        "bench program: {} streams, {} lines, as the model's",
+        count, lines
+    );
 }
