@@ -1,1 +1,2 @@
 pub mod Crc
+pub mod Steps

@@ -1,10 +1,12 @@
 -- CRC-8 over the polynomial x^8 + x^2 + x + 1: it starts at 0, takes the highest bit first, and changes nothing at the end.
 -- Assumes nothing.
 use mathlib.Core.Bool.{cond}
+use mathlib.Core.Path.{_≡_}
 use mathlib.Core.List.{List, [], _∷_}
-use Prim.Native.Nat.{ℕ, zero, suc, _*_, _%_}
+use Prim.Native.Nat.{ℕ, zero, suc, _*_, _%_, _<_}
 use lib.Bits.{bitXor}
 use lib.Dec.{ltb}
+use lib.ListN.{getD}
 
 -- one bit: shift left, and where a one falls out at the top take the polynomial 0x107 away
 unfoldable pub crcBit : ℕ → ℕ
@@ -26,3 +28,7 @@ crcFrom c (b ∷ bs) = crcFrom (crcByte c b) bs
 
 unfoldable pub crc8 : List ℕ → ℕ
 crc8 bs = crcFrom 0 bs
+
+-- a table of the step: entry k is what eight bits leave of k
+unfoldable pub Steps : List ℕ → Type 0
+Steps t = (k : ℕ) → k < 256 → getD t k 0 ≡ crcBits 8 k

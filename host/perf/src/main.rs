@@ -2,9 +2,11 @@
 //! bare walk over the same links, and beside the model.
 //!
 //! Every public call but setup first tests whether the memory is a state. The
-//! acts without that test are timed too, from an archive of their own.
+//! acts without that test are timed too, and so is the checksum, from archives
+//! of their own.
 
 mod acts;
+mod sums;
 
 use std::time::Instant;
 
@@ -315,6 +317,48 @@ fn quick(memory: &mut [u8], call: &Call) -> u32 {
     }
 }
 
+/// Nanoseconds a piece for each of the three checksums, over pieces that don't
+/// wait for each other, as the headers of a busy port don't.
+fn each_sum(bytes: &[u8], piece: usize) -> [f64; 3] {
+    fn pass(bytes: &[u8], piece: usize, sum: impl Fn(&[u8]) -> u8) -> (f64, u8) {
+        let mut all = 0;
+        let spent = timed(|| all = bytes.chunks_exact(piece).fold(0, |all, s| all ^ sum(s)));
+        (spent / (bytes.len() / piece) as f64, all)
+    }
+    let mut least = [f64::INFINITY; 3];
+    for _ in 0..SAMPLES {
+        let passes = [
+            pass(bytes, piece, sums::by_table),
+            pass(bytes, piece, sums::by_bits),
+            pass(bytes, piece, sums::by_rust),
+        ];
+        for (least, (spent, all)) in least.iter_mut().zip(passes) {
+            // The same work, and its answers are used.
+            assert_eq!(all, passes[0].1);
+            *least = least.min(spent);
+        }
+    }
+    least
+}
+
+fn the_checksum() {
+    println!("### The checksum, ns a run of bytes\n");
+    println!("| bytes | table | bit by bit | ratio | Rust's table | ratio |");
+    println!("|---|---|---|---|---|---|");
+    let bytes: Vec<u8> = (0..80 * 1024_u32)
+        .map(|at| (at.wrapping_mul(2_654_435_761) >> 13) as u8)
+        .collect();
+    for piece in [9, 10, 8192] {
+        let [table, bits, rust] = each_sum(&bytes, piece);
+        println!(
+            "| {piece} | {table:.1} | {bits:.1} | {:.2} | {rust:.1} | {:.2} |",
+            table / bits,
+            table / rust
+        );
+    }
+    println!();
+}
+
 /// The processor's name as Linux tells it.
 fn processor() -> String {
     std::fs::read_to_string("/proc/cpuinfo")
@@ -346,6 +390,7 @@ fn main() {
         assert_eq!(memory, other);
     }
     println!("On {}, in one process.\n", processor());
+    the_checksum();
     the_test_for_a_state();
     each_call_through_c();
     println!("### Whole public calls on the same valid traffic, ns a call\n");

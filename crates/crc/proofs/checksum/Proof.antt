@@ -1,28 +1,30 @@
--- `crc::checksum` meets its contract. The loop's invariant: the bytes that are left, from the sum so far, give the whole sum. The measure is their count. Assumes nothing.
+-- `crc::checksum` meets its contract. The loop's invariant: the table is the step's, and the bytes that are left, from the sum so far, give
+-- the whole sum. The measure is their count. The table's rule is one test that is computed over its 256 entries. Assumes nothing.
 use Prim.Native.Nat.{ℕ, _+_, _-_, _≤_}
 use mathlib.Core.Path.{_≡_, refl, sym, ap, _∙_}
 use native.Mathlib.Omega.{arith}
 use lib.ListN.{length, drop}
-use Rattle.crc.specs.Crc.{crcFrom, crc8}
+use Rattle.crc.specs.Crc.{Steps, crcBit, crcBits, crcFrom, crc8}
 use Rattle.crc.proofs.Crc.{from-next, from-end}
+use Rattle.crc.proofs.Steps.{tested}
 use Rattle.crc.proofs.checksum.Statement.{statement}
 use Rattle.crc.proofs.checksum.Tie as tie
 
 abbrev Inv-loop : tie.InvT-loop
-Inv-loop s c₀ i₀ c i = (i ≤ length s) × (crcFrom c (drop i s) ≡ crc8 s)
+Inv-loop s steps c₀ i₀ c i = (i ≤ length s) × (Steps steps) × (crcFrom c (drop i s) ≡ crc8 s)
 
 abbrev μ-loop : tie.MeasureT-loop
-μ-loop s c₀ i₀ c i = length s - i
+μ-loop s steps c₀ i₀ c i = length s - i
 
 loop-holds : tie.Need-loop-holds Inv-loop μ-loop
-unfolding crc8
-loop-holds c = (omega arith, refl)
+unfolding crc8 crcBit crcBits
+loop-holds c = (omega arith, tested _ tt refl, refl)
 
 shared-slice-read-step : tie.Need-shared-slice-read-step Inv-loop μ-loop
 shared-slice-read-step c = omega arith
 
 step-requires : tie.Need-step-requires Inv-loop μ-loop
-step-requires c κs = tt
+step-requires c κs = c .before .before .before .loop .inv .1
 
 add-i : tie.Need-add-i Inv-loop μ-loop
 add-i c = omega arith
@@ -32,17 +34,18 @@ loop-less c = omega arith
 
 loop-again : tie.Need-loop-again Inv-loop μ-loop
 loop-again c =
-    let at = c .before .before .before .loop in
-    let s = c .before .before .before .before .before .args .s .now in (
+    let at = c .before .before .before .before .loop in
+    let s = c .before .before .before .before .before .before .args .s .now in (
       omega arith,
-      ap (λ (x : ℕ). crcFrom x (drop (at .i + 1) s)) (c .step .ensures) ∙ sym (from-next (at .c) s (at .i) (omega arith)) ∙ at .inv .1,
+      at .inv .1,
+      ap (λ (x : ℕ). crcFrom x (drop (at .i + 1) s)) (c .step .ensures) ∙ sym (from-next (at .c) s (at .i) (omega arith)) ∙ at .inv .2,
     )
 
 returns : tie.Need-returns Inv-loop μ-loop
 returns c =
     let at = c .before .loop in
     let s = c .before .before .before .args .s .now in
-    sym (from-end (at .c) s (at .i) (omega arith)) ∙ at .inv .1
+    sym (from-end (at .c) s (at .i) (omega arith)) ∙ at .inv .2
 
 pub checksum-spec : {M : Type 1} → statement M
 checksum-spec =

@@ -1,43 +1,29 @@
--- `crc::step` meets its contract. The loop's invariant: the bits that are left, from the sum so far, give the byte's sum. The measure is their count. Assumes nothing.
-use Prim.Native.Nat.{ℕ, _-_}
-use mathlib.Core.Path.{_≡_, sym, ap, _∙_}
+-- `crc::step` meets its contract: the sum and the byte fit eight bits, so the table has an entry for them joined. Assumes nothing.
+use mathlib.Core.Path.{_∙_}
+use Prim.Native.Nat.{ℕ, _<_}
 use native.Mathlib.Omega.{arith}
+use lib.Bits.{bitXor, xor-lt}
 use borrow.Author.Needs.{needs}
-use Rattle.crc.specs.Crc.{crcBits, crcByte}
-use Rattle.crc.proofs.Crc.{byte-starts, bits-fall}
+use Rattle.crc.proofs.Crc.{byte-starts}
+use Rattle.crc.proofs.Steps.{step-at}
 use Rattle.crc.proofs.step.Statement.{statement}
 use Rattle.crc.proofs.step.Tie as tie
 
-abbrev Inv-loop : tie.InvT-loop
-Inv-loop c b x₀ left₀ x left = crcBits left x ≡ crcByte c b
+-- the sum and the byte, joined, fit eight bits
+joined : (c b : ℕ) → c < 256 → b < 256 → bitXor c b < 256
+joined c b = xor-lt 8 c b
 
-abbrev μ-loop : tie.MeasureT-loop
-μ-loop c b x₀ left₀ x left = left
+cast-result : tie.Need-cast-result
+cast-result c = record { fits = omega (arith, joined (c .args .c) (c .args .b) (search needs) (search needs)) }
 
-loop-holds : tie.Need-loop-holds Inv-loop μ-loop
-loop-holds c = byte-starts (c .args .c) (c .args .b) (search needs)
+element-copy-out-result : tie.Need-element-copy-out-result
+element-copy-out-result c = joined (c .args .c) (c .args .b) (search needs) (search needs)
 
-bit-requires : tie.Need-bit-requires Inv-loop μ-loop
-bit-requires c κs = tt
-
-sub-left : tie.Need-sub-left Inv-loop μ-loop
-sub-left c = omega arith
-
-loop-less : tie.Need-loop-less Inv-loop μ-loop
-loop-less c = omega arith
-
-loop-again : tie.Need-loop-again Inv-loop μ-loop
-loop-again c =
-    let left = c .before .before .loop .left in
-    ap (crcBits (left - 1)) (c .bit .ensures) ∙ bits-fall left (c .before .before .loop .x) (omega arith) ∙ c .before .before .loop .inv
-
-returns : tie.Need-returns Inv-loop μ-loop
-unfolding crcBits
+returns : tie.Need-returns
 returns c =
-    let done : c .before .loop .left ≡ 0 = omega arith in
-    ap (λ (n : ℕ). crcBits n (c .before .loop .x)) (sym done) ∙ c .before .loop .inv
+    let sum = c .before .args .c in
+    let b = c .before .args .b in
+    step-at (c .before .args .steps .now) (c .before .pre) (bitXor sum b) (joined sum b (search needs) (search needs)) ∙ byte-starts sum b (search needs)
 
 pub step-spec : {M : Type 1} → statement M
-step-spec =
-    tie.close
-    (tie.spec Inv-loop μ-loop loop-holds bit-requires sub-left loop-less loop-again returns)
+step-spec = tie.close (tie.spec cast-result element-copy-out-result returns)

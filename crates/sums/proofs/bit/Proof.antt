@@ -1,9 +1,9 @@
--- `crc::bit` meets its contract, by the two cases of one bit. Assumes nothing.
+-- `sums::bit` meets its contract, by the two cases of one bit. Assumes nothing.
 use borrow.Author.Needs.{needs}
 use mathlib.Core.Path.{sym}
 use Rattle.crc.proofs.Crc.{bit-low, bit-high}
-use Rattle.crc.proofs.bit.Statement.{statement}
-use Rattle.crc.proofs.bit.Tie as tie
+use Rattle.sums.proofs.bit.Statement.{statement}
+use Rattle.sums.proofs.bit.Tie as tie
 
 mul-result : tie.Need-mul-result
 mul-result c = search needs
