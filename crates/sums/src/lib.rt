@@ -22,7 +22,8 @@ fn step(c: u8, b: u8) -> u8
     x
 }
 
-fn by_bits(s: &[u8]) -> u8
+#[no_mangle]
+pub extern "C" fn sum_by_bits(s: &[u8]) -> u8
     ensures { λ r. ⌜ r ≡ crc8 (now (s .entry)) ⌝ }
 {
     let mut c: u8 = 0;
@@ -32,13 +33,6 @@ fn by_bits(s: &[u8]) -> u8
         i += 1;
     }
     c
-}
-
-#[no_mangle]
-pub extern "C" fn sum_by_bits(s: &[u8]) -> u8
-    ensures { λ r. ⌜ r ≡ crc8 (now (s .entry)) ⌝ }
-{
-    by_bits(s)
 }
 
 #[no_mangle]
