@@ -118,7 +118,7 @@ int main(void)
     fetch(5);
     show_ready();
     send_all(); /* queue 5 has no outward credit yet */
-    if (!done("credit", vr_credit(mem, len, OUT, 5, 4))) return 1;
+    if (!done("credit", vr_credit(mem, len, OUT, 5, 5))) return 1;
     show_ready();
     send_all();
     show_place(2 * 2048);

@@ -20,6 +20,8 @@
  *   14   sum above 65,535                           credit
  *   15   id above 3; no such node                   map, where
  *
+ * A packet's price is its length divided by the beat, rounded up; packets of queue 0 are free.
+ *
  * Setup tests 2, then 1. The others test 3 first, then in the table's order, but map tests 15 before 4.
  *
  * What C asks remains the caller's: each pointer is valid, and not null, for the length given (a room for its whole size); pointers to

@@ -143,8 +143,8 @@ def make_header(dest, source, queue, length, poisoned, reserved, stamp, offered,
 
 
 def price_of(length, queue, beat):
-    """0 in queue 0, otherwise the data bytes in beats, rounded up."""
-    return 0 if queue == 0 else -(-(length - 12) // beat)
+    """0 in queue 0, otherwise the length in beats, rounded up."""
+    return 0 if queue == 0 else -(-length // beat)
 
 
 # ---------------------------------------------------------------- soundness
@@ -524,7 +524,7 @@ def header(port, queue, length=12, dest=0):
 def selftest_values():
     """Published check value, the paper's prices and first bytes, the layout page's starts."""
     check(crc8(b"123456789") == 0xF4, "check value of the CRC")
-    for length, price in ((12, 0), (13, 1), (76, 1), (77, 2), (8191, 128)):
+    for length, price in ((12, 1), (64, 1), (65, 2), (76, 2), (8191, 128)):
         check(price_of(length, 1, 64) == price, "price", length)
         check(price_of(length, 0, 64) == 0, "price in queue 0", length)
     check(make_header(1, 2, 23, 8191, 0, 0, 0, 0, 0)[:3] == bytes.fromhex("6BFFFC"), "first bytes")
@@ -554,8 +554,10 @@ def selftest_cards():
     check(turn(memory, 0)[1][0] == 0, "the turn")
     check(arrive(memory, 0, good) == (0, 0), "second arrival, after the turn")
 
-    # last served 5; ready 2, 5 and 9, all staying ready (two packets each, price 0)
+    # last served 5; ready 2, 5 and 9, all staying ready (two packets each, and credit for both)
     def load(memory, queue, packets):
+        if queue:
+            check(credit(memory, 0, queue, packets) == (0, None), "load")
         for _ in range(packets):
             check(arrive(memory, 0, header(0, queue))[0] == 0, "load")
             check(stitch(memory, 0)[0] == 0, "load")
@@ -626,7 +628,7 @@ class Ledger:
         queue = (h[0] & 15) << 1 | h[1] >> 7
         if length < 12: return 9, None
         if queue > 23: queue = 0
-        price = (length - 12 + self.beat - 1) // self.beat if queue else 0
+        price = (length + self.beat - 1) // self.beat if queue else 0
         if queue and self.inward[p, queue] < price: return 10, None
         if not self.lists[p * 50]: return 11, None
         x = self.lists[p * 50].pop(0)
@@ -867,7 +869,7 @@ def broken_again(memory):
     for x in used:
         length, queue, dest, poisoned, price = (
             columns[c][slot[x]] for c in ("length", "queue", "dest", "poisoned", "price"))
-        beats = (length - 12 + beat - 1) // beat if queue else 0
+        beats = (length + beat - 1) // beat if queue else 0
         if length not in range(12, 8192) or queue > 23 or dest > 3 or poisoned > 1 or price != beats:
             return ("f", x)
     for p in range(4):
@@ -926,7 +928,7 @@ def selftest_letters():
         ([("price", 1, 1)], ("f", 1)), ([("setting", S_BEAT, 128)], ("f", 2048)),
         ([("arrival", cell(0, 5), 19)], ("g", 4)), ([("arrival", cell(3, 23), 0)], ("g", 91)),
         ([("setting", S_CREDIT, 21)], ("g", 0)), ([("queue", 4, 8)], ("g", 46 + 6)),
-        ([("length", 4, 76)], None), ([("length", 4, 77)], ("f", 4096)),
+        ([("length", 4, 64)], None), ([("length", 4, 65)], ("f", 4096)),
         ([("setting", S_SLOTS, 1)], None), ([("outward", 7, 65535)], None),
         ([("stamp", 0, 2**32 - 1), ("transaction", 0, 255), ("poisoned", 0, 1)], None),
         # bytes that the picture does not read

@@ -1,9 +1,9 @@
 // The ten-byte header: its fields read from bytes, its own refusals, the queue it means and its price.
 use ledger::Refusal;
 ghost use mathlib.Core.Path.{_≡_};
-ghost use Prim.Native.Nat.{_-_, _^_, _<_, _≤_};
+ghost use Prim.Native.Nat.{_^_, _<_, _≤_};
 ghost use lib.ListN.{length};
-ghost use Rattle.ledger.specs.Header.{fieldsOf, headerSize, leastLength, queueOf, price};
+ghost use Rattle.ledger.specs.Header.{fieldsOf, headerSize, queueOf, price};
 ghost use Rattle.header.specs.Parse.{headerOf, readOf, parsed};
 ghost use Rattle.header.specs.Judge.{verdictOf, verdict};
 
@@ -95,13 +95,6 @@ pub fn queue_of(queues: u32, q: u32) -> u32
     if q < queues { q } else { 0 }
 }
 
-// The bytes of a packet that are neither header nor footer.
-fn data_bytes(len: u32) -> u32
-    ensures { λ r. ⌜ r ≡ len - leastLength ⌝ }
-{
-    if len < 12 { 0 } else { len - 12 }
-}
-
 // What a packet costs, in beats. The bounds keep the sum within the type.
 pub fn price_of(beat: u32, queue: u32, len: u32) -> u32
     requires { ⌜ (1 ≤ beat) × (beat ≤ 512) × (len < 2 ^ 13) ⌝ }
@@ -110,5 +103,5 @@ pub fn price_of(beat: u32, queue: u32, len: u32) -> u32
     if queue == 0 {
         return 0;
     }
-    (data_bytes(len) + (beat - 1)) / beat
+    (len + (beat - 1)) / beat
 }

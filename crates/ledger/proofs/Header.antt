@@ -2,14 +2,14 @@
 use mathlib.Core.Path.{_≡_, refl}
 use mathlib.Core.Bool.{Bool, true, false}
 use mathlib.Core.List.{List}
-use Prim.Native.Nat.{ℕ, zero, suc, _+_, _-_, _/_, _^_, _≤_, _<_}
-use native.Mathlib.Nat.{div-lt-iff-lt-mul, le-of-suc-le-suc}
+use Prim.Native.Nat.{ℕ, zero, suc, _+_, _*_, _-_, _/_, _^_, _≤_, _<_}
+use native.Mathlib.Nat.{div-add-mod', div-lt-iff-lt-mul, le-of-suc-le-suc, mod-lt}
 use native.Mathlib.Omega.{arith}
 use lib.Dec.{ltb}
 use Rattle.numbers.specs.Bytes.{number}
 use Rattle.numbers.proofs.Bytes.{number-lt}
 use Rattle.numbers.proofs.Fields.{bits-lt}
-use Rattle.ledger.specs.Header.{fieldsOf, leastLength, queueOf, price}
+use Rattle.ledger.specs.Header.{fieldsOf, queueOf, price}
 use Rattle.ledger.proofs.Tests.{ltb-is, ltb-not, ltb-yes}
 
 -- every field is as small as its width says, whatever the bytes are
@@ -60,10 +60,28 @@ pub price-free : (beat len : ℕ) → price beat 0 len ≡ 0
 unfolding price
 price-free beat len = refl
 
-pub price-some : (beat q len : ℕ) → 0 < q → price beat q len ≡ (len - leastLength + (beat - 1)) / beat
+pub price-some : (beat q len : ℕ) → 0 < q → price beat q len ≡ (len + (beat - 1)) / beat
 unfolding price
 price-some beat zero len h = absurd (omega arith)
 price-some beat (suc q) len h = refl
+
+-- rounded up: as many beats as hold the packet, and no more
+pub price-holds : (beat q len : ℕ) → 0 < beat → 0 < q → len ≤ price beat q len * beat
+price-holds beat q len some h =
+    rw (price-some beat q len h)
+    (omega (arith, div-add-mod' (len + (beat - 1)) beat, mod-lt (len + (beat - 1)) some))
+
+pub price-fewest : (beat q len : ℕ) → 0 < beat → 0 < q → price beat q len * beat < len + beat
+price-fewest beat q len some h =
+    rw (price-some beat q len h) (omega (arith, div-add-mod' (len + (beat - 1)) beat))
+
+-- nothing but queue 0 is free
+pub price-pays : (beat q len : ℕ) → 0 < beat → 0 < q → 0 < len → 0 < price beat q len
+price-pays beat q len some h long = go (price beat q len) (price-holds beat q len some h)
+  where
+    go : (n : ℕ) → len ≤ n * beat → 0 < n
+    go zero e = absurd (omega arith)
+    go (suc n) e = omega arith
 
 -- the longest packet at the smallest beat
 pub price-le : (beat q len : ℕ) → 64 ≤ beat → len < 2 ^ 13 → price beat q len ≤ 128

@@ -16,9 +16,10 @@ use Rattle.ledger.specs.Ledger.{owner, isNode, Packet, bare, recorded, P
 use Rattle.ledger.specs.Ready.{readyWord, pick}
 use Rattle.ledger.specs.Calls.{Act, arrive, stitch, prefetch, credit, mapTo, turn, ready, whereIs, Side, Reply, refused, done, entry, stitched, idle, leaves, word, found, sideOf, noPort, isEmpty, firstOf, arriving, arrived, served, serve, turned, rules, result, step, run}
 use Rattle.ledger.specs.Desk.{Desk, none, has, Call, setup, act, setupRules, onDesk, desk, after}
-use Rattle.ledger.specs.Sound.{All, OwnPort, Orderly, Roomy, Sound}
+use Rattle.ledger.specs.Sound.{All, OwnPort, Proper, Orderly, Roomy, Sound}
 use Rattle.ledger.specs.Demand.{isRefused}
 use Rattle.ledger.proofs.Tests.{true≢false, leb-no, leb-not, ltb-yes, eqb-yes, eqb-no, not-yes}
+use Rattle.ledger.proofs.Header.{price-pays}
 use Rattle.ledger.proofs.Places.{Place·In, place#-inj, place-number}
 use Rattle.ledger.proofs.Keep.{some-queue, len, first-fits, first-node, from-moved, to-moved, else-moved}
 use Rattle.ledger.proofs.Rows.{roomy}
@@ -96,6 +97,12 @@ sound-arrival S L p h c =
     go true d b e = no-credit (ltb-yes (arrivalOf S L p (arriving S L p h .queue)) (arriving S L p h .price) d)
     go false d true e = no-node (empty-is (listAt S L (free p)) e)
     go false d false e = taken-in (arrived S L p (arriving S L p h))
+
+-- ---- none but queue 0 goes for nothing: rule (f) makes every recorded packet proper, and such a one pays
+
+pub none-for-nothing : (S : Settings) → Roomy S → (k : Packet) → Proper S k → 0 < k .queue → 0 < k .price
+none-for-nothing S ok k h above =
+    rw (h .price-is) (price-pays (S .beat) (k .queue) (k .len) (omega (arith, ok .low-beat)) above (omega (arith, h .len-low)))
 
 -- ---- queues keep their order
 

@@ -1,7 +1,7 @@
--- Paper 01, "Bench cards": the starred cards, a single table. The claim that they hold is that of proofs/Cards.antt. Assumes nothing.
+-- Paper 01, "Bench cards": the starred cards, and the prices of paper 02, Q-3: a single table. The claim that they hold is that of proofs/Cards.antt. Assumes nothing.
 use mathlib.Core.Path.{_≡_}
 use mathlib.Core.List.{List, [], _∷_, _++_, map}
-use Prim.Native.Nat.{ℕ, zero, suc, _+_, _*_, _/_, _%_}
+use Prim.Native.Nat.{ℕ, zero, suc, _+_, _-_, _*_, _/_, _%_}
 use lib.ListN.{drop}
 use Rattle.crc.specs.Crc.{crc8}
 use Rattle.ledger.specs.Ledger.{Packet}
@@ -20,13 +20,13 @@ abbrev pub zeros : ℕ → List ℕ
 zeros zero = []
 zeros (suc n) = 0 ∷ zeros n
 
--- a packet of queue q at port 0, of the least length, brought into the prefetch slots of port 0
-abbrev pub brought : ℕ → List Call
-brought q = act (arrive 0 (header 0 0 q 12)) ∷ act (stitch 0) ∷ act (prefetch 0 q) ∷ []
+-- a packet of queue q and this length at port 0, brought into the prefetch slots of port 0
+abbrev pub brought : ℕ → ℕ → List Call
+brought q len = act (arrive 0 (header 0 0 q len)) ∷ act (stitch 0) ∷ act (prefetch 0 q) ∷ []
 
--- two of them, so that the queue stays ready when one leaves, and credit for both
+-- two of the least length, so that the queue stays ready when one leaves, and credit for both
 abbrev pub twice : ℕ → List Call
-twice q = brought q ++ (brought q ++ (act (credit 0 q 9) ∷ []))
+twice q = brought q 12 ++ (brought q 12 ++ (act (credit 0 q 9) ∷ []))
 
 -- the same for n queues from q on
 abbrev pub all-twice : ℕ → ℕ → List Call
@@ -75,9 +75,21 @@ full-record = stitched (0x10 ∷ 0 ∷ 0x1F ∷ 0xFF ∷ 23 ∷ 0 ∷ 0 ∷ 0 �
 abbrev pub twelve-record : Reply
 twelve-record = stitched (0 ∷ 0 ∷ 0 ∷ 0x0C ∷ 0 ∷ 0 ∷ 0 ∷ 0 ∷ 0 ∷ 0 ∷ [])
 
--- the packet of node x that is recorded of twelve
-abbrev pub small : ℕ → Packet
-small x = record { node = x; len = 12; queue = 0; dest = 0; stamp = 0; poisoned = 0; transaction = 0; price = 0 }
+-- the packet of node 0 of this queue, length and price, and its record
+abbrev pub plain : ℕ → ℕ → ℕ → Packet
+plain q len n = record { node = 0; len = len; queue = q; dest = 0; stamp = 0; poisoned = 0; transaction = 0; price = n }
+
+abbrev pub plain-record : ℕ → ℕ → Reply
+plain-record q len = stitched (0 ∷ 0 ∷ len / 256 ∷ len % 256 ∷ q ∷ 0 ∷ 0 ∷ 0 ∷ 0 ∷ 0 ∷ [])
+
+-- At beat 64 a packet of this length costs n beats in queue 1: refused where K is one less, taken in where K is n;
+-- idle where outward credit is one less, and it leaves with n.
+abbrev pub costs : ℕ → ℕ → Card
+costs len n =
+    says (setup 1 64 1 (n - 1) ∷ act (arrive 0 (header 0 0 1 len)) ∷ setup 1 64 1 n ∷ (brought 1 len
+    ++ (act (credit 0 1 (n - 1)) ∷ act (turn 0) ∷ act (credit 0 1 1) ∷ act (turn 0) ∷ [])))
+    (done ∷ refused 10 ∷ done ∷ entry 0 ∷ plain-record 1 len ∷ entry 0
+    ∷ done ∷ idle ∷ done ∷ leaves (plain 1 len n) outside ∷ [])
 
 abbrev pub cards : List Card
 cards =
@@ -91,13 +103,16 @@ cards =
     ∷ leaves (record { node = 4096; len = 8191; queue = 23; dest = 1; stamp = 0; poisoned = 0; transaction = 0; price = 128 }) outside
     ∷ entry 4096 ∷ full-record ∷ entry 4096 ∷ idle ∷ [])
     ∷ says (setup 1 64 1 16 ∷ act (arrive 0 twelve) ∷ act (arrive 0 twelve) ∷ act (stitch 0) ∷ act (prefetch 0 0) ∷ act (turn 0) ∷ act (arrive 0 twelve) ∷ [])
-    (done ∷ entry 0 ∷ refused 11 ∷ twelve-record ∷ entry 0 ∷ leaves (small 0) inside ∷ entry 0 ∷ [])
+    (done ∷ entry 0 ∷ refused 11 ∷ twelve-record ∷ entry 0 ∷ leaves (plain 0 12 0) inside ∷ entry 0 ∷ [])
     ∷ says (setup 1 64 1 0 ∷ act (credit 0 1 65535) ∷ act (credit 0 1 0) ∷ act (credit 0 1 1) ∷ [])
     (done ∷ done ∷ done ∷ refused 14 ∷ [])
     ∷ says (setup 256 64 1 0 ∷ setup 0 64 1 0 ∷ setup 257 64 1 0 ∷ [])
     (done ∷ refused 2 ∷ refused 2 ∷ [])
-    ∷ says (setup 2 64 1 16 ∷ (brought 0 ++ (act (prefetch 0 0) ∷ [])))
+    ∷ says (setup 2 64 1 16 ∷ (brought 0 12 ++ (act (prefetch 0 0) ∷ [])))
     (done ∷ entry 0 ∷ twelve-record ∷ entry 0 ∷ refused 12 ∷ [])
-    ∷ serves (setup 9 64 2 16 ∷ (brought 5 ++ (act (credit 0 5 9) ∷ act (turn 0) ∷ (twice 2 ++ (twice 5 ++ (twice 9 ++ turns 3)))))) 27 (9 ∷ 548 ∷ 2 ∷ 548 ∷ 5 ∷ 548 ∷ [])
-    ∷ serves (setup 49 64 2 16 ∷ (brought 5 ++ (act (credit 0 5 9) ∷ act (turn 0) ∷ (all-twice 0 24 ++ turns 24)))) 220 (5 ∷ 16777215 ∷ [])
+    ∷ serves (setup 9 64 2 16 ∷ (brought 5 12 ++ (act (credit 0 5 9) ∷ act (turn 0) ∷ (twice 2 ++ (twice 5 ++ (twice 9 ++ turns 3)))))) 27 (9 ∷ 548 ∷ 2 ∷ 548 ∷ 5 ∷ 548 ∷ [])
+    ∷ serves (setup 49 64 2 16 ∷ (brought 5 12 ++ (act (credit 0 5 9) ∷ act (turn 0) ∷ (all-twice 0 24 ++ turns 24)))) 220 (5 ∷ 16777215 ∷ [])
+    ∷ costs 12 1 ∷ costs 64 1 ∷ costs 65 2 ∷ costs 76 2 ∷ costs 8191 128
+    ∷ says (setup 1 64 1 0 ∷ (brought 0 8191 ++ (act (turn 0) ∷ [])))
+    (done ∷ entry 0 ∷ plain-record 0 8191 ∷ entry 0 ∷ leaves (plain 0 8191 0) inside ∷ [])
     ∷ []

@@ -29,6 +29,14 @@ fn bring(switch: &mut Switch<Vec<u8>>, queue: u32, length: u32) {
     switch.prefetch(0, queue).unwrap();
 }
 
+/// One of the least length and, above queue 0, outward credit for it.
+fn bring_covered(switch: &mut Switch<Vec<u8>>, queue: u32) {
+    bring(switch, queue, 12);
+    if queue > 0 {
+        switch.credit(0, queue, 1).unwrap();
+    }
+}
+
 /// The queue that a turn of port 0 serves.
 fn served(switch: &mut Switch<Vec<u8>>) -> u8 {
     match switch.turn(0).unwrap() {
@@ -61,7 +69,7 @@ fn published_check_value() {
 
 #[test]
 fn price_cases() {
-    for (length, price) in [(12, 0), (13, 1), (76, 1), (77, 2), (8191, 128)] {
+    for (length, price) in [(12, 1), (64, 1), (65, 2), (76, 2), (8191, 128)] {
         for (queue, price) in [(7, price), (0, 0)] {
             let mut switch = switch(SMALL);
             bring(&mut switch, queue, length);
@@ -123,10 +131,10 @@ fn one_node_is_used_again() {
 #[test]
 fn three_ready_after_queue_5() {
     let mut switch = switch(SMALL);
-    bring(&mut switch, 5, 12);
+    bring_covered(&mut switch, 5);
     assert_eq!(served(&mut switch), 5);
     for queue in [2, 2, 5, 5, 9, 9] {
-        bring(&mut switch, queue, 12);
+        bring_covered(&mut switch, queue);
     }
     for queue in [9, 2, 5] {
         let ready = switch.ready(0).unwrap();
@@ -138,11 +146,11 @@ fn three_ready_after_queue_5() {
 #[test]
 fn all_ready_after_queue_5() {
     let mut switch = switch(Settings { nodes: 64, ..SMALL });
-    bring(&mut switch, 5, 12);
+    bring_covered(&mut switch, 5);
     assert_eq!(served(&mut switch), 5);
     for queue in 0..24 {
-        bring(&mut switch, queue, 12);
-        bring(&mut switch, queue, 12);
+        bring_covered(&mut switch, queue);
+        bring_covered(&mut switch, queue);
     }
     for turn in 1..=24 {
         assert_eq!(switch.ready(0).unwrap().count, 24);

@@ -133,7 +133,7 @@ fn a_slip_in_an_answer_is_found_and_cut_down() {
         reply => Ok(reply),
     };
     // Setup, ready, and for each of two packets arrive, stitch, prefetch and,
-    // if it has a price, credit.
+    // above queue 0, credit.
     let remaining = calls_that_remain(&slip).len();
     assert!((8..=10).contains(&remaining), "{remaining} remain");
 }

@@ -133,13 +133,12 @@ pub fn size(nodes: u32) -> usize {
     1988 + 52 * nodes as usize
 }
 
-/// The price of a packet in beats. `length` is at least 12.
+/// The price of a packet in beats: its length, rounded up; queue 0 is free.
 pub fn price(length: u32, queue: u32, beat: u32) -> u32 {
     if queue == 0 {
         0
     } else {
-        // Rounded up.
-        (length - SHORTEST + beat - 1) / beat
+        length / beat + u32::from(length % beat != 0)
     }
 }
 

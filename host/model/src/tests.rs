@@ -133,6 +133,14 @@ impl Desk {
         assert!(matches!(self.prefetch(0, queue), Reply::Entry(_)));
     }
 
+    /// One of the least length and, above queue 0, outward credit for it.
+    fn bring_covered(&mut self, queue: u32) {
+        self.bring(queue, 12);
+        if queue > 0 {
+            assert_eq!(self.credit(0, queue, 1), Reply::Done);
+        }
+    }
+
     /// The queue that a turn of port 0 serves.
     fn served(&mut self) -> u32 {
         match self.turn(0) {
@@ -208,9 +216,12 @@ fn header_widths_hold_over_all_values() {
     }
 }
 
+/// Lengths and what they cost at beat 64 above queue 0.
+const PRICES: [(u32, u32); 5] = [(12, 1), (64, 1), (65, 2), (76, 2), (8191, 128)];
+
 #[test]
 fn price_cases_at_beat_64() {
-    for (length, wanted) in [(12, 0), (13, 1), (76, 1), (77, 2), (8191, 128)] {
+    for (length, wanted) in PRICES {
         assert_eq!(price(length, 1, 64), wanted);
         assert_eq!(price(length, 0, 64), 0);
     }
@@ -218,7 +229,7 @@ fn price_cases_at_beat_64() {
 
 #[test]
 fn price_cases_through_arrivals() {
-    for (length, wanted) in [(12, 0), (13, 1), (76, 1), (77, 2), (8191, 128)] {
+    for (length, wanted) in PRICES {
         let mut desk = Desk::new(Settings {
             credit: 128,
             ..SMALL
@@ -236,14 +247,26 @@ fn price_cases_through_arrivals() {
 }
 
 #[test]
-fn price_is_the_least_number_of_beats_that_covers_the_data() {
+fn price_is_the_least_number_of_beats_that_holds_the_packet() {
     for beat in [64, 128, 256, 512] {
         for length in 12..=8191 {
             let beats = price(length, 23, beat);
-            assert!(beats * beat >= length - 12);
-            assert!(beats == 0 || (beats - 1) * beat < length - 12);
+            assert!(beats * beat >= length);
+            assert!((beats - 1) * beat < length);
         }
     }
+}
+
+#[test]
+fn above_queue_0_nothing_is_free() {
+    let mut desk = Desk::new(Settings { credit: 0, ..SMALL });
+    for queue in 1..24 {
+        assert_eq!(
+            desk.arrive(0, &written(0, 0, queue, 12)),
+            Reply::Refused(10)
+        );
+    }
+    assert_eq!(desk.arrive(0, &written(0, 0, 0, 8191)), Reply::Entry(0));
 }
 
 // The cards.
@@ -298,11 +321,11 @@ fn card_one_node_is_used_again() {
 #[test]
 fn card_three_ready_after_queue_5() {
     let mut desk = Desk::new(Settings { nodes: 16, ..SMALL });
-    desk.bring(5, 12);
+    desk.bring_covered(5);
     assert_eq!(desk.served(), 5);
     for queue in [2, 5, 9] {
-        desk.bring(queue, 12);
-        desk.bring(queue, 12);
+        desk.bring_covered(queue);
+        desk.bring_covered(queue);
     }
     let word = 1 << 2 | 1 << 5 | 1 << 9;
     for wanted in [9, 2, 5] {
@@ -315,11 +338,11 @@ fn card_three_ready_after_queue_5() {
 #[test]
 fn card_all_ready_after_queue_5() {
     let mut desk = Desk::new(Settings { nodes: 64, ..SMALL });
-    desk.bring(5, 12);
+    desk.bring_covered(5);
     assert_eq!(desk.served(), 5);
     for queue in 0..24 {
-        desk.bring(queue, 12);
-        desk.bring(queue, 12);
+        desk.bring_covered(queue);
+        desk.bring_covered(queue);
     }
     for turn in 1..=24 {
         assert_eq!(desk.ready(0), Reply::Word(0xFF_FFFF, 24));
@@ -385,10 +408,10 @@ fn slip_idle_turn_moves_no_mark() {
     let mut desk = Desk::new(SMALL);
     assert_eq!(desk.turn(0), Reply::Idle);
     assert_eq!(desk.ledger().ports[0].last_served, 23);
-    desk.bring(6, 12);
+    desk.bring_covered(6);
     assert_eq!(desk.served(), 6);
     // A packet that isn't covered: idle too.
-    desk.bring(9, 13);
+    desk.bring(9, 12);
     assert_eq!(desk.turn(0), Reply::Idle);
     assert_eq!(desk.ledger().ports[0].last_served, 6);
 }
@@ -410,21 +433,9 @@ fn slip_map_is_read_at_stitch() {
 }
 
 #[test]
-fn slip_queue_at_zero_credit_whose_oldest_costs_nothing_is_ready() {
-    let mut desk = Desk::new(SMALL);
-    desk.bring(4, 12);
-    desk.bring(4, 13);
-    assert_eq!(desk.ready(0), Reply::Word(1 << 4, 1));
-    assert_eq!(desk.served(), 4);
-    assert_eq!(desk.ready(0), Reply::Word(0, 0));
-    desk.credit(0, 4, 1);
-    assert_eq!(desk.ready(0), Reply::Word(1 << 4, 1));
-}
-
-#[test]
 fn slip_arrival_credit_comes_back_at_the_turn_only() {
     let mut desk = Desk::new(Settings { credit: 1, ..SMALL });
-    let costs_one = written(0, 0, 2, 76);
+    let costs_one = written(0, 0, 2, 64);
     assert_eq!(desk.arrive(0, &costs_one), Reply::Entry(0));
     assert_eq!(desk.arrive(0, &costs_one), Reply::Refused(10));
     desk.stitch(0);
@@ -561,8 +572,8 @@ fn arrive_tests_in_table_order() {
     assert_eq!(desk.arrive(0, &header), Reply::Refused(7));
     assert_eq!(desk.arrive(0, &written(0, 1, 3, 11)), Reply::Refused(8));
     assert_eq!(desk.arrive(0, &written(0, 0, 3, 11)), Reply::Refused(9));
-    assert_eq!(desk.arrive(0, &written(0, 0, 3, 200)), Reply::Refused(10));
-    assert_eq!(desk.arrive(0, &written(0, 0, 3, 140)), Reply::Refused(11));
+    assert_eq!(desk.arrive(0, &written(0, 0, 3, 129)), Reply::Refused(10));
+    assert_eq!(desk.arrive(0, &written(0, 0, 3, 128)), Reply::Refused(11));
     // Every wrong bit of the header is noticed.
     for bit in 0..80 {
         let mut header = ACCEPTED_HEADER;
@@ -633,6 +644,7 @@ fn where_follows_a_node_through_its_lists() {
     assert_eq!(desk.prefetch(1, 8), Reply::Entry(second as u16));
     let prefetch = ListKind::Prefetch { port: 1, queue: 8 };
     assert_eq!(desk.place(second), Reply::Found(prefetch, 1));
+    desk.credit(1, 8, 2);
     desk.turn(1);
     assert_eq!(desk.place(second), Reply::Found(prefetch, 0));
     desk.turn(1);
@@ -713,10 +725,12 @@ fn a_covered_packet_behind_one_that_is_not_waits() {
     let mut desk = Desk::new(SMALL);
     desk.bring(4, 200);
     desk.bring(4, 12);
-    desk.credit(0, 4, 2);
+    desk.credit(0, 4, 3);
     assert_eq!(desk.turn(0), Reply::Idle);
     desk.credit(0, 4, 1);
     assert_eq!(desk.served(), 4);
+    assert_eq!(desk.turn(0), Reply::Idle);
+    desk.credit(0, 4, 1);
     assert_eq!(desk.served(), 4);
 }
 

@@ -150,7 +150,7 @@ fn each_call(nodes: u32) -> Vec<(&'static str, f64)> {
     let queue_of = |packet: u32| 1 + packet % (QUEUES - 1);
     let headers: Vec<(u32, u32, [u8; 10])> = (0..packets)
         .flat_map(|packet| (0..PORTS).map(move |port| (port, queue_of(packet))))
-        // Destination id p is mapped to port p: 100 bytes of data, two beats.
+        // Destination id p is mapped to port p: 112 bytes, two beats.
         .map(|(port, queue)| {
             let bytes = header(port, port, queue, 112, false, false, 7, 0, 0);
             (port, queue, bytes)

@@ -346,11 +346,22 @@ impl Traffic {
         }
     }
 
-    /// Data bytes up to a most, with the edges of beats often.
-    fn data(&mut self, most: u32, beat: u32) -> u32 {
+    /// The same, but queue 0 in place of one that has no credit left at the port.
+    fn covered_queue(&mut self, ledger: &Ledger, port: u32) -> u32 {
+        let queue = self.arriving_queue();
+        let credit = &ledger.ports[port as usize].arrival_credit;
+        if (1..QUEUES).contains(&queue) && credit[queue as usize] == 0 {
+            0
+        } else {
+            queue
+        }
+    }
+
+    /// A length up to a most, with the edges of beats often.
+    fn length(&mut self, most: u32, beat: u32) -> u32 {
         let wanted = match self.random.below(8) {
-            0 => 0,
-            1 => 1,
+            0 => SHORTEST,
+            1 => SHORTEST + 1,
             2 => most,
             3 => beat * self.random.below(most / beat + 1),
             4 => beat * self.random.below(most / beat + 1) + 1,
@@ -358,7 +369,7 @@ impl Traffic {
             // Mostly small, so that credit lasts for some packets.
             _ => self.random.below(4 * beat),
         };
-        wanted.min(most)
+        wanted.min(most).max(SHORTEST)
     }
 
     /// A right header with random contents.
@@ -388,13 +399,17 @@ impl Traffic {
         let port = self
             .ports_from_any()
             .find(|&port| careless || !ledger.ports[port as usize].free.is_empty())?;
-        let queue = self.arriving_queue();
+        let queue = if careless {
+            self.arriving_queue()
+        } else {
+            self.covered_queue(ledger, port)
+        };
         let beat = ledger.settings.beat;
-        let mut most = LONGEST - SHORTEST;
+        let mut most = LONGEST;
         if !careless && (1..QUEUES).contains(&queue) {
             most = most.min(ledger.ports[port as usize].arrival_credit[queue as usize] * beat);
         }
-        let length = SHORTEST + self.data(most, beat);
+        let length = self.length(most, beat);
         let header = self.header(port, queue, length);
         Some(Call::Arrive { port, header })
     }
@@ -596,7 +611,7 @@ impl Traffic {
                     queue
                 };
                 let covered = at.arrival_credit[queue as usize] * ledger.settings.beat;
-                let least = (SHORTEST + 1).saturating_add(covered).min(LONGEST);
+                let least = (covered + 1).max(SHORTEST).min(LONGEST);
                 let length = match self.random.below(3) {
                     0 => LONGEST,
                     1 => self.random.among(least, LONGEST),
@@ -606,11 +621,11 @@ impl Traffic {
                 Call::Arrive { port, header }
             }
             11 => {
-                // The port with the fewest free nodes, at no price.
+                // The port with the fewest free nodes, at a price that is covered.
                 let port = (0..PORTS)
                     .min_by_key(|&port| ledger.ports[port as usize].free.len())
                     .unwrap();
-                let queue = self.arriving_queue();
+                let queue = self.covered_queue(ledger, port);
                 let header = self.header(port, queue, SHORTEST);
                 Call::Arrive { port, header }
             }

@@ -9,9 +9,6 @@ use Rattle.header.proofs.price_of.Tie as tie
 returns : tie.Need-returns
 returns c = rw (c .if1 .taken) (sym (price-free (c .before .args .beat) (c .before .args .len)))
 
-data-bytes-requires : tie.Need-data-bytes-requires
-data-bytes-requires c κs = search needs
-
 sub-result : tie.Need-sub-result
 sub-result c = search needs
 
@@ -23,9 +20,9 @@ div-result c = search needs
 
 returns-2 : tie.Need-returns-2
 returns-2 c =
-    let a = c .before .before .args in
-    rw (price-some (a .beat) (a .queue) (a .len) (omega arith), c .data-bytes .ensures)
+    let a = c .before .args in
+    sym (price-some (a .beat) (a .queue) (a .len) (omega arith))
 
 pub price-of-spec : {M : Type 1} → statement M
 price-of-spec =
-    tie.close (tie.spec returns data-bytes-requires sub-result add-result div-result returns-2)
+    tie.close (tie.spec returns sub-result add-result div-result returns-2)
