@@ -37,11 +37,11 @@ fn settings(nodes: u32) -> Settings {
 }
 
 /// A setup, then valid traffic of the wanted kinds.
-fn valid_traffic(nodes: u32, calls: usize, wanted: fn(&Call) -> bool) -> Vec<Call> {
+fn valid_traffic(seed: u64, nodes: u32, calls: usize, wanted: fn(&Call) -> bool) -> Vec<Call> {
     let mut model = Model::new(size(nodes));
     let mut list = vec![Call::Setup(settings(nodes))];
     model.call(&list[0]);
-    let mut traffic = Traffic::new(1, Profile::Valid);
+    let mut traffic = Traffic::new(seed, Profile::Valid);
     while list.len() <= calls {
         let call = traffic.next(&model);
         if wanted(&call) {
@@ -58,9 +58,9 @@ fn no_setup(call: &Call) -> bool {
 }
 
 /// Memory after traffic: nodes in many lists, in no particular order.
-fn used_memory(nodes: u32) -> Vec<u8> {
+fn used_memory(seed: u64, nodes: u32) -> Vec<u8> {
     let mut memory = vec![0; size(nodes)];
-    for call in valid_traffic(nodes, 3000 + 20 * nodes as usize, no_setup) {
+    for call in valid_traffic(seed, nodes, 3000 + 20 * nodes as usize, no_setup) {
         library::call(&mut memory, &call).unwrap();
     }
     memory
@@ -85,42 +85,58 @@ fn walk(memory: &[u8], tables: &Tables, nodes: usize, mut sum: u64) -> u64 {
     sum
 }
 
+/// Nanoseconds for one test for a state (in `ready`) and for one bare walk.
+fn test_and_walk(memory: &[u8], nodes: u32) -> [f64; 2] {
+    let tables = Tables::of(nodes as usize);
+    let times = 8_000 / (40 + nodes as usize);
+    let (mut ready, mut bare, mut sum) = (f64::INFINITY, f64::INFINITY, 0);
+    // In turns, so that both meet the same weather.
+    for _ in 0..SAMPLES {
+        let spent = timed(|| {
+            for _ in 0..times {
+                let (mut word, mut count) = (0, 0);
+                assert_eq!(calls::ready(memory, 0, &mut word, &mut count), 0);
+            }
+        });
+        ready = ready.min(spent / times as f64);
+        let spent = timed(|| {
+            for _ in 0..times {
+                sum = walk(memory, &tables, nodes as usize, sum);
+            }
+        });
+        bare = bare.min(spent / times as f64);
+    }
+    // Each walk met each node once.
+    let once: u32 = (0..PORTS)
+        .flat_map(|port| (0..nodes).map(move |index| port * 2048 + index))
+        .sum();
+    assert_eq!(sum, u64::from(once) * (SAMPLES * times) as u64);
+    [ready, bare]
+}
+
+/// What the lists hold counts, so several memories are taken for each N.
 fn the_test_for_a_state() {
+    const MEMORIES: u64 = 12;
     println!("### The test for a state: ready, beside a bare walk of the same links\n");
-    println!("| N | nodes in all | ready, ns | ns a node | bare walk, ns | ns a node | ratio |");
+    println!(
+        "| N | nodes in all | ready, ns | ns a node | bare walk, ns | ratio | in one memory |"
+    );
     println!("|---|---|---|---|---|---|---|");
     for nodes in [1, 16, 64, 256] {
-        let memory = used_memory(nodes);
-        let tables = Tables::of(nodes as usize);
-        let times = 8_000 / (40 + nodes as usize);
-        let (mut ready, mut bare, mut sum) = (f64::INFINITY, f64::INFINITY, 0);
-        // In turns, so that both meet the same weather.
-        for _ in 0..SAMPLES {
-            let spent = timed(|| {
-                for _ in 0..times {
-                    let (mut word, mut count) = (0, 0);
-                    assert_eq!(calls::ready(&memory, 0, &mut word, &mut count), 0);
-                }
-            });
-            ready = ready.min(spent / times as f64);
-            let spent = timed(|| {
-                for _ in 0..times {
-                    sum = walk(&memory, &tables, nodes as usize, sum);
-                }
-            });
-            bare = bare.min(spent / times as f64);
-        }
-        // Each walk met each node once.
-        let once: u32 = (0..PORTS)
-            .flat_map(|port| (0..nodes).map(move |index| port * 2048 + index))
-            .sum();
-        assert_eq!(sum, u64::from(once) * (SAMPLES * times) as u64);
+        let spent: Vec<[f64; 2]> = (1..=MEMORIES)
+            .map(|seed| test_and_walk(&used_memory(seed, nodes), nodes))
+            .collect();
+        let mean = |which: usize| spent.iter().map(|s| s[which]).sum::<f64>() / MEMORIES as f64;
+        let ratios = || spent.iter().map(|s| s[0] / s[1]);
         let all = f64::from(PORTS * nodes);
         println!(
-            "| {nodes} | {all} | {ready:.0} | {:.1} | {bare:.0} | {:.1} | {:.1} |",
-            ready / all,
-            bare / all,
-            ready / bare
+            "| {nodes} | {all} | {:.0} | {:.1} | {:.0} | {:.1} | {:.1} to {:.1} |",
+            mean(0),
+            mean(0) / all,
+            mean(1),
+            mean(0) / mean(1),
+            ratios().fold(f64::INFINITY, f64::min),
+            ratios().fold(0.0, f64::max)
         );
     }
     println!();
@@ -273,7 +289,7 @@ fn beside_the_model(wanted: fn(&Call) -> bool, library: fn(&mut [u8], &Call) -> 
     println!("| N | library | model, whole word | ratio | model, early out | ratio |");
     println!("|---|---|---|---|---|---|");
     for nodes in [1, 16, 64, 256] {
-        let list = valid_traffic(nodes, 500_000 / (20 + nodes as usize), wanted);
+        let list = valid_traffic(1, nodes, 500_000 / (20 + nodes as usize), wanted);
         let [ours, whole, early] = whole_list(nodes, &list, library);
         let a_call = |all: f64| all / list.len() as f64;
         println!(
@@ -378,14 +394,14 @@ fn main() {
     // The list is as long as it says: the same work on both sides.
     let mut memory = vec![0; size(4)];
     let mut model = Model::new(size(4));
-    for call in valid_traffic(4, 2000, no_setup) {
+    for call in valid_traffic(1, 4, 2000, no_setup) {
         let wanted = model.call(&call);
         assert_eq!(library::call(&mut memory, &call), Ok(wanted));
         assert_ne!(wanted, Reply::Refused(3));
     }
     // And an act leaves what the call leaves.
     let mut other = memory.clone();
-    for call in valid_traffic(4, 2000, acts::has_act) {
+    for call in valid_traffic(1, 4, 2000, acts::has_act) {
         assert_eq!(bare_act(&mut other, &call), quick(&mut memory, &call));
         assert_eq!(memory, other);
     }
