@@ -56,7 +56,7 @@ headerRules p h =
 unfoldable pub queueOf : ℕ → ℕ → ℕ
 queueOf n q = cond (ltb q n) q 0
 
--- the price, of a beat, a queue and a length: queue 0 is free; else the length divided by the beat, rounded up
+-- the price (paper 02, Q-3), of a beat, a queue and a length: queue 0 is free; else the length divided by the beat, rounded up
 unfoldable pub price : ℕ → ℕ → ℕ → ℕ
 price beat zero len = 0
 price beat (suc q) len = (len + (beat - 1)) / beat
