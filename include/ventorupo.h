@@ -43,7 +43,7 @@ extern "C" {
 /* The bytes that a state of so many nodes a port takes; 0 if nodes is not in its row. */
 uint64_t vr_size(uint32_t nodes);
 
-/* Writes the starting ledger, also over an older one: nodes a port 1 to 256; beat 64, 128, 256 or 512; slots of a prefetch list 1 to 8;
+/* Writes the starting ledger, also over an older one: nodes a port 1 to 2,048; beat 64, 128, 256 or 512; slots of a prefetch list 1 to 8;
  * credit, the arrival credit of each port and queue, 0 to 65,535. Bytes past vr_size(nodes) are never changed, by this call or another. */
 uint32_t vr_setup(uint8_t *mem, size_t len, uint32_t nodes, uint32_t beat, uint32_t slots, uint32_t credit);
 

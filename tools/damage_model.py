@@ -43,7 +43,7 @@ def tables(n):
     return places, start
 
 
-TABLES = [tables(n) for n in range(257)]   # computed once, for every N of the row
+TABLES = [tables(n) for n in range(2049)]   # computed once, for every N of the row
 
 
 def size_for(n):
@@ -156,7 +156,7 @@ def first_broken(memory):
         return ("a", None)
     ports, queues, n, beat, slots, credit = (
         int.from_bytes(memory[2 * i:2 * i + 2], "big") for i in range(6))
-    if not (ports == PORTS and queues == QUEUES and 1 <= n <= 256
+    if not (ports == PORTS and queues == QUEUES and 1 <= n <= 2048
             and beat in BEATS and 1 <= slots <= 8 and 0 <= credit <= TOP):
         return ("a", None)
     if len(memory) < size_for(n):
@@ -238,7 +238,7 @@ def state(memory):
 
 
 def setup(memory, n, beat, slots, credit):
-    if not (1 <= n <= 256 and beat in BEATS and 1 <= slots <= 8 and 0 <= credit <= TOP):
+    if not (1 <= n <= 2048 and beat in BEATS and 1 <= slots <= 8 and 0 <= credit <= TOP):
         return (2, None)
     size = size_for(n)
     if len(memory) < size:
@@ -395,10 +395,11 @@ def turn(memory, port):
 # ---------------------------------------------------------------- the scenario
 
 CONFIGURATIONS = [(1, 64, 1, 0), (1, 512, 8, 65535), (2, 128, 2, 300),
-                  (255, 256, 8, 65535), (256, 64, 1, 1000), (256, 512, 8, 65535)]
+                  (255, 256, 8, 65535), (256, 64, 1, 1000), (256, 512, 8, 65535),
+                  (257, 128, 3, 500), (2048, 64, 8, 65535)]
 STEPS = 300
 DAMAGES = 400
-ROOM = 16384
+ROOM = 131072
 
 
 class Draws:
@@ -508,6 +509,8 @@ STARTS = {
     16: (0, 12, 16, 20, 204, 388, 788, 1188, 1988, 2116, 2244, 2500, 2564, 2628, 2692, 2756, 2820),
     255: (0, 12, 16, 20, 204, 388, 788, 1188, 1988, 4028, 6068, 10148, 11168, 12188, 13208, 14228, 15248),
     256: (0, 12, 16, 20, 204, 388, 788, 1188, 1988, 4036, 6084, 10180, 11204, 12228, 13252, 14276, 15300),
+    257: (0, 12, 16, 20, 204, 388, 788, 1188, 1988, 4044, 6100, 10212, 11240, 12268, 13296, 14324, 15352),
+    2048: (0, 12, 16, 20, 204, 388, 788, 1188, 1988, 18372, 34756, 67524, 75716, 83908, 92100, 100292, 108484),
 }
 
 
@@ -531,7 +534,7 @@ def selftest_values():
     for n, row in STARTS.items():
         places, size = tables(n)
         check(tuple(start for start, _, _ in places.values()) + (size,) == row, "starts", n)
-    for n in range(1, 257):
+    for n in range(1, 2049):
         check(size_for(n) == 1988 + 52 * n, "size", n)
 
 
@@ -583,7 +586,7 @@ def selftest_cards():
     check(credit(memory, 0, 1, 65535) == (0, None), "credit 65,535")
     check(credit(memory, 0, 1, 0) == (0, None), "adding 0")
     check(credit(memory, 0, 1, 1) == (14, None), "adding 1")
-    for n, number in ((256, 0), (0, 2), (257, 2)):
+    for n, number in ((256, 0), (0, 2), (257, 0), (2048, 0), (2049, 2)):
         check(setup(bytearray(ROOM), n, 64, 1, 16) == (number, None), "N =", n)
     check(setup(bytearray(2039), 1, 64, 1, 16) == (1, None), "memory too short")
 
@@ -821,7 +824,7 @@ def broken_again(memory):
     import struct
     set_ = struct.unpack(">6H", memory[:12])
     n, beat, slots, k = set_[2:]
-    if set_[:2] != (4, 24) or n not in range(1, 257) or beat not in (64, 128, 256, 512) \
+    if set_[:2] != (4, 24) or n not in range(1, 2049) or beat not in (64, 128, 256, 512) \
             or slots not in range(1, 9) or len(memory) < 1988 + 52 * n:
         return ("a", None)
     nodes = 4 * n
@@ -899,7 +902,7 @@ def selftest_letters():
     """Chosen changes of the small switch's elements, each with its rule and item."""
     cases = [  # (elements to put), expected
         ([("setting", S_PORTS, 5)], ("a", None)), ([("setting", S_QUEUES, 25)], ("a", None)),
-        ([("setting", S_NODES, 0)], ("a", None)), ([("setting", S_NODES, 257)], ("a", None)),
+        ([("setting", S_NODES, 0)], ("a", None)), ([("setting", S_NODES, 2049)], ("a", None)),
         ([("setting", S_BEAT, 192)], ("a", None)), ([("setting", S_SLOTS, 0)], ("a", None)),
         ([("setting", S_SLOTS, 9)], ("a", None)),
         ([("last", 2, 24)], ("b", 2)), ([("mapped", 3, 4)], ("b", 7)),

@@ -64,7 +64,7 @@ pub size-none : (n : ℕ) → (Rows (settings n 64 1 0) → ⊥) → 0 ≡ sizeF
 unfolding sizeFor
 size-none n h = rw (sym (no-rows (settings n 64 1 0) h))
 
-pub size-some : (n : ℕ) → 1 ≤ n → n ≤ 256 → 1988 + 52 * n ≡ sizeFor n
+pub size-some : (n : ℕ) → 1 ≤ n → n ≤ 2048 → 1988 + 52 * n ≡ sizeFor n
 unfolding sizeFor
 size-some n h k =
     let e : inRows (settings n 64 1 0) ≡ true = sym (rows-beat n 64 1 0 h k (omega arith) (omega arith) (omega arith)) ∙ beat-is 64 (inl refl) in

@@ -201,7 +201,7 @@ pub extern "C" fn vr_size(nodes: u32) -> u64
     if nodes < 1 {
         return 0;
     }
-    if 256 < nodes {
+    if 2048 < nodes {
         return 0;
     }
     1988 + 52 * (nodes as u64)

@@ -1,4 +1,4 @@
-// The calls and the test of the seven rules against an independent model: for six settings, 300 steps of traffic, a line for the memory
+// The calls and the test of the seven rules against an independent model: for eight settings, 300 steps of traffic, a line for the memory
 // that they leave, then a line for each of 400 damages of one byte. The model, tools/damage_model.py, wrote this program's stdout.
 use setup::Settings;
 use sound::Broken;
@@ -91,7 +91,7 @@ fn rule(out: &mut [u8; 4096], at: usize, found: Broken) -> usize {
 }
 
 // A packet's header arrives: eight draws.
-fn arrive(m: &mut [u8; 16384], d: Draws) -> Draws {
+fn arrive(m: &mut [u8; 131072], d: Draws) -> Draws {
     let source = d.next();
     let dest = source.next();
     let queue = dest.next();
@@ -117,20 +117,20 @@ fn arrive(m: &mut [u8; 16384], d: Draws) -> Draws {
     transaction
 }
 
-fn stitch(m: &mut [u8; 16384], d: Draws) -> Draws {
+fn stitch(m: &mut [u8; 131072], d: Draws) -> Draws {
     let port = d.next();
     switch::stitch(m, port.below(4));
     port
 }
 
-fn prefetch(m: &mut [u8; 16384], d: Draws) -> Draws {
+fn prefetch(m: &mut [u8; 131072], d: Draws) -> Draws {
     let port = d.next();
     let queue = port.next();
     switch::prefetch(m, port.below(4), queue.below(24));
     queue
 }
 
-fn credit(m: &mut [u8; 16384], d: Draws) -> Draws {
+fn credit(m: &mut [u8; 131072], d: Draws) -> Draws {
     let port = d.next();
     let queue = port.next();
     let amount = queue.next();
@@ -139,7 +139,7 @@ fn credit(m: &mut [u8; 16384], d: Draws) -> Draws {
 }
 
 // One time in four an id is mapped, otherwise a port has its turn.
-fn map_or_turn(m: &mut [u8; 16384], d: Draws) -> Draws {
+fn map_or_turn(m: &mut [u8; 131072], d: Draws) -> Draws {
     let which = d.next();
     let first = which.next();
     if 0 < which.below(4) {
@@ -152,7 +152,7 @@ fn map_or_turn(m: &mut [u8; 16384], d: Draws) -> Draws {
 }
 
 // One step of traffic; what a call answers shows in the memory that it leaves.
-fn step(m: &mut [u8; 16384], d: Draws) -> Draws {
+fn step(m: &mut [u8; 131072], d: Draws) -> Draws {
     let kind = d.next();
     let k = kind.below(8);
     if k <= 2 {
@@ -170,7 +170,7 @@ fn step(m: &mut [u8; 16384], d: Draws) -> Draws {
     map_or_turn(m, kind)
 }
 
-fn traffic(m: &mut [u8; 16384], start: Draws) -> Draws {
+fn traffic(m: &mut [u8; 131072], start: Draws) -> Draws {
     let mut d = start;
     let mut i: usize = 0;
     while i < 300 {
@@ -187,8 +187,8 @@ fn weighed(i: usize, b: u8) -> u64 {
 }
 
 // The sum over the bytes below the size.
-fn checksum(m: &[u8; 16384], size: usize) -> u64
-    requires { ⌜ size ≤ 16384 ⌝ }
+fn checksum(m: &[u8; 131072], size: usize) -> u64
+    requires { ⌜ size ≤ 131072 ⌝ }
 {
     let mut sum: u64 = 0;
     let mut i = 0;
@@ -201,7 +201,7 @@ fn checksum(m: &[u8; 16384], size: usize) -> u64
 
 // One byte is changed, the first broken rule told, and the byte set back: three draws.
 fn damage(
-    m: &mut [u8; 16384],
+    m: &mut [u8; 131072],
     size: usize,
     d: Draws,
     j: u64,
@@ -209,7 +209,7 @@ fn damage(
     start: usize,
 ) -> usize
     requires { ⌜ 0 < size ⌝ }
-    requires { ⌜ size ≤ 16384 ⌝ }
+    requires { ⌜ size ≤ 131072 ⌝ }
 {
     let high = d.next();
     let low = high.next();
@@ -226,14 +226,14 @@ fn damage(
 }
 
 fn damages(
-    m: &mut [u8; 16384],
+    m: &mut [u8; 131072],
     size: usize,
     start: Draws,
     out: &mut [u8; 4096],
     begin: usize,
 ) -> usize
     requires { ⌜ 0 < size ⌝ }
-    requires { ⌜ size ≤ 16384 ⌝ }
+    requires { ⌜ size ≤ 131072 ⌝ }
 {
     let mut d = start;
     let mut at = begin;
@@ -248,9 +248,9 @@ fn damages(
 
 fn size_for(nodes: u32) -> usize
     requires { ⌜ 1 ≤ nodes ⌝ }
-    requires { ⌜ nodes ≤ 256 ⌝ }
+    requires { ⌜ nodes ≤ 2048 ⌝ }
     ensures { λ r. ⌜ 0 < r ⌝ }
-    ensures { λ r. ⌜ r ≤ 16384 ⌝ }
+    ensures { λ r. ⌜ r ≤ 131072 ⌝ }
 {
     layout::size_of(layout::shape_of(4, 24, nodes as usize, 64, 1, 0))
 }
@@ -266,9 +266,9 @@ fn run(
     first: usize,
 ) -> usize
     requires { ⌜ 1 ≤ nodes ⌝ }
-    requires { ⌜ nodes ≤ 256 ⌝ }
+    requires { ⌜ nodes ≤ 2048 ⌝ }
 {
-    let mut m = [165u8; 16384];
+    let mut m = [165u8; 131072];
     switch::set_up(
         &mut m,
         Settings {
@@ -289,7 +289,7 @@ fn run(
     damages(&mut m, size, d, out, end)
 }
 
-// The six settings, each with a start of its own.
+// The eight settings, each with a start of its own.
 fn run_all(out: &mut [u8; 4096]) {
     let a = run(1, 64, 1, 0, 12345, out, 0);
     let b = run(1, 512, 8, 65535, 12346, out, a);
@@ -297,7 +297,9 @@ fn run_all(out: &mut [u8; 4096]) {
     let d = run(255, 256, 8, 65535, 12348, out, c);
     let e = run(256, 64, 1, 1000, 12349, out, d);
     let f = run(256, 512, 8, 65535, 12350, out, e);
-    flush(out, f);
+    let g = run(257, 128, 3, 500, 12351, out, f);
+    let h = run(2048, 64, 8, 65535, 12352, out, g);
+    flush(out, h);
 }
 
 fn main() {

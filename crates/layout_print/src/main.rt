@@ -1,4 +1,4 @@
-// Prints where each table starts and how many bytes a state takes, for five node counts, one to a line.
+// Prints where each table starts and how many bytes a state takes, for seven node counts, one to a line.
 use layout::Shape;
 use layout::Table;
 ghost use Prim.Native.Nat.{_≤_};
@@ -46,4 +46,6 @@ fn main() {
     line(16);
     line(255);
     line(256);
+    line(257);
+    line(2048);
 }

@@ -2,7 +2,7 @@
 use mathlib.Core.Path.{_≡_, refl}
 use mathlib.Core.Logic.{_⊎_, inl, inr}
 use mathlib.Core.Bool.{Bool, true, cond, _&&_, _||_}
-use Prim.Native.Nat.{ℕ, zero, suc, _+_, _*_, _≤_, _<_}
+use Prim.Native.Nat.{ℕ, zero, suc, _+_, _-_, _*_, _≤_, _<_}
 use native.Mathlib.Nat.{not-suc-le-zero}
 use native.Mathlib.Decide.{ℕ-discrete}
 use native.Mathlib.Omega.{arith}
@@ -79,7 +79,7 @@ pub record Rows (S : Settings) : Type 0 where
   pub four-ports : S .ports ≡ 4
   pub all-queues : S .queues ≡ 24
   pub some-nodes : 1 ≤ S .nodes
-  pub few-nodes : S .nodes ≤ 256
+  pub few-nodes : S .nodes ≤ 2048
   pub is-beat : isBeat (S .beat) ≡ true
   pub some-slots : 1 ≤ S .slots
   pub few-slots : S .slots ≤ 8
@@ -92,7 +92,7 @@ module _ (S : Settings) (h : inRows S ≡ true) where
       let p = eqb-and (S .ports) 4 _ h in
       let q = eqb-and (S .queues) 24 _ (p .1) in
       let n = leb-and 1 (S .nodes) _ (q .1) in
-      let m = leb-and (S .nodes) 256 _ (n .1) in
+      let m = leb-and (S .nodes) 2048 _ (n .1) in
       let b = and-right (isBeat (S .beat)) _ (m .1) in
       let d = leb-and 1 (S .slots) _ b in
       let k = leb-and (S .slots) 8 _ (d .1) in
@@ -118,7 +118,8 @@ module _ (S : Settings) (h : inRows S ≡ true) where
   unfolding size row
   size-is = rw (rows .four-ports, rows .all-queues) (omega arith)
 
-  pub size-bound : size S ≤ 65536
+  -- at most 64 bytes for each node above 256, over all ports together
+  pub size-bound : size S ≤ 65536 + 64 * (S .nodes - 256)
   size-bound = let r = rows in omega (arith, size-is)
 
 pub size-rises : (S S′ : Settings) → inRows S ≡ true → inRows S′ ≡ true → S .nodes ≤ S′ .nodes → size S ≤ size S′

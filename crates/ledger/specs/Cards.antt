@@ -4,8 +4,8 @@ use mathlib.Core.List.{List, [], _∷_, _++_, map}
 use Prim.Native.Nat.{ℕ, zero, suc, _+_, _-_, _*_, _/_, _%_}
 use lib.ListN.{drop}
 use Rattle.crc.specs.Crc.{crc8}
-use Rattle.ledger.specs.Ledger.{Packet}
-use Rattle.ledger.specs.Calls.{arrive, stitch, prefetch, credit, turn, ready, inside, outside, Reply, refused, done, entry, stitched, idle, leaves, word, found}
+use Rattle.ledger.specs.Ledger.{Packet, free}
+use Rattle.ledger.specs.Calls.{arrive, stitch, prefetch, credit, turn, ready, whereIs, inside, outside, Reply, refused, done, entry, stitched, idle, leaves, word, found}
 use Rattle.ledger.specs.Desk.{none, Call, setup, act, replies}
 
 -- a header of these fields, timestamp and transaction 0, with its checksum
@@ -49,14 +49,18 @@ seen (leaves k s) = k .queue
 seen (word w n) = w
 seen (found v i) = 100
 
--- A memory of 65,536 zero bytes, which is no switch state, is called so. A card says what the replies are;
--- or, after so many replies, by which queues packets leave and which queues are ready then.
+-- A memory of zero bytes, which is no switch state, is called so. A card says how many bytes are lent and what the replies are;
+-- or, with 65,536 lent and after so many replies, by which queues packets leave and which queues are ready then.
 pub data Card : Type 0 where
-  says : List Call → List Reply → Card
+  lent : ℕ → List Call → List Reply → Card
   serves : List Call → ℕ → List ℕ → Card
 
+-- 65,536 bytes are lent
+abbrev pub says : List Call → List Reply → Card
+says = lent 65536
+
 abbrev pub Holds : Card → Type 0
-Holds (says calls rs) = replies 65536 none calls ≡ rs
+Holds (lent bytes calls rs) = replies bytes none calls ≡ rs
 Holds (serves calls before qs) = map seen (drop before (replies 65536 none calls)) ≡ qs
 
 abbrev pub twelve : List ℕ
@@ -106,8 +110,11 @@ cards =
     (done ∷ entry 0 ∷ refused 11 ∷ twelve-record ∷ entry 0 ∷ leaves (plain 0 12 0) inside ∷ entry 0 ∷ [])
     ∷ says (setup 1 64 1 0 ∷ act (credit 0 1 65535) ∷ act (credit 0 1 0) ∷ act (credit 0 1 1) ∷ [])
     (done ∷ done ∷ done ∷ refused 14 ∷ [])
-    ∷ says (setup 256 64 1 0 ∷ setup 0 64 1 0 ∷ setup 257 64 1 0 ∷ [])
-    (done ∷ refused 2 ∷ refused 2 ∷ [])
+    ∷ says (setup 256 64 1 0 ∷ setup 0 64 1 0 ∷ setup 2049 64 1 0 ∷ setup 1222 64 1 0 ∷ setup 1223 64 1 0 ∷ setup 2048 64 1 0 ∷ [])
+    (done ∷ refused 2 ∷ refused 2 ∷ done ∷ refused 1 ∷ refused 1 ∷ [])
+    ∷ lent 108483 (setup 2048 64 1 0 ∷ []) (refused 1 ∷ [])
+    ∷ lent 108484 (setup 2048 64 1 0 ∷ act (whereIs 8191) ∷ act (whereIs 8192) ∷ act (arrive 3 (header 0 3 0 12)) ∷ act (whereIs 8191) ∷ [])
+    (done ∷ found (free 3) 2047 ∷ refused 15 ∷ entry 6144 ∷ found (free 3) 2046 ∷ [])
     ∷ says (setup 2 64 1 16 ∷ (brought 0 12 ++ (act (prefetch 0 0) ∷ [])))
     (done ∷ entry 0 ∷ twelve-record ∷ entry 0 ∷ refused 12 ∷ [])
     ∷ serves (setup 9 64 2 16 ∷ (brought 5 12 ++ (act (credit 0 5 9) ∷ act (turn 0) ∷ (twice 2 ++ (twice 5 ++ (twice 9 ++ turns 3)))))) 27 (9 ∷ 548 ∷ 2 ∷ 548 ∷ 5 ∷ 548 ∷ [])

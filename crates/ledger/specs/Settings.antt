@@ -27,7 +27,7 @@ inRows S =
     eqb (S .ports) 4
     && (eqb (S .queues) 24
     && (leb 1 (S .nodes)
-    && (leb (S .nodes) 256
+    && (leb (S .nodes) 2048
     && (isBeat (S .beat)
     && (leb 1 (S .slots)
     && (leb (S .slots) 8

@@ -47,7 +47,7 @@ and-true false = refl
 
 module _ (S : Settings) where
   -- where the others are in their rows, the beat decides
-  pub rows-beat : S .ports ≡ 4 → S .queues ≡ 24 → 1 ≤ S .nodes → S .nodes ≤ 256 → 1 ≤ S .slots → S .slots ≤ 8 → S .credit ≤ 65535
+  pub rows-beat : S .ports ≡ 4 → S .queues ≡ 24 → 1 ≤ S .nodes → S .nodes ≤ 2048 → 1 ≤ S .slots → S .slots ≤ 8 → S .credit ≤ 65535
       → inRows S ≡ isBeat (S .beat)
   unfolding inRows
   rows-beat p q n n′ d d′ k =
@@ -55,7 +55,7 @@ module _ (S : Settings) where
         eqb-is (S .ports) 4 p,
         eqb-is (S .queues) 24 q,
         leb-is 1 (S .nodes) n,
-        leb-is (S .nodes) 256 n′,
+        leb-is (S .nodes) 2048 n′,
         leb-is 1 (S .slots) d,
         leb-is (S .slots) 8 d′,
         leb-is (S .credit) 65535 k,

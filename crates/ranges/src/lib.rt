@@ -65,7 +65,7 @@ fn in_rows(r: Raw) -> bool
     if r.nodes < 1 {
         return false;
     }
-    if 256 < r.nodes {
+    if 2048 < r.nodes {
         return false;
     }
     if r.slots < 1 {

@@ -39,9 +39,9 @@ and-true true = refl
 and-true false = refl
 
 -- where the other settings are in their rows, the beat decides
-pub rows-beat : (N b D K : ℕ) → 1 ≤ N → N ≤ 256 → 1 ≤ D → D ≤ 8 → K ≤ 65535 → isBeat b ≡ inRows (settings N b D K)
+pub rows-beat : (N b D K : ℕ) → 1 ≤ N → N ≤ 2048 → 1 ≤ D → D ≤ 8 → K ≤ 65535 → isBeat b ≡ inRows (settings N b D K)
 unfolding inRows
-rows-beat N b D K h k d e c = rw (leb-is 1 N h, leb-is N 256 k, leb-is 1 D d, leb-is D 8 e, leb-is K 65535 c) (and-true (isBeat b))
+rows-beat N b D K h k d e c = rw (leb-is 1 N h, leb-is N 2048 k, leb-is 1 D d, leb-is D 8 e, leb-is K 65535 c) (and-true (isBeat b))
 
 -- ---- the answers
 

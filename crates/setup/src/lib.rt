@@ -38,7 +38,7 @@ fn in_rows(told: Settings) -> bool
     if told.nodes < 1 {
         return false;
     }
-    if 256 < told.nodes {
+    if 2048 < told.nodes {
         return false;
     }
     if told.slots < 1 {

@@ -1,5 +1,5 @@
 -- The marks and the sums that are lent: there are enough, and all are 0. Assumes nothing.
-use mathlib.Core.Path.{_≡_, refl, ap, _∙_}
+use mathlib.Core.Path.{_≡_, refl, sym, ap, _∙_}
 use mathlib.Core.List.{List, _∷_}
 use Prim.Native.Nat.{ℕ, zero, suc, _-_, _*_, _≤_}
 use native.Mathlib.Nat.{le-of-suc-le-suc}
@@ -10,9 +10,11 @@ use Rattle.layout.specs.declared.Shape.{Shape}
 use Rattle.layout.specs.Tables.{settingsOf}
 use Rattle.layout.specs.Picture.{settingsIn}
 use Rattle.ranges.specs.Opening.{Open}
+use Rattle.ranges.proofs.Opening.{open-held}
+use Rattle.once.specs.Walks.{Blank}
 
--- this build has four ports of 24 queues and at most 256 nodes
-pub few : {m : List ℕ} {s : Shape} → Open m s → (s .all ≤ 1024) × (s .cells ≤ 92)
+-- this build has four ports of 24 queues and at most 2,048 nodes
+pub few : {m : List ℕ} {s : Shape} → Open m s → (s .all ≤ 8192) × (s .cells ≤ 92)
 few {m} {s} o =
     let r : Rows (settingsOf s) = rw (o .settings-are) (rows (settingsIn m) (o .rows)) in
     let a : s .all ≡ 4 * s .nodes = o .laid .all-are ∙ rw (r .four-ports) in
@@ -26,3 +28,11 @@ part-zeros (suc n) (suc k) h = ap (λ (l : List ℕ). 0 ∷ l) (part-zeros n k (
 
 pub part-long : (n k : ℕ) → n ≤ k → length (take {A = ℕ} n (replicate k 0)) ≡ n
 part-long n k h = ap length (part-zeros n k h) ∙ length-replicate n 0
+
+-- the marks of k that are lent, where k is enough
+pub blank : {m : List ℕ} {s : Shape} → Open m s → (k : ℕ) → s .all ≤ k → Blank s m (take (s .all) (replicate k 0))
+blank o k h = record {
+  laid = o .laid;
+  long = open-held o .long;
+  clear = part-zeros _ k h ∙ ap (λ (n : ℕ). replicate n 0) (o .laid .all-are);
+}

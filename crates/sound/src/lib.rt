@@ -4,6 +4,7 @@ use layout::Shape;
 use ledger::Finding;
 use ranges::Opened;
 ghost use mathlib.Core.Path.{_≡_};
+ghost use Prim.Native.Nat.{_≤_};
 ghost use Rattle.layout.specs.Tables.{settingsOf};
 ghost use Rattle.ranges.specs.Opening.{Open};
 ghost use Rattle.once.specs.Once.{onceFound};
@@ -28,14 +29,35 @@ pub enum Tested {
     NoState,
 }
 
-// Rule (c), with marks for as many nodes as a state may have.
-fn once_in(m: &[u8], s: Shape) -> Finding
-    requires { ⌜ Open (now m) s ⌝ }
+// Rule (c) where there are few nodes, with marks for 1,024.
+fn once_among_few(m: &[u8], s: Shape) -> Finding
+    requires { ⌜ Open (now m) s × (s .all ≤ 1024) ⌝ }
     ensures { λ r. ⌜ r ≡ onceFound (settingsOf s) (now (m .entry)) ⌝ }
 {
     let mut marks = [0u8; 1024];
     let all = s.all;
     once::once(m, s, &mut marks[..all])
+}
+
+// Rule (c), with marks for as many nodes as a state may have.
+fn once_among_all(m: &[u8], s: Shape) -> Finding
+    requires { ⌜ Open (now m) s ⌝ }
+    ensures { λ r. ⌜ r ≡ onceFound (settingsOf s) (now (m .entry)) ⌝ }
+{
+    let mut marks = [0u8; 8192];
+    let all = s.all;
+    once::once(m, s, &mut marks[..all])
+}
+
+// Rule (c): marks are cleared whole, so a switch of few nodes lends few.
+fn once_in(m: &[u8], s: Shape) -> Finding
+    requires { ⌜ Open (now m) s ⌝ }
+    ensures { λ r. ⌜ r ≡ onceFound (settingsOf s) (now (m .entry)) ⌝ }
+{
+    if s.all <= 1024 {
+        return once_among_few(m, s);
+    }
+    once_among_all(m, s)
 }
 
 // Rule (g), with a sum for each port and queue but 0.

@@ -23,6 +23,8 @@ pub struct Counts {
     accepted: [u64; 10],
     /// By the refusal's number; cell 0 stays 0.
     refused: [u64; 16],
+    /// That an arrival or a prefetch was answered.
+    highest_entry: u16,
 }
 
 impl Counts {
@@ -30,6 +32,9 @@ impl Counts {
         if let Reply::Refused(number) = reply {
             self.refused[*number as usize] += 1;
             return;
+        }
+        if let Reply::Entry(entry) = reply {
+            self.highest_entry = self.highest_entry.max(*entry);
         }
         let kind = match call {
             Call::Setup(_) => 0,
@@ -53,6 +58,16 @@ impl Counts {
         for (cell, more) in self.refused.iter_mut().zip(&other.refused) {
             *cell += more;
         }
+        self.highest_entry = self.highest_entry.max(other.highest_entry);
+    }
+
+    pub fn refused(&self, number: usize) -> u64 {
+        self.refused[number]
+    }
+
+    /// The highest entry id that an arrival or a prefetch was answered.
+    pub fn highest_entry(&self) -> u16 {
+        self.highest_entry
     }
 
     pub fn calls(&self) -> u64 {

@@ -32,6 +32,7 @@ impl Plan {
             seed: random.word(),
             profile: Profile::ALL[(number % profiles) as usize],
             nodes: match number / profiles % 40 {
+                38 => 2048,
                 39 => 256,
                 other => NODES[(other % 10) as usize],
             },

@@ -293,6 +293,13 @@ mod tests {
                     13252, 14276, 15300,
                 ],
             ),
+            (
+                2048,
+                [
+                    0, 12, 16, 20, 204, 388, 788, 1188, 1988, 18372, 34756, 67524, 75716, 83908,
+                    92100, 100292, 108484,
+                ],
+            ),
         ] {
             let t = Tables::of(nodes);
             let starts = [
@@ -321,7 +328,7 @@ mod tests {
 
     #[test]
     fn the_image_is_read_back() {
-        for nodes in [1, 2, 16, 255, 256] {
+        for nodes in [1, 2, 16, 255, 256, 257, 2048] {
             let settings = Settings {
                 nodes,
                 beat: 128,

@@ -169,16 +169,48 @@ fn outward_credit_at_its_most() {
 
 #[test]
 fn nodes_per_port() {
-    for (nodes, accepted) in [(256, true), (0, false), (257, false)] {
+    for (nodes, wanted) in [
+        (256, None),
+        (0, Some(Refusal::SettingOutOfRow)),
+        (2049, Some(Refusal::SettingOutOfRow)),
+        // The most that 65,536 bytes are enough for.
+        (1222, None),
+        (1223, Some(Refusal::ShortMemory)),
+        (2048, Some(Refusal::ShortMemory)),
+    ] {
         let settings = Settings { nodes, ..SMALL };
         match Switch::setup(vec![0; 65_536], settings) {
-            Ok(_) => assert!(accepted),
+            Ok(_) => assert_eq!(wanted, None),
             Err((refusal, memory)) => {
-                assert!(!accepted);
-                assert_eq!(refusal, Refusal::SettingOutOfRow);
+                assert_eq!(Some(refusal), wanted);
                 assert_eq!(memory, vec![0; 65_536]);
             }
         }
+    }
+}
+
+/// All the nodes that entry ids allow, in one list: ids and positions to 8,191.
+#[test]
+fn one_queue_holds_every_node() {
+    let settings = Settings {
+        nodes: 2048,
+        ..SMALL
+    };
+    let mut switch = Switch::setup(vec![0; 108_484], settings).unwrap();
+    for entry in 0..8192 {
+        let port = u32::from(entry / 2048);
+        let header = plain(0, port, 0, 12);
+        assert_eq!(switch.arrive(port, &header), Ok(EntryId(entry)));
+        switch.stitch(port).unwrap();
+    }
+    for entry in [0, 2047, 2048, 8191] {
+        let place = switch.place_of(EntryId(entry)).unwrap();
+        let egress = ListKind::Egress { port: 0, queue: 0 };
+        assert_eq!((place.list, place.position), (egress, entry));
+    }
+    for port in 0..4 {
+        let header = plain(0, port, 0, 12);
+        assert_eq!(switch.arrive(port, &header), Err(Refusal::NoFreeNode));
     }
 }
 

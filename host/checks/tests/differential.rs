@@ -3,10 +3,10 @@
 use checks::counts::Counts;
 use checks::run::{run, Plan};
 use checks::{damage, library, wrapper, Desk};
-use model::{size, Call, Reply};
-use traffic::Profile;
+use model::{size, Call, Model, Reply};
+use traffic::{Profile, Traffic};
 
-const NODES: [u32; 6] = [1, 2, 4, 16, 64, 256];
+const NODES: [u32; 7] = [1, 2, 4, 16, 64, 256, 257];
 
 fn run_all<D: Desk>(desk: &D, calls: usize) -> Counts {
     let mut counts = Counts::default();
@@ -41,6 +41,63 @@ fn the_wrapper_agrees_with_the_model() {
     assert_eq!(counts.too_rare(1, 50), []);
 }
 
+/// Every pool to its last node, every node home, `times` times over, with the
+/// library beside the model at each call.
+fn full_pools(nodes: u32, times: u32) {
+    let mut plan = Plan {
+        seed: nodes.into(),
+        profile: Profile::Brim,
+        memory_len: size(nodes) + 7,
+        calls: 0,
+        ledger_every: 512,
+    };
+    // The traffic looks at the model alone, so the run's length can be found
+    // without the library.
+    let mut model = Model::new(plan.memory_len);
+    let mut traffic = Traffic::new(plan.seed, plan.profile);
+    let (mut emptied, mut home) = (0, 0);
+    while home < times {
+        let call = traffic.next(&model);
+        model.call(&call);
+        plan.calls += 1;
+        if let Some(ledger) = model.ledger() {
+            let free: usize = ledger.ports.iter().map(|port| port.free.len()).sum();
+            if free == 0 && emptied == home {
+                emptied += 1;
+            }
+            if free as u32 == 4 * nodes && emptied > home {
+                home += 1;
+            }
+        }
+    }
+    let mut counts = Counts::default();
+    if let Err(failure) = run(&plan, &library::call, &mut counts) {
+        panic!("{failure}");
+    }
+    println!(
+        "N = {nodes}, pools emptied and refilled {times} times: {} calls",
+        counts.calls()
+    );
+    println!("{counts}");
+    assert!(counts.refused(11) > 0);
+    assert_eq!(counts.highest_entry(), 3 * 2048 + nodes as u16 - 1);
+}
+
+#[test]
+fn full_pools_of_257_nodes() {
+    full_pools(257, 4);
+}
+
+#[test]
+fn full_pools_of_1000_nodes() {
+    full_pools(1000, 1);
+}
+
+#[test]
+fn full_pools_of_2048_nodes() {
+    full_pools(2048, 1);
+}
+
 /// Memory that no state fits into, of any length down to none.
 #[test]
 fn memory_too_short_for_any_state() {
@@ -63,8 +120,8 @@ fn memory_too_short_for_any_state() {
 
 #[test]
 fn the_size_is_the_published_formula() {
-    for nodes in 0..2000 {
-        let wanted = (1..=256)
+    for nodes in 0..5000 {
+        let wanted = (1..=2048)
             .contains(&nodes)
             .then(|| 1988 + 52 * nodes as usize);
         assert_eq!(ventorupo::size(nodes), wanted, "{nodes} nodes");

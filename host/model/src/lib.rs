@@ -23,6 +23,8 @@ pub const QUEUES: u32 = 24;
 pub const DESTINATIONS: u32 = 4;
 /// The step between the entry ids of two ports.
 pub const ENTRIES_PER_PORT: u32 = 2048;
+/// The most nodes per port: as many as there are entry ids.
+pub const MOST_NODES: u32 = ENTRIES_PER_PORT;
 /// The most that a credit can hold.
 pub const MOST_CREDIT: u32 = 65_535;
 /// Header and footer, without data: the shortest packet.
@@ -46,7 +48,7 @@ pub struct Settings {
 impl Settings {
     /// Is every setting in its row of the paper's table?
     pub fn in_their_rows(&self) -> bool {
-        (1..=256).contains(&self.nodes)
+        (1..=MOST_NODES).contains(&self.nodes)
             && [64, 128, 256, 512].contains(&self.beat)
             && (1..=8).contains(&self.slots)
             && self.credit <= MOST_CREDIT

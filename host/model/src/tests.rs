@@ -367,7 +367,11 @@ fn card_nodes_per_port() {
     for (nodes, wanted) in [
         (256, Reply::Done),
         (0, Reply::Refused(2)),
-        (257, Reply::Refused(2)),
+        (2049, Reply::Refused(2)),
+        // The most that 65,536 bytes are enough for.
+        (1222, Reply::Done),
+        (1223, Reply::Refused(1)),
+        (2048, Reply::Refused(1)),
     ] {
         assert_eq!(desk.setup(Settings { nodes, ..SMALL }), wanted);
     }
@@ -477,10 +481,10 @@ fn everything_but_setup_is_refused_before_setup() {
 
 #[test]
 fn setup_takes_exactly_the_settings_in_their_rows() {
-    let mut desk = Desk(Model::new(65_536));
-    let huge = [70_000, 65_536, 65_537, 256 + 64, u32::MAX];
-    for nodes in (0..=300).chain(huge) {
-        let good = (1..=256).contains(&nodes);
+    let mut desk = Desk(Model::new(size(2048)));
+    let huge = [70_000, 65_536, 65_537, 4096 + 64, u32::MAX];
+    for nodes in (0..=2100).chain(huge) {
+        let good = (1..=2048).contains(&nodes);
         let wanted = if good { Reply::Done } else { Reply::Refused(2) };
         assert_eq!(desk.setup(Settings { nodes, ..SMALL }), wanted);
     }
@@ -508,8 +512,9 @@ fn setup_takes_exactly_the_settings_in_their_rows() {
 
 #[test]
 fn setup_tests_settings_then_memory() {
-    assert!(size(256) <= 65_536);
-    for nodes in [1, 2, 100, 256] {
+    for nodes in [1, 2, 100, 256, 257, 1000, 2048] {
+        let more = 64 * (nodes as usize).saturating_sub(256);
+        assert!(size(nodes) <= 65_536 + more);
         let settings = Settings { nodes, ..SMALL };
         let call = Call::Setup(settings);
         let mut short = Model::new(size(nodes) - 1);
@@ -525,7 +530,7 @@ fn setup_tests_settings_then_memory() {
     }
     assert_eq!(
         Model::new(0).call(&Call::Setup(Settings {
-            nodes: 257,
+            nodes: 2049,
             ..SMALL
         })),
         Reply::Refused(2)
@@ -652,6 +657,33 @@ fn where_follows_a_node_through_its_lists() {
     assert_eq!(desk.place(second), Reply::Found(free, 6));
     assert_eq!(desk.place(second - 1), Reply::Found(free, 5));
     assert_eq!(desk.place(second + 2), Reply::Found(free, 0));
+}
+
+/// All the nodes that entry ids allow, in one list: ids and positions to 8,191.
+#[test]
+fn one_queue_holds_every_node() {
+    let settings = Settings {
+        nodes: 2048,
+        ..SMALL
+    };
+    let mut desk = Desk::new(settings);
+    for entry in 0..8192 {
+        let port = entry / 2048;
+        let header = written(0, port.into(), 0, 12).to_vec();
+        // Past the desk, which checks all nodes after each call.
+        let arrived = desk.0.call(&Call::Arrive { port, header });
+        assert_eq!(arrived, Reply::Entry(entry as u16));
+        desk.0.call(&Call::Stitch { port });
+    }
+    assert_eq!(desk.0.check(), Ok(()));
+    let egress = ListKind::Egress { port: 0, queue: 0 };
+    for entry in [0, 2047, 2048, 8191] {
+        assert_eq!(desk.place(entry), Reply::Found(egress, entry));
+    }
+    for port in 0..4 {
+        let header = written(0, port.into(), 0, 12);
+        assert_eq!(desk.arrive(port, &header), Reply::Refused(11));
+    }
 }
 
 #[test]
@@ -916,8 +948,15 @@ fn bench_entry_ids_of_other_ports() {
 
 #[test]
 fn bench_refused_setup_leaves_the_older_state() {
-    let input = format!("{SETUP} 01 0007 0101 0040 01 0010 05 0001 00");
+    let input = format!("{SETUP} 01 0007 0801 0040 01 0010 05 0001 00");
     assert_eq!(lines(&input), "1 0\n2 2\n3 0 idle\n");
+}
+
+/// 65,536 bytes are enough for 1,222 nodes a port, and not for 1,223 or 2,048.
+#[test]
+fn bench_refuses_what_its_memory_has_no_room_for() {
+    let input = "01 0007 04C6 0040 01 0010 01 0007 04C7 0040 01 0010 01 0007 0800 0040 01 0010";
+    assert_eq!(lines(input), "1 0\n2 1\n3 1\n");
 }
 
 #[test]

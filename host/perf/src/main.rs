@@ -61,7 +61,12 @@ fn no_setup(call: &Call) -> bool {
 fn used_memory(seed: u64, nodes: u32) -> Vec<u8> {
     let mut memory = vec![0; size(nodes)];
     for call in valid_traffic(seed, nodes, 3000 + 20 * nodes as usize, no_setup) {
-        library::call(&mut memory, &call).unwrap();
+        match call {
+            // These change nothing.
+            Call::Ready { .. } | Call::Where { .. } => continue,
+            _ if acts::has_act(&call) => bare_act(&mut memory, &call),
+            _ => quick(&mut memory, &call),
+        };
     }
     memory
 }
@@ -122,7 +127,7 @@ fn the_test_for_a_state() {
         "| N | nodes in all | ready, ns | ns a node | bare walk, ns | ratio | in one memory |"
     );
     println!("|---|---|---|---|---|---|---|");
-    for nodes in [1, 16, 64, 256] {
+    for nodes in [1, 16, 64, 256, 2048] {
         let spent: Vec<[f64; 2]> = (1..=MEMORIES)
             .map(|seed| test_and_walk(&used_memory(seed, nodes), nodes))
             .collect();
@@ -161,7 +166,7 @@ fn each_call(nodes: u32) -> Vec<(&'static str, f64)> {
     let packets = nodes.min(7 * (QUEUES - 1));
     let mut memory = vec![0; size(nodes)];
     let s = settings(nodes);
-    let rounds = if nodes == 1 { 2000 } else { 20 };
+    let rounds = (5000 / nodes).clamp(5, 2000);
     let mut least = [f64::INFINITY; NAMES.len()];
     let queue_of = |packet: u32| 1 + packet % (QUEUES - 1);
     let headers: Vec<(u32, u32, [u8; 10])> = (0..packets)
@@ -239,10 +244,14 @@ fn each_call(nodes: u32) -> Vec<(&'static str, f64)> {
 
 fn each_call_through_c() {
     println!("### Each call through the C interface, ns\n");
-    println!("| call | N = 1 | N = 256 |");
-    println!("|---|---|---|");
-    for ((name, small), (_, large)) in each_call(1).into_iter().zip(each_call(256)) {
-        println!("| {name} | {small:.0} | {large:.0} |");
+    println!("| call | N = 1 | N = 256 | N = 2,048 |");
+    println!("|---|---|---|---|");
+    let [one, few, many] = [1, 256, 2048].map(each_call);
+    for ((one, few), many) in one.into_iter().zip(few).zip(many) {
+        println!(
+            "| {} | {:.0} | {:.0} | {:.0} |",
+            one.0, one.1, few.1, many.1
+        );
     }
     println!();
 }
@@ -288,8 +297,13 @@ fn whole_list(nodes: u32, list: &[Call], library: fn(&mut [u8], &Call) -> u32) -
 fn beside_the_model(wanted: fn(&Call) -> bool, library: fn(&mut [u8], &Call) -> u32) {
     println!("| N | library | model, whole word | ratio | model, early out | ratio |");
     println!("|---|---|---|---|---|---|");
-    for nodes in [1, 16, 64, 256] {
-        let list = valid_traffic(1, nodes, 500_000 / (20 + nodes as usize), wanted);
+    for nodes in [1, 16, 64, 256, 2048] {
+        let list = valid_traffic(
+            1,
+            nodes,
+            (500_000 / (20 + nodes as usize)).max(2000),
+            wanted,
+        );
         let [ours, whole, early] = whole_list(nodes, &list, library);
         let a_call = |all: f64| all / list.len() as f64;
         println!(

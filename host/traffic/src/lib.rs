@@ -13,8 +13,8 @@ pub use random::Random;
 
 use model::checksum::crc8;
 use model::{
-    size, Call, Ledger, Model, Settings, ENTRIES_PER_PORT, LONGEST, MOST_CREDIT, PORTS, QUEUES,
-    SHORTEST,
+    size, Call, Ledger, Model, Port, Settings, ENTRIES_PER_PORT, LONGEST, MOST_CREDIT, MOST_NODES,
+    PORTS, QUEUES, SHORTEST,
 };
 
 /// The ten bytes of a header, with its checksum. Each field must fit its width.
@@ -55,15 +55,19 @@ pub enum Profile {
     Full,
     /// Setups in between, also refused ones.
     Resetup,
+    /// One setup with all the nodes that the memory has room for and all the
+    /// credit; then every pool to its last node, every node home, and again.
+    Brim,
 }
 
 impl Profile {
-    pub const ALL: [Profile; 5] = [
+    pub const ALL: [Profile; 6] = [
         Profile::Valid,
         Profile::Hostile,
         Profile::Tiny,
         Profile::Full,
         Profile::Resetup,
+        Profile::Brim,
     ];
 
     /// Calls between two setups, about.
@@ -71,6 +75,8 @@ impl Profile {
         match self {
             Profile::Resetup => 80,
             Profile::Tiny => 1000,
+            // Never, as good as.
+            Profile::Brim => u32::MAX,
             _ => 4000,
         }
     }
@@ -83,6 +89,7 @@ impl Profile {
             Profile::Tiny => 20,
             Profile::Full => 8,
             Profile::Resetup => 10,
+            Profile::Brim => 4,
         }
     }
 
@@ -98,6 +105,10 @@ enum Phase {
     Fill,
     Even,
     Drain,
+    /// No node leaves.
+    Flood,
+    /// None arrives.
+    Ebb,
 }
 
 /// The calls of the sensible kind, for the weights.
@@ -126,7 +137,7 @@ const STEPS: [Step; 8] = [
 
 // Settings just beyond their rows, and some that a cut to a byte or two would
 // bring back into them.
-const WRONG_NODES: [u32; 8] = [0, 257, 320, 512, 65_535, 65_537, 70_000, u32::MAX];
+const WRONG_NODES: [u32; 8] = [0, 2049, 2304, 4096, 65_535, 65_537, 70_000, u32::MAX];
 const WRONG_BEATS: [u32; 10] = [0, 1, 32, 63, 65, 96, 192, 1024, 65_600, u32::MAX];
 const WRONG_SLOTS: [u32; 6] = [0, 9, 255, 257, 70_000, u32::MAX];
 const WRONG_CREDITS: [u32; 5] = [65_536, 65_537, 70_000, 1 << 31, u32::MAX];
@@ -138,6 +149,8 @@ impl Phase {
             Phase::Fill => [40, 24, 14, 5, 3, 5, 4, 5],
             Phase::Even => [20, 20, 20, 12, 3, 17, 4, 4],
             Phase::Drain => [5, 20, 25, 16, 1, 27, 3, 3],
+            Phase::Flood => [60, 20, 10, 3, 2, 0, 2, 3],
+            Phase::Ebb => [0, 24, 26, 20, 1, 25, 2, 2],
         }
     }
 }
@@ -183,7 +196,7 @@ impl Traffic {
     /// A few calls that are refused 3, then a setup.
     fn before_setup(&mut self, model: &Model) -> Call {
         if self.random.percent(40) {
-            let blind = Ledger::starting(self.settings());
+            let blind = Ledger::starting(self.settings(16));
             self.anything(&blind)
         } else {
             self.setup(model)
@@ -191,6 +204,9 @@ impl Traffic {
     }
 
     fn go_on_in_phase(&mut self, ledger: &Ledger) {
+        if self.profile == Profile::Brim {
+            return self.flood_or_ebb(ledger);
+        }
         if self.calls_left_in_phase > 0 {
             self.calls_left_in_phase -= 1;
             return;
@@ -201,33 +217,57 @@ impl Traffic {
         };
         // Long enough to fill all the nodes, sometimes.
         self.calls_left_in_phase = self.random.among(10, 50 + 16 * ledger.settings.nodes);
+        self.choose_busy_queues();
+    }
+
+    /// Flood until no node is free, then ebb until all are.
+    fn flood_or_ebb(&mut self, ledger: &Ledger) {
+        let free = |port: &Port| port.free.len() as u32;
+        let next = if ledger.ports.iter().all(|port| free(port) == 0) {
+            Phase::Ebb
+        } else if ledger
+            .ports
+            .iter()
+            .all(|port| free(port) == ledger.settings.nodes)
+        {
+            Phase::Flood
+        } else {
+            return;
+        };
+        if self.phase != next {
+            self.phase = next;
+            self.choose_busy_queues();
+        }
+    }
+
+    fn choose_busy_queues(&mut self) {
         let busy = self.random.pick(&[1, 2, 4, 24]);
         self.busy_queues = (0..busy).map(|_| self.random.below(QUEUES)).collect();
     }
 
     // Setups.
 
-    /// Settings in their rows, to the profile's taste.
-    fn settings(&mut self) -> Settings {
+    /// Settings in their rows, to the profile's taste, with most nodes at most.
+    fn settings(&mut self, most: u32) -> Settings {
         let r = &mut self.random;
         let (nodes, slots, credit) = match self.profile {
             Profile::Tiny => (r.among(1, 2), 1, r.below(4)),
             Profile::Hostile => {
                 let nodes = if r.one_in(8) {
-                    r.among(1, 256)
+                    r.among(1, most)
                 } else {
                     r.among(1, 8)
                 };
                 (nodes, r.among(1, 3), r.below(40))
             }
             Profile::Full => {
-                let nodes = if r.one_in(4) { 256 } else { r.among(1, 32) };
+                let nodes = if r.one_in(4) { most } else { r.among(1, 32) };
                 (nodes, r.among(1, 8), r.below(300))
             }
             Profile::Valid | Profile::Resetup => {
                 let nodes = match r.below(3) {
-                    0 => 256,
-                    1 => r.among(1, 256),
+                    0 => most,
+                    1 => r.among(1, most),
                     _ => r.among(1, 16),
                 };
                 let credit = match r.below(3) {
@@ -237,9 +277,10 @@ impl Traffic {
                 };
                 (nodes, r.among(1, 8), credit)
             }
+            Profile::Brim => (most, r.among(1, 8), MOST_CREDIT),
         };
         Settings {
-            nodes,
+            nodes: nodes.min(most),
             beat: r.pick(&[64, 128, 256, 512]),
             slots,
             credit,
@@ -248,13 +289,14 @@ impl Traffic {
 
     /// A setup; one in three is meant to be refused where the profile is for it.
     fn setup(&mut self, model: &Model) -> Call {
-        let mut settings = self.settings();
+        // The largest N that there is memory for.
+        let fits = (1..=MOST_NODES)
+            .rev()
+            .find(|&n| size(n) <= model.memory_len());
+        let mut settings = self.settings(fits.unwrap_or(MOST_NODES));
         let wrong =
             matches!(self.profile, Profile::Resetup | Profile::Hostile) && self.random.one_in(3);
-        // The largest N that there is memory for.
-        let fits = (1..=256).rev().find(|&n| size(n) <= model.memory_len());
         if !wrong {
-            settings.nodes = settings.nodes.min(fits.unwrap_or(256));
             return Call::Setup(settings);
         }
         let r = &mut self.random;
@@ -266,7 +308,10 @@ impl Traffic {
                 2 => settings.slots = r.pick(&WRONG_SLOTS),
                 3 => settings.credit = r.pick(&WRONG_CREDITS),
                 // Needs more memory than there is, if any N does.
-                _ => settings.nodes = r.among(fits.map_or(1, |n| (n + 1).min(256)), 256),
+                _ => {
+                    let first = fits.map_or(1, |n| (n + 1).min(MOST_NODES));
+                    settings.nodes = r.among(first, MOST_NODES);
+                }
             }
         }
         Call::Setup(settings)

@@ -40,7 +40,7 @@ pub use refusal::Refusal;
 /// those that are not in their rows.
 #[derive(Debug, Clone, Copy, PartialEq, Eq)]
 pub struct Settings {
-    /// N, nodes per port: 1 to 256.
+    /// N, nodes per port: 1 to 2,048.
     pub nodes: u32,
     /// Beat in bytes: 64, 128, 256 or 512.
     pub beat: u32,
@@ -55,7 +55,8 @@ pub struct Settings {
 ///
 /// ```
 /// assert_eq!(ventorupo::size(256), Some(15_300));
-/// assert_eq!(ventorupo::size(257), None);
+/// assert_eq!(ventorupo::size(2048), Some(108_484));
+/// assert_eq!(ventorupo::size(2049), None);
 /// ```
 pub fn size(nodes: u32) -> Option<usize> {
     match calls::size(nodes) {
