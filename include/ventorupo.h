@@ -28,6 +28,9 @@
  * uint16_t, uint32_t and uint64_t are aligned; the memories lent to one call do not overlap; and no two calls run at once on a memory
  * that one of them may change.
  *
+ * A call takes up to 9,072 bytes of stack, whatever the nodes (measured on x86-64, not proved): the test for a state keeps a mark for
+ * each of up to 8,192 nodes there.
+ *
  * Numbers are wide on purpose: port 70,000 is refused 4, an amount above 65,535 is a sum above 65,535, an entry above 65,535 is no node.
  */
 #ifndef VENTORUPO_H

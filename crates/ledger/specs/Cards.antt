@@ -1,4 +1,4 @@
--- Paper 01, "Bench cards": the starred cards, and the prices of paper 02, Q-3: a single table. The claim that they hold is that of proofs/Cards.antt. Assumes nothing.
+-- Paper 01, "Bench cards": the starred cards, and the cases of paper 02, Q-3 and Q-5: a single table. The claim that they hold is that of proofs/Cards.antt. Assumes nothing.
 use mathlib.Core.Path.{_≡_}
 use mathlib.Core.List.{List, [], _∷_, _++_, map}
 use Prim.Native.Nat.{ℕ, zero, suc, _+_, _-_, _*_, _/_, _%_}

@@ -21,7 +21,7 @@ settings N b D K = record { ports = 4; queues = 24; nodes = N; beat = b; slots =
 unfoldable pub isBeat : ℕ → Bool
 isBeat b = leb 64 b && (leb b 512 && eqb (ones b) 1)
 
--- each setting is in its row of the table
+-- each setting is in its row of the table; N reaches 2,048, the most that an entry id allows (paper 02, Q-5)
 unfoldable pub inRows : Settings → Bool
 inRows S =
     eqb (S .ports) 4

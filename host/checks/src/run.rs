@@ -25,15 +25,19 @@ pub struct Plan {
 }
 
 impl Plan {
-    /// The run of a number: all profiles, small pools mostly, and memory with
-    /// a few bytes more than the pool needs.
+    /// The run of a number: all profiles, small pools mostly, large ones now and
+    /// then, and memory with a few bytes more than the pool needs.
     pub fn numbered(seed: u64, number: u64, calls: usize) -> Plan {
         let mut random = Random::new(seed ^ number.wrapping_mul(0xD1B5_4A32_D192_ED03));
         const NODES: [u32; 20] = [
             1, 2, 4, 16, 1, 2, 4, 16, 1, 2, 4, 16, 4, 16, 1, 2, 4, 16, 64, 256,
         ];
         let profiles = Profile::ALL.len() as u64;
-        let nodes = NODES[(number / profiles % 20) as usize];
+        let nodes = match number / profiles % 100 {
+            49 => 1000,
+            99 => 2048,
+            other => NODES[(other % 20) as usize],
+        };
         Plan {
             seed: random.word(),
             profile: Profile::ALL[(number % profiles) as usize],

@@ -60,6 +60,10 @@ fn full_pools(nodes: u32, times: u32) {
         let call = traffic.next(&model);
         model.call(&call);
         plan.calls += 1;
+        assert!(
+            plan.calls < 1_000_000,
+            "the pools are not emptied and filled"
+        );
         if let Some(ledger) = model.ledger() {
             let free: usize = ledger.ports.iter().map(|port| port.free.len()).sum();
             if free == 0 && emptied == home {

@@ -95,7 +95,7 @@ impl Profile {
 
     /// Does it make arrivals and prefetches also where they can't succeed?
     fn careless(self) -> bool {
-        matches!(self, Profile::Full | Profile::Tiny)
+        matches!(self, Profile::Full | Profile::Tiny | Profile::Brim)
     }
 }
 
