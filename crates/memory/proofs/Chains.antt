@@ -3,7 +3,7 @@ use mathlib.Core.Path.{_≡_, refl, ap, _∙_}
 use mathlib.Core.Logic.{_≢_}
 use mathlib.Core.Bool.{Bool, true, false, cond}
 use mathlib.Core.List.{List, [], _∷_, _++_, map}
-use Prim.Native.Nat.{ℕ, zero, suc, _+_, _-_, _%_, _≤_, _<_}
+use Prim.Native.Nat.{ℕ, zero, suc, _+_, _-_, _*_, _%_, _≤_, _<_}
 use native.Mathlib.Nat.{not-suc-le-zero, le-of-suc-le-suc}
 use native.Mathlib.Decide.{decLt, ℕ-discrete}
 use native.Mathlib.Omega.{arith}
@@ -210,8 +210,11 @@ module _ (S : Settings) where
   pub node-from : (y : ℕ) → isNode S y ≡ true → Node S y
   node-from y e = node-of S y (rw e (omega arith))
 
+  pub node-below : (y : ℕ) → isNode S y ≡ true → y < S .ports * 2048
+  node-below y e = let n = node-from y e in omega arith
+
   pub node-lt : (y : ℕ) → Roomy S → isNode S y ≡ true → y < 65536
-  node-lt y R e = let n = node-from y e in omega arith
+  node-lt y R e = omega (arith, node-below y e)
 
   pub slot-lt : (y : ℕ) → isNode S y ≡ true → slot S y < all S
   unfolding slot
@@ -277,13 +280,17 @@ module _ (S : Settings) (m : List ℕ) (P : Tidy S m) where
   pub tail-is-node : (l : ℕ) → l < lists S → 0 < get S m Count l → isNode S (get S m Tail l) ≡ true
   tail-is-node l h k = bit-true (isNode S (get S m Tail l)) (omega (arith, tail-times l h k, times-le S m (get S m Tail l) l h, P .once (get S m Tail l)))
 
-  pub total-bound : Roomy S → (l : ℕ) → l < lists S → get S m Count l ≤ 65536
-  total-bound R l h =
+  -- a list is no longer than there are entry ids
+  pub count-bound : (l : ℕ) → l < lists S → get S m Count l ≤ S .ports * 2048
+  count-bound l h =
       omega (
         arith,
         nodes-length S m l,
-        pigeonholes 65536 (nodesOf S m l) (All-map (nodesOf S m l) (λ y e. node-lt S y R e) (members l h)) (λ y. omega (arith, times-le S m y l h, once-most y)),
+        pigeonholes (S .ports * 2048) (nodesOf S m l) (All-map (nodesOf S m l) (node-below S) (members l h)) (λ y. omega (arith, times-le S m y l h, once-most y)),
       )
+
+  pub total-bound : Roomy S → (l : ℕ) → l < lists S → get S m Count l ≤ 65536
+  total-bound R l h = omega (arith, count-bound l h)
 
 -- ---- which changes leave a list as it is
 

@@ -6,19 +6,23 @@ use Prim.Native.Nat.{ℕ, zero, suc, _+_, _*_, _≤_, _<_}
 use native.Mathlib.Omega.{arith}
 use lib.ListN.{length, getD, take}
 use Rattle.ledger.specs.Settings.{Settings}
-use Rattle.ledger.specs.Ledger.{owner, isNode, Packet, Place, free, Ledger, listAt}
+use Rattle.ledger.specs.Ledger.{owner, isNode, Packet, Place, place#, free, Ledger, listAt}
 use Rattle.ledger.specs.Ready.{bit}
-use Rattle.ledger.specs.Calls.{Act, turn, Reply, refused, leaves, sideOf, step, run, answers}
+use Rattle.ledger.specs.Calls.{Act, turn, whereIs, Reply, refused, leaves, found, sideOf, step, run, answers}
 use Rattle.ledger.specs.Desk.{Desk, none, has, Call, act, onDesk, desk}
 use Rattle.ledger.specs.Sound.{All, Orderly, Sound}
 use Rattle.ledger.specs.Demand.{isRefused, isTurn, turnsOf, NobodyStarves24}
-use Rattle.ledger.proofs.Places.{Place·In}
-use Rattle.ledger.proofs.Rows.{roomy}
+use Rattle.ledger.proofs.Places.{Place·In, place#-lt}
+use Rattle.ledger.proofs.Rows.{roomy, this-build}
+use Rattle.ledger.proofs.Find.{where-right}
 use Rattle.ledger.proofs.Promises.{OnePlace, each-in-one-place, First-in-first-out, run-in-order, home-only, refusal-keeps-desk}
 use Rattle.ledger.proofs.Waits.{nobody-starves-24}
+use Rattle.layout.specs.Tables.{lists}
 use Rattle.layout.specs.Picture.{settingsIn, ledgerIn, State}
 use Rattle.memory.specs.Memory.{state-dec, deskOf, picture, M}
 use Rattle.memory.specs.Demands.{afterActs, answersOf, turnsIn, ShowsWaiting, LeavesMemory, NobodyStarvesInMemory}
+use Rattle.memory.proofs.Chains.{node-below, state-tidy, list-length, count-bound}
+use Rattle.memory.proofs.Picture.{picture-state}
 use Rattle.memory.proofs.Square.{pictured, square}
 
 -- a memory that pictures a ledger is a state, and the ledger is sound
@@ -104,6 +108,28 @@ module _ (m : List ℕ) (S : Settings) (L : Ledger) (e : picture m ≡ has S L) 
       → (N : Ledger) × (picture (afterActs m acts) ≡ has S N) × All (λ k. owner (k .node) ≡ p) (listAt S N (free p))
   memory-home acts p hp = (run S L acts, acts-picture S m L e acts, home-only S (roomy S (s .rows)) L (s .orderly) acts p hp)
 
+-- ---- where, on memory: entry ids and positions reach 8,191 at most
+
+module _ (m : List ℕ) (t : State m) (y : ℕ) (v : Place) (i : ℕ) where
+  reach : (b : Bool) → isNode (settingsIn m) y ≡ b → step (settingsIn m) (ledgerIn (settingsIn m) m) (whereIs y) .0 ≡ found v i → (y < 8192) × (i < 8192)
+  reach false d e = let a = rw d at e in absurd (let z : _≡_ {A = ℕ} 0 1 = cc in omega arith)
+  reach true d e =
+      let S = settingsIn m in
+      let r = roomy S (t .sound .rows) in
+      let w = where-right S r (ledgerIn S m) (t .sound .orderly) y d in
+      let same : found v i ≡ found (w .0) (w .1) = sym e ∙ ap (λ (p : Reply × Ledger). p .0) (w .2) in
+      let j : i ≡ w .1 = cc in
+      let l : place# S (w .0) < lists S = place#-lt S (w .0) (w .3) in
+      let four = this-build S (t .sound .rows) .0 in
+      let n = count-bound S m (state-tidy S m t) (place# S (w .0)) l in
+      let k = list-length S m (place# S (w .0)) l in
+      (omega (arith, node-below S y d), omega (arith, w .4))
+
+  pub where-reach : M (act (whereIs y)) m .0 ≡ found v i → (y < 8192) × (i < 8192)
+  where-reach f =
+      let S = settingsIn m in
+      reach (isNode S y) refl (sym (act-answer S m (ledgerIn S m) (picture-state m t) (whereIs y)) ∙ f)
+
 -- ---- the statements of the calls fix their outcome
 
 -- any two outcomes that a contract allows are identical
@@ -113,6 +139,6 @@ one-outcome c m out out′ a b = a ∙ sym b
 -- after any call a memory that was a state is one again, and a memory that is one pictures a sound ledger
 pub still-a-state : (a : Act) (m : List ℕ) → State m → State (M (act a) m .1)
 still-a-state a m t =
-    let e = Rattle.memory.proofs.Picture.picture-state m t in
+    let e = picture-state m t in
     let S = settingsIn m in
     pictured-state (M (act a) m .1) S (step S (ledgerIn S m) a .1) (act-picture S m (ledgerIn S m) e a) .0
