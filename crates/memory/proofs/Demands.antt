@@ -19,7 +19,7 @@ use Rattle.ledger.proofs.Promises.{OnePlace, each-in-one-place, First-in-first-
 use Rattle.ledger.proofs.Waits.{nobody-starves-24}
 use Rattle.layout.specs.Tables.{lists}
 use Rattle.layout.specs.Picture.{settingsIn, ledgerIn, State}
-use Rattle.memory.specs.Memory.{state-dec, deskOf, picture, M}
+use Rattle.memory.specs.Memory.{state-dec, deskOf, picture, tested, M}
 use Rattle.memory.specs.Demands.{afterActs, answersOf, turnsIn, ShowsWaiting, LeavesMemory, NobodyStarvesInMemory}
 use Rattle.memory.proofs.Chains.{node-below, state-tidy, list-length, count-bound}
 use Rattle.memory.proofs.Picture.{picture-state}
@@ -110,10 +110,19 @@ module _ (m : List ℕ) (S : Settings) (L : Ledger) (e : picture m ≡ has S L) 
 
 -- ---- where, on memory: entry ids and positions reach 8,191 at most
 
-module _ (m : List ℕ) (t : State m) (y : ℕ) (v : Place) (i : ℕ) where
-  reach : (b : Bool) → isNode (settingsIn m) y ≡ b → step (settingsIn m) (ledgerIn (settingsIn m) m) (whereIs y) .0 ≡ found v i → (y < 8192) × (i < 8192)
-  reach false d e = let a = rw d at e in absurd (let z : _≡_ {A = ℕ} 0 1 = cc in omega arith)
-  reach true d e =
+-- on a memory that is no state every act is refused 3
+pub off-state : (m : List ℕ) → (State m → ⊥) → (a : Act) → M (act a) m ≡ (refused 3, m)
+unfolding M
+off-state m n a = go (state-dec m)
+  where
+    go : (d : Dec (State m)) → tested m d a ≡ (refused 3, m)
+    go (yes t) = absurd (n t)
+    go (no k) = refl
+
+module _ (m : List ℕ) (y : ℕ) (v : Place) (i : ℕ) where
+  reach : State m → (b : Bool) → isNode (settingsIn m) y ≡ b → step (settingsIn m) (ledgerIn (settingsIn m) m) (whereIs y) .0 ≡ found v i → (y < 8192) × (i < 8192)
+  reach t false d e = let a = rw d at e in absurd (let z : _≡_ {A = ℕ} 0 1 = cc in omega arith)
+  reach t true d e =
       let S = settingsIn m in
       let r = roomy S (t .sound .rows) in
       let w = where-right S r (ledgerIn S m) (t .sound .orderly) y d in
@@ -126,9 +135,15 @@ module _ (m : List ℕ) (t : State m) (y : ℕ) (v : Place) (i : ℕ) where
       (omega (arith, node-below S y d), omega (arith, w .4))
 
   pub where-reach : M (act (whereIs y)) m .0 ≡ found v i → (y < 8192) × (i < 8192)
-  where-reach f =
-      let S = settingsIn m in
-      reach (isNode S y) refl (sym (act-answer S m (ledgerIn S m) (picture-state m t) (whereIs y)) ∙ f)
+  where-reach f = go (state-dec m)
+    where
+      go : Dec (State m) → (y < 8192) × (i < 8192)
+      go (yes t) =
+          let S = settingsIn m in
+          reach t (isNode S y) refl (sym (act-answer S m (ledgerIn S m) (picture-state m t) (whereIs y)) ∙ f)
+      go (no n) =
+          let e : refused 3 ≡ found v i = sym (ap (λ (r : Reply × List ℕ). r .0) (off-state m n (whereIs y))) ∙ f in
+          absurd (let z : _≡_ {A = ℕ} 0 1 = cc in omega arith)
 
 -- ---- the statements of the calls fix their outcome
 

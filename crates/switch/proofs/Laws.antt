@@ -10,6 +10,7 @@ use Rattle.layout.specs.Tables.{settingsOf}
 use Rattle.layout.specs.Picture.{settingsIn, StateOf, State}
 use Rattle.memory.specs.Judged.{Works}
 use Rattle.memory.specs.Memory.{state-dec, acted, tested, M}
+use Rattle.memory.proofs.Demands as demands
 use Rattle.sound.specs.declared.Tested.the-variants as tests
 use Rattle.sound.specs.Sound.{testedIn}
 use Rattle.sound.proofs.Means.{tested-state, tested-none}
@@ -28,9 +29,4 @@ on-state s m e a = on-works s m (tested-state m s e) a
 
 -- where it says none, the call is refused 3 and changes nothing
 pub off-state : (m : List ℕ) → testedIn m ≡ tests.NoState → (a : Act) → (refused 3, m) ≡ M (act a) m
-unfolding M
-off-state m e a = go (state-dec m)
-  where
-    go : (d : Dec (State m)) → (refused 3, m) ≡ tested m d a
-    go (yes t) = absurd (tested-none m e t)
-    go (no n) = refl
+off-state m e a = sym (demands.off-state m (tested-none m e) a)
