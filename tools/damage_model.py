@@ -1,8 +1,8 @@
 #!/usr/bin/env python3
 """An independent model of the queue manager's lent memory.
 
-Sources: the scope paper (01-scope.md), rulings 1 to 11c, and the layout page
-(LAYOUT.md); no code of the project was read.
+Sources: the scope paper (01-scope.md) with requests Q-3 and Q-5, rulings 1 to
+11c, and the layout page (LAYOUT.md); no code of the project was read.
 
     python3 tools/damage_model.py > damage.expected     the scenario's lines
     python3 tools/damage_model.py --literal-checksum    same, other reading of the

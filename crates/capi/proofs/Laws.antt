@@ -14,6 +14,7 @@ use Rattle.ledger.proofs.Tests.{ltb-yes, ltb-not}
 use Rattle.ledger.proofs.Rows.{Rows, this-build, size-is, beat-is}
 use Rattle.layout.specs.Picture.{settingsIn, State}
 use Rattle.memory.specs.Memory.{state-dec, acted, tested, M}
+use Rattle.memory.proofs.Demands.{off-state}
 use Rattle.setup.proofs.Answers.{no-rows, rows-beat}
 use Rattle.capi.specs.Rooms.{numberIn, told, toldIn, shown, placeRoom, sizeFor}
 
@@ -38,11 +39,11 @@ no-node S h y k = let b = this-build S h in rw (ltb-not (owner y) (S .ports) (om
 -- from 65535 on where is refused: 15, but 3 first
 pub beyond : (m : List ℕ) (y : ℕ) → 65535 ≤ y → (State m → M (act (whereIs y)) m ≡ (refused 15, m)) × ((State m → ⊥) → M (act (whereIs y)) m ≡ (refused 3, m))
 unfolding M acted
-beyond m y k = go (state-dec m)
+beyond m y k = (λ s. go s (state-dec m), λ n. off-state m n (whereIs y))
   where
-    go : (d : Dec (State m)) → (State m → tested m d (whereIs y) ≡ (refused 15, m)) × ((State m → ⊥) → tested m d (whereIs y) ≡ (refused 3, m))
-    go (yes s) = (λ t. rw (no-node (settingsIn m) (s .sound .rows) y k), λ n. absurd (n s))
-    go (no n) = (λ s. absurd (n s), λ n. refl)
+    go : State m → (d : Dec (State m)) → tested m d (whereIs y) ≡ (refused 15, m)
+    go s (yes t) = rw (no-node (settingsIn m) (t .sound .rows) y k)
+    go s (no n) = absurd (n s)
 
 -- so an entry above 65535 may be asked as 65535
 pub asked-same :

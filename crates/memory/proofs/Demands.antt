@@ -108,9 +108,8 @@ module _ (m : List ℕ) (S : Settings) (L : Ledger) (e : picture m ≡ has S L) 
       → (N : Ledger) × (picture (afterActs m acts) ≡ has S N) × All (λ k. owner (k .node) ≡ p) (listAt S N (free p))
   memory-home acts p hp = (run S L acts, acts-picture S m L e acts, home-only S (roomy S (s .rows)) L (s .orderly) acts p hp)
 
--- ---- where, on memory: entry ids and positions reach 8,191 at most
+-- ---- on a memory that is no state every act is refused 3
 
--- on a memory that is no state every act is refused 3
 pub off-state : (m : List ℕ) → (State m → ⊥) → (a : Act) → M (act a) m ≡ (refused 3, m)
 unfolding M
 off-state m n a = go (state-dec m)
@@ -118,6 +117,8 @@ off-state m n a = go (state-dec m)
     go : (d : Dec (State m)) → tested m d a ≡ (refused 3, m)
     go (yes t) = absurd (n t)
     go (no k) = refl
+
+-- ---- where, on memory: entry ids and positions reach 8,191 at most
 
 module _ (m : List ℕ) (y : ℕ) (v : Place) (i : ℕ) where
   reach : State m → (b : Bool) → isNode (settingsIn m) y ≡ b → step (settingsIn m) (ledgerIn (settingsIn m) m) (whereIs y) .0 ≡ found v i → (y < 8192) × (i < 8192)

@@ -137,7 +137,7 @@ const STEPS: [Step; 8] = [
 
 // Settings just beyond their rows, and some that a cut to a byte or two would
 // bring back into them.
-const WRONG_NODES: [u32; 8] = [0, 2049, 2304, 4096, 65_535, 65_537, 70_000, u32::MAX];
+const WRONG_NODES: [u32; 8] = [0, 2049, 2368, 4160, 65_535, 65_537, 70_000, u32::MAX];
 const WRONG_BEATS: [u32; 10] = [0, 1, 32, 63, 65, 96, 192, 1024, 65_600, u32::MAX];
 const WRONG_SLOTS: [u32; 6] = [0, 9, 255, 257, 70_000, u32::MAX];
 const WRONG_CREDITS: [u32; 5] = [65_536, 65_537, 70_000, 1 << 31, u32::MAX];
