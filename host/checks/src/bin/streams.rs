@@ -1,12 +1,29 @@
-//! Runs the bench program, given by its path, on seeded streams of tagged
-//! fields and compares what it writes with the model's bench, line for line.
+//! Runs the bench program, given by its path, on setups at the edge of its
+//! memory, and on seeded streams of tagged fields, and compares what it writes
+//! with the model's bench, line for line.
 //!
 //!     streams BENCH STREAMS SEED
 
 use std::io::Write;
 use std::process::{exit, Command, Stdio};
 
-fn run(program: &str, input: &[u8]) -> std::io::Result<Vec<u8>> {
+use model::{Call, Settings};
+
+/// Setups of so many nodes, with nothing else at an edge.
+fn setups(nodes: &[u32]) -> Vec<u8> {
+    let settings = |&nodes| Settings {
+        nodes,
+        beat: 64,
+        slots: 1,
+        credit: 16,
+    };
+    nodes
+        .iter()
+        .flat_map(|nodes| traffic::field(&Call::Setup(settings(nodes))).expect("a field"))
+        .collect()
+}
+
+fn started(program: &str, input: &[u8]) -> std::io::Result<Vec<u8>> {
     let mut child = Command::new(program)
         .stdin(Stdio::piped())
         .stdout(Stdio::piped())
@@ -22,6 +39,14 @@ fn run(program: &str, input: &[u8]) -> std::io::Result<Vec<u8>> {
     Ok(output.stdout)
 }
 
+/// What the program says of an input; without it there is nothing to compare.
+fn run(program: &str, input: &[u8]) -> Vec<u8> {
+    started(program, input).unwrap_or_else(|e| {
+        eprintln!("streams: {program} does not run: {e}");
+        exit(1);
+    })
+}
+
 fn main() {
     let words: Vec<String> = std::env::args().collect();
     if words.len() != 4 {
@@ -30,18 +55,19 @@ fn main() {
     }
     let count: u64 = words[2].parse().expect("a number of streams");
     let first: u64 = words[3].parse().expect("a seed");
+    // 65,536 bytes are enough for 1,222 nodes a port; 2,049 are in no row.
+    let said = run(&words[1], &setups(&[1222, 1223, 2048, 2049]));
+    if said != b"1 0\n2 1\n3 1\n4 2\n" {
+        let said = String::from_utf8_lossy(&said);
+        eprintln!("streams: setups of 1,222, 1,223, 2,048 and 2,049 nodes: {said}");
+        exit(1);
+    }
     let mut lines = 0;
     for i in 0..count {
         let seed = first + i;
         let fields = [0, 1, 3, 30, 300, 3000][(i % 6) as usize];
         let input = traffic::stream(seed, fields);
-        let said = match run(&words[1], &input) {
-            Ok(said) => said,
-            Err(e) => {
-                eprintln!("streams: {} does not run: {}", words[1], e);
-                exit(1);
-            }
-        };
+        let said = run(&words[1], &input);
         let expected = model::bench::bench(&input);
         if said != expected {
             let a = String::from_utf8_lossy(&said);
