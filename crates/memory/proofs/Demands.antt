@@ -118,33 +118,44 @@ off-state m n a = go (state-dec m)
     go (yes t) = absurd (n t)
     go (no k) = refl
 
--- ---- where, on memory: entry ids and positions reach 8,191 at most
+-- ---- where, on memory: entry ids and positions stay below 2,048 for each port
 
 module _ (m : List ℕ) (y : ℕ) (v : Place) (i : ℕ) where
-  reach : State m → (b : Bool) → isNode (settingsIn m) y ≡ b → step (settingsIn m) (ledgerIn (settingsIn m) m) (whereIs y) .0 ≡ found v i → (y < 8192) × (i < 8192)
-  reach t false d e = let a = rw d at e in absurd (let z : _≡_ {A = ℕ} 0 1 = cc in omega arith)
-  reach t true d e =
+  abbrev Below : ℕ → Type 0
+  Below n = (y < n) × (i < n)
+
+  below : State m → (b : Bool) → isNode (settingsIn m) y ≡ b → step (settingsIn m) (ledgerIn (settingsIn m) m) (whereIs y) .0 ≡ found v i
+      → Below (settingsIn m .ports * 2048)
+  below t false d e = let a = rw d at e in absurd (let z : _≡_ {A = ℕ} 0 1 = cc in omega arith)
+  below t true d e =
       let S = settingsIn m in
       let r = roomy S (t .sound .rows) in
       let w = where-right S r (ledgerIn S m) (t .sound .orderly) y d in
       let same : found v i ≡ found (w .0) (w .1) = sym e ∙ ap (λ (p : Reply × Ledger). p .0) (w .2) in
       let j : i ≡ w .1 = cc in
       let l : place# S (w .0) < lists S = place#-lt S (w .0) (w .3) in
-      let four = this-build S (t .sound .rows) .0 in
       let n = count-bound S m (state-tidy S m t) (place# S (w .0)) l in
       let k = list-length S m (place# S (w .0)) l in
-      (omega (arith, node-below S y d), omega (arith, w .4))
+      (node-below S y d, omega (arith, w .4))
 
-  pub where-reach : M (act (whereIs y)) m .0 ≡ found v i → (y < 8192) × (i < 8192)
-  where-reach f = go (state-dec m)
-    where
-      go : Dec (State m) → (y < 8192) × (i < 8192)
-      go (yes t) =
-          let S = settingsIn m in
-          reach t (isNode S y) refl (sym (act-answer S m (ledgerIn S m) (picture-state m t) (whereIs y)) ∙ f)
-      go (no n) =
-          let e : refused 3 ≡ found v i = sym (ap (λ (r : Reply × List ℕ). r .0) (off-state m n (whereIs y))) ∙ f in
-          absurd (let z : _≡_ {A = ℕ} 0 1 = cc in omega arith)
+  module _ (f : M (act (whereIs y)) m .0 ≡ found v i) where
+    found-state : State m
+    found-state = go (state-dec m)
+      where
+        go : Dec (State m) → State m
+        go (yes t) = t
+        go (no n) =
+            let e : refused 3 ≡ found v i = sym (ap (λ (r : Reply × List ℕ). r .0) (off-state m n (whereIs y))) ∙ f in
+            absurd (let z : _≡_ {A = ℕ} 0 1 = cc in omega arith)
+
+    pub where-below : Below (settingsIn m .ports * 2048)
+    where-below =
+        let S = settingsIn m in
+        below found-state (isNode S y) refl (sym (act-answer S m (ledgerIn S m) (picture-state m found-state) (whereIs y)) ∙ f)
+
+    -- with four ports they reach 8,191 at most
+    pub where-reach : Below 8192
+    where-reach = rw (this-build (settingsIn m) (found-state .sound .rows) .0) at where-below
 
 -- ---- the statements of the calls fix their outcome
 
