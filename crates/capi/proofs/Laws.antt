@@ -11,11 +11,10 @@ use Rattle.ledger.specs.Ledger.{owner, isNode}
 use Rattle.ledger.specs.Calls.{Reply, refused, whereIs}
 use Rattle.ledger.specs.Desk.{act}
 use Rattle.ledger.proofs.Tests.{ltb-yes, ltb-not}
-use Rattle.ledger.proofs.Rows.{Rows, this-build, size-is, beat-is}
+use Rattle.ledger.proofs.Rows.{Rows, rows-beat, rows-not, this-build, size-is, beat-is}
 use Rattle.layout.specs.Picture.{settingsIn, State}
 use Rattle.memory.specs.Memory.{state-dec, acted, tested, M}
 use Rattle.memory.proofs.Demands.{off-state}
-use Rattle.setup.proofs.Answers.{no-rows, rows-beat}
 use Rattle.capi.specs.Rooms.{numberIn, told, toldIn, shown, placeRoom, sizeFor}
 
 -- ---- the answer
@@ -63,10 +62,10 @@ asked-same m old y = go (ltb 65535 y) refl
 
 pub size-none : (n : ℕ) → (Rows (settings n 64 1 0) → ⊥) → 0 ≡ sizeFor n
 unfolding sizeFor
-size-none n h = rw (sym (no-rows (settings n 64 1 0) h))
+size-none n h = rw (rows-not (settings n 64 1 0) h)
 
 pub size-some : (n : ℕ) → 1 ≤ n → n ≤ 2048 → 1988 + 52 * n ≡ sizeFor n
 unfolding sizeFor
 size-some n h k =
-    let e : inRows (settings n 64 1 0) ≡ true = sym (rows-beat n 64 1 0 h k (omega arith) (omega arith) (omega arith)) ∙ beat-is 64 (inl refl) in
+    let e : inRows (settings n 64 1 0) ≡ true = rows-beat (settings n 64 1 0) refl refl h k (omega arith) (omega arith) (omega arith) ∙ beat-is 64 (inl refl) in
     rw e (sym (size-is (settings n 64 1 0) e))

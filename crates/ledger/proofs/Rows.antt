@@ -1,7 +1,7 @@
 -- Settings that are in their rows: which beats there are, what each row says, and the bytes that a state takes. Assumes nothing.
 use mathlib.Core.Path.{_≡_, refl}
 use mathlib.Core.Logic.{_⊎_, inl, inr}
-use mathlib.Core.Bool.{Bool, true, cond, _&&_, _||_}
+use mathlib.Core.Bool.{Bool, true, false, cond, _&&_, _||_}
 use Prim.Native.Nat.{ℕ, zero, suc, _+_, _-_, _*_, _≤_, _<_}
 use native.Mathlib.Nat.{not-suc-le-zero}
 use native.Mathlib.Decide.{ℕ-discrete}
@@ -10,7 +10,7 @@ use lib.Dec.{eqb, leb}
 use lib.Count.{ones}
 use Rattle.ledger.specs.Settings.{Settings, isBeat, inRows, row, size}
 use Rattle.ledger.specs.Sound.{Roomy}
-use Rattle.ledger.proofs.Tests.{leb-yes, eqb-yes, eqb-not, and-left, and-right}
+use Rattle.ledger.proofs.Tests.{is-false, leb-yes, leb-is, eqb-yes, eqb-is, eqb-not, and-left, and-right}
 
 leb-and : (m n : ℕ) (b : Bool) → (leb m n && b) ≡ true → (m ≤ n) × (b ≡ true)
 leb-and m n b e = (leb-yes m n (and-left (leb m n) b e), and-right (leb m n) b e)
@@ -85,6 +85,26 @@ pub record Rows (S : Settings) : Type 0 where
   pub few-slots : S .slots ≤ 8
   pub low-credit : S .credit ≤ 65535
 
+and-true : (a : Bool) → (a && true) ≡ a
+and-true true = refl
+and-true false = refl
+
+-- where the other settings are in their rows, the beat decides
+pub rows-beat : (S : Settings) → S .ports ≡ 4 → S .queues ≡ 24 → 1 ≤ S .nodes → S .nodes ≤ 2048 → 1 ≤ S .slots → S .slots ≤ 8 → S .credit ≤ 65535
+    → inRows S ≡ isBeat (S .beat)
+unfolding inRows
+rows-beat S p q n n′ d d′ k =
+    rw (
+      eqb-is (S .ports) 4 p,
+      eqb-is (S .queues) 24 q,
+      leb-is 1 (S .nodes) n,
+      leb-is (S .nodes) 2048 n′,
+      leb-is 1 (S .slots) d,
+      leb-is (S .slots) 8 d′,
+      leb-is (S .credit) 65535 k,
+    )
+    (and-true (isBeat (S .beat)))
+
 module _ (S : Settings) (h : inRows S ≡ true) where
   pub rows : Rows S
   unfolding inRows
@@ -121,6 +141,9 @@ module _ (S : Settings) (h : inRows S ≡ true) where
   -- at most 64 bytes for each node above 256, over all ports together
   pub size-bound : size S ≤ 65536 + 64 * (S .nodes - 256)
   size-bound = let r = rows in omega (arith, size-is)
+
+pub rows-not : (S : Settings) → (Rows S → ⊥) → inRows S ≡ false
+rows-not S n = is-false (inRows S) (λ h. n (rows S h))
 
 pub size-rises : (S S′ : Settings) → inRows S ≡ true → inRows S′ ≡ true → S .nodes ≤ S′ .nodes → size S ≤ size S′
 size-rises S S′ h h′ k = omega (arith, size-is S h, size-is S′ h′)

@@ -17,6 +17,11 @@ true-of false t = absurd t
 pub true≢false : true ≡ false → ⊥
 true≢false e = subst T e tt
 
+-- a test that cannot be true is false
+pub is-false : (b : Bool) → (b ≡ true → ⊥) → b ≡ false
+is-false true h = absurd (h refl)
+is-false false h = refl
+
 pub leb-yes : (m n : ℕ) → leb m n ≡ true → m ≤ n
 leb-yes m n e = leb→le m n (T-of e)
 
@@ -27,11 +32,7 @@ pub leb-is : (m n : ℕ) → m ≤ n → leb m n ≡ true
 leb-is m n h = true-of (leb m n) (le→leb m n h)
 
 pub leb-not : (m n : ℕ) → n < m → leb m n ≡ false
-leb-not m n h = go (leb m n) refl
-  where
-    go : (b : Bool) → leb m n ≡ b → b ≡ false
-    go true e = absurd (let z = leb-yes m n e in omega arith)
-    go false e = refl
+leb-not m n h = is-false (leb m n) (λ e. let z = leb-yes m n e in omega arith)
 
 pub ltb-yes : (m n : ℕ) → ltb m n ≡ true → m < n
 ltb-yes m n e = leb-yes (suc m) n e
@@ -55,11 +56,7 @@ pub eqb-no : (m n : ℕ) → eqb m n ≡ false → m ≢ n
 eqb-no m n e h = true≢false (sym (eqb-is m n h) ∙ e)
 
 pub eqb-not : (m n : ℕ) → m ≢ n → eqb m n ≡ false
-eqb-not m n h = go (eqb m n) refl
-  where
-    go : (b : Bool) → eqb m n ≡ b → b ≡ false
-    go true e = absurd (h (eqb-yes m n e))
-    go false e = refl
+eqb-not m n h = is-false (eqb m n) (λ e. h (eqb-yes m n e))
 
 pub and-left : (a b : Bool) → (a && b) ≡ true → a ≡ true
 and-left true b e = refl

@@ -8,8 +8,8 @@ use lib.ListN.{length}
 use lib.Dec.{leb}
 use Rattle.ledger.specs.Settings.{Settings, isBeat, inRows, size}
 use Rattle.ledger.specs.Sound.{Roomy}
-use Rattle.ledger.proofs.Tests.{leb-yes, leb-is, leb-not, eqb-is, and-left, and-right}
-use Rattle.ledger.proofs.Rows.{OneOfFour, beat-values, Rows, rows, roomy}
+use Rattle.ledger.proofs.Tests.{is-false, leb-yes, leb-is, leb-not, and-left, and-right}
+use Rattle.ledger.proofs.Rows.{OneOfFour, beat-values, roomy}
 use Rattle.layout.specs.declared.Shape.{Shape}
 use Rattle.layout.specs.Tables.{settingsOf, Laid}
 use Rattle.layout.specs.Picture.{settingsIn}
@@ -39,42 +39,8 @@ shape-is s l =
 pub laid-for : (S : Settings) → Roomy S → Laid (shapeFor S)
 laid-for S R = record { roomy = R; cells-are = refl; lists-are = refl; all-are = refl; arrival-at = refl; head-at = refl; next-at = refl }
 
--- ---- rows
-
-and-true : (a : Bool) → (a && true) ≡ a
-and-true true = refl
-and-true false = refl
-
-module _ (S : Settings) where
-  -- where the others are in their rows, the beat decides
-  pub rows-beat : S .ports ≡ 4 → S .queues ≡ 24 → 1 ≤ S .nodes → S .nodes ≤ 2048 → 1 ≤ S .slots → S .slots ≤ 8 → S .credit ≤ 65535
-      → inRows S ≡ isBeat (S .beat)
-  unfolding inRows
-  rows-beat p q n n′ d d′ k =
-      rw (
-        eqb-is (S .ports) 4 p,
-        eqb-is (S .queues) 24 q,
-        leb-is 1 (S .nodes) n,
-        leb-is (S .nodes) 2048 n′,
-        leb-is 1 (S .slots) d,
-        leb-is (S .slots) 8 d′,
-        leb-is (S .credit) 65535 k,
-      )
-      (and-true (isBeat (S .beat)))
-
-  pub rows-not : (Rows S → ⊥) → inRows S ≡ false
-  rows-not n = go (inRows S) refl
-    where
-      go : (b : Bool) → inRows S ≡ b → b ≡ false
-      go true e = absurd (n (rows S e))
-      go false e = refl
-
 pub beat-not : (b : ℕ) → (OneOfFour b → ⊥) → isBeat b ≡ false
-beat-not b n = go (isBeat b) refl
-  where
-    go : (t : Bool) → isBeat b ≡ t → t ≡ false
-    go true e = absurd (n (beat-values b e))
-    go false e = refl
+beat-not b n = is-false (isBeat b) (λ e. n (beat-values b e))
 
 -- ---- opening
 

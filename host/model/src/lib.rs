@@ -1,4 +1,5 @@
-//! An independent model of the queue manager, written from paper 01 alone.
+//! An independent model of the queue manager, written from papers 01 and 02
+//! (requests) alone.
 //!
 //! The model keeps plain lists and numbers; it has no memory image. The
 //! caller's memory is only a length here, so that setup can refuse a short one.

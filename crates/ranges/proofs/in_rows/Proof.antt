@@ -2,7 +2,7 @@
 use mathlib.Core.Path.{sym, _∙_}
 use native.Mathlib.Omega.{arith}
 use borrow.Author.Needs.{needs}
-use Rattle.ranges.proofs.Opening.{rows-beat, rows-not}
+use Rattle.ledger.proofs.Rows.{rows-beat, rows-not}
 use Rattle.ranges.proofs.in_rows.Statement.{statement}
 use Rattle.ranges.proofs.in_rows.Tie as tie
 

@@ -1,31 +1,31 @@
 -- `setup::in_rows` meets its contract. Assumes nothing.
-use mathlib.Core.Path.{_∙_}
+use mathlib.Core.Path.{refl, sym, _∙_}
 use native.Mathlib.Omega.{arith}
 use borrow.Author.Needs.{needs}
-use Rattle.setup.proofs.Answers.{no-rows, rows-beat}
+use Rattle.ledger.proofs.Rows.{rows-beat, rows-not}
 use Rattle.setup.proofs.in_rows.Statement.{statement}
 use Rattle.setup.proofs.in_rows.Tie as tie
 
 returns : tie.Need-returns
-returns c = no-rows _ (λ r. omega arith)
+returns c = sym (rows-not _ (λ r. omega arith))
 
 returns-2 : tie.Need-returns-2
-returns-2 c = no-rows _ (λ r. omega arith)
+returns-2 c = sym (rows-not _ (λ r. omega arith))
 
 returns-3 : tie.Need-returns-3
-returns-3 c = no-rows _ (λ r. omega arith)
+returns-3 c = sym (rows-not _ (λ r. omega arith))
 
 returns-4 : tie.Need-returns-4
-returns-4 c = no-rows _ (λ r. omega arith)
+returns-4 c = sym (rows-not _ (λ r. omega arith))
 
 returns-5 : tie.Need-returns-5
-returns-5 c = no-rows _ (λ r. omega arith)
+returns-5 c = sym (rows-not _ (λ r. omega arith))
 
 is-beat-requires : tie.Need-is-beat-requires
 is-beat-requires c κs = search needs
 
 returns-6 : tie.Need-returns-6
-returns-6 c = c .is-beat .ensures ∙ rows-beat _ _ _ _ (omega arith) (omega arith) (omega arith) (omega arith) (omega arith)
+returns-6 c = c .is-beat .ensures ∙ sym (rows-beat _ refl refl (omega arith) (omega arith) (omega arith) (omega arith) (omega arith))
 
 pub in-rows-spec : {M : Type 1} → statement M
 in-rows-spec =
