@@ -12,9 +12,9 @@ pub data Verdict : Type 0 where
   bad : ℕ → Verdict
   good : Fields → Verdict
 
--- the first of the header's own refusals that applies at port p, by its number, or else the fields
-abbrev pub verdict : ℕ → List ℕ → Verdict
-verdict p h = guard (headerRules p h) bad (good (fieldsOf h))
+-- the first of the header's own refusals that applies at port p of a switch of n queues, by its number, or else the fields
+abbrev pub verdict : ℕ → ℕ → List ℕ → Verdict
+verdict n p h = guard (headerRules n p h) bad (good (fieldsOf h))
 
 abbrev pub verdictOf : Judged → Verdict
 verdictOf (Good f) = good (headerOf f)

@@ -1,9 +1,9 @@
-// The ten-byte header: its fields read from bytes, its own refusals, the queue it means and its price.
+// The ten-byte header: its fields read from bytes, its own refusals and its price.
 use ledger::Refusal;
 ghost use mathlib.Core.Path.{_≡_};
 ghost use Prim.Native.Nat.{_^_, _<_, _≤_};
 ghost use lib.ListN.{length};
-ghost use Rattle.ledger.specs.Header.{fieldsOf, headerSize, queueOf, price};
+ghost use Rattle.ledger.specs.Header.{fieldsOf, headerSize, price};
 ghost use Rattle.header.specs.Parse.{headerOf, readOf, parsed};
 ghost use Rattle.header.specs.Judge.{verdictOf, verdict};
 
@@ -68,31 +68,33 @@ pub fn parse(h: &[u8]) -> Parsed
     }
 }
 
-// The header's own refusals at the port where it arrives, in the order of paper 01's table.
-pub fn judge(h: &[u8], port: u32) -> Judged
-    ensures { λ r. ⌜ verdictOf r ≡ verdict port (now (h .entry)) ⌝ }
+// The header's own refusals at the port where it arrives, in a switch of so many queues, in the order in which they are tested.
+pub fn judge(h: &[u8], queues: u32, port: u32) -> Judged
+    ensures { λ r. ⌜ verdictOf r ≡ verdict queues port (now (h .entry)) ⌝ }
 {
     let Parsed::Header(f) = parse(h) else {
         return Judged::No(Refusal::HeaderSize);
     };
+    let reserved = f.reserved;
+    let source = f.source as u32;
+    let queue = f.queue as u32;
     let sum = crc::checksum(&h[..9]);
     if f.check != sum {
         return Judged::No(Refusal::Checksum);
     }
-    if f.source as u32 != port {
+    if reserved != 0 {
+        return Judged::No(Refusal::ReservedBit);
+    }
+    if source != port {
         return Judged::No(Refusal::Source);
     }
     if f.len < 12 {
         return Judged::No(Refusal::TooShort);
     }
+    if queues <= queue {
+        return Judged::No(Refusal::HeaderQueue);
+    }
     Judged::Good(f)
-}
-
-// Of the switch's queues, the one that a header's queue number means.
-pub fn queue_of(queues: u32, q: u32) -> u32
-    ensures { λ r. ⌜ r ≡ queueOf queues q ⌝ }
-{
-    if q < queues { q } else { 0 }
 }
 
 // What a packet costs, in beats. The bounds keep the sum within the type.

@@ -1,12 +1,13 @@
 -- Each answer of the code is one reply, and no two answers are the same reply: an equation between replies determines the answer.
 -- Assumes nothing.
 use mathlib.Core.Path.{_≡_, refl, sym, ap, _∙_}
-use mathlib.Core.List.{List}
-use Prim.Native.Nat.{ℕ, zero, suc}
+use mathlib.Core.List.{List, [], _∷_}
+use Prim.Native.Nat.{ℕ}
 use native.Mathlib.Omega.{arith}
+use lib.ListN.{getD}
 use Rattle.ledger.specs.Answers.{numberOf, kindOf, exitOf, sentOf, plainReply, stitchReply, entryReply, turnReply, readyReply, whereReply}
 use Rattle.ledger.specs.declared.Refusal.{Refusal}
-use Rattle.ledger.specs.declared.Refusal.the-variants.{ShortMemory, BadSetting, NoState, NoPort, NoQueue, HeaderSize, Checksum, Source, TooShort, NoCredit, NoFreeNode, NothingThere, SlotsInUse, TooMuchCredit, NoSuchId}
+use Rattle.ledger.specs.declared.Refusal.the-variants.{ShortMemory, BadSetting, NoState, NoPort, NoQueue, HeaderSize, Checksum, Source, TooShort, NoCredit, NoFreeNode, NothingThere, SlotsInUse, TooMuchCredit, NoSuchId, HeaderQueue, ReservedBit}
 use Rattle.ledger.specs.declared.ListKind.{ListKind}
 use Rattle.ledger.specs.declared.ListKind.the-variants.{Free, Ingress, Egress, Prefetch}
 use Rattle.ledger.specs.declared.Exit.{Exit}
@@ -25,27 +26,18 @@ use Rattle.ledger.specs.declared.Whereabouts.the-variants as places
 use Rattle.ledger.specs.Calls.{Reply, refused, done, entry, stitched, idle, leaves, word, found, Side, inside, outside}
 use Rattle.ledger.specs.Ledger.{Packet, Place, free, ingress, egress, prefetched}
 
--- the refusal of a number
+-- the refusals by their numbers; where there is none, any
+refusals : List Refusal
+refusals =
+    ShortMemory ∷ ShortMemory ∷ BadSetting ∷ NoState ∷ NoPort ∷ NoQueue ∷ HeaderSize ∷ Checksum ∷ Source ∷ TooShort
+    ∷ NoCredit ∷ NoFreeNode ∷ NothingThere ∷ SlotsInUse ∷ TooMuchCredit ∷ NoSuchId ∷ ShortMemory ∷ ShortMemory ∷ ShortMemory ∷ HeaderQueue
+    ∷ ReservedBit ∷ []
+
 refusalOf : ℕ → Refusal
-refusalOf zero = ShortMemory
-refusalOf (suc zero) = ShortMemory
-refusalOf (suc (suc zero)) = BadSetting
-refusalOf (suc (suc (suc zero))) = NoState
-refusalOf (suc (suc (suc (suc zero)))) = NoPort
-refusalOf (suc (suc (suc (suc (suc zero))))) = NoQueue
-refusalOf (suc (suc (suc (suc (suc (suc zero)))))) = HeaderSize
-refusalOf (suc (suc (suc (suc (suc (suc (suc zero))))))) = Checksum
-refusalOf (suc (suc (suc (suc (suc (suc (suc (suc zero)))))))) = Source
-refusalOf (suc (suc (suc (suc (suc (suc (suc (suc (suc zero))))))))) = TooShort
-refusalOf (suc (suc (suc (suc (suc (suc (suc (suc (suc (suc zero)))))))))) = NoCredit
-refusalOf (suc (suc (suc (suc (suc (suc (suc (suc (suc (suc (suc zero))))))))))) = NoFreeNode
-refusalOf (suc (suc (suc (suc (suc (suc (suc (suc (suc (suc (suc (suc zero)))))))))))) = NothingThere
-refusalOf (suc (suc (suc (suc (suc (suc (suc (suc (suc (suc (suc (suc (suc zero))))))))))))) = SlotsInUse
-refusalOf (suc (suc (suc (suc (suc (suc (suc (suc (suc (suc (suc (suc (suc (suc zero)))))))))))))) = TooMuchCredit
-refusalOf (suc (suc (suc (suc (suc (suc (suc (suc (suc (suc (suc (suc (suc (suc (suc n))))))))))))))) = NoSuchId
+refusalOf n = getD refusals n ShortMemory
 
 refusal-back : (r : Refusal) → refusalOf (numberOf r) ≡ r
-unfolding refusalOf
+unfolding refusals refusalOf
 refusal-back ShortMemory = refl
 refusal-back BadSetting = refl
 refusal-back NoState = refl
@@ -61,6 +53,8 @@ refusal-back NothingThere = refl
 refusal-back SlotsInUse = refl
 refusal-back TooMuchCredit = refl
 refusal-back NoSuchId = refl
+refusal-back HeaderQueue = refl
+refusal-back ReservedBit = refl
 
 pub number-inj : (r s : Refusal) → numberOf r ≡ numberOf s → r ≡ s
 number-inj r s e = sym (refusal-back r) ∙ ap refusalOf e ∙ refusal-back s

@@ -4,7 +4,7 @@ use Rattle.numbers.specs.Bytes.{number}
 use Rattle.numbers.specs.Fields.{bits}
 use Rattle.crc.specs.Crc.{crcBit, crcBits, crcByte, crcFrom, crc8}
 use Rattle.ledger.specs.Settings.{isBeat, inRows, row, size}
-use Rattle.ledger.specs.Header.{fieldsOf, queueOf, price}
+use Rattle.ledger.specs.Header.{fieldsOf, price}
 use Rattle.ledger.specs.Ledger.{isNode, recorded, place#, placeOf, cell, creditAt, setCredit, pop, push, move, putArrival, putOutward, putLast, putMap, start}
 use Rattle.ledger.specs.Ready.{isReady, wordOf, readyWord, maskedAbove, pick}
 use Rattle.ledger.specs.Calls.{arrived, stitchRecord, served}
@@ -12,5 +12,5 @@ use Rattle.ledger.specs.Sound.{All}
 use Rattle.ledger.specs.Cards.{Holds, cards}
 
 pub cards-hold : All Holds cards
-unfolding number bits crcBit crcBits crcByte crcFrom crc8 isBeat inRows row size fieldsOf queueOf price isNode recorded place# placeOf cell creditAt setCredit pop push move putArrival putOutward putLast putMap start isReady wordOf readyWord maskedAbove pick arrived stitchRecord served lib.Count.ones lib.Count.trailingZeros
-cards-hold = (refl, (refl, (refl, (refl, (refl, (refl, (refl, (refl, (refl, (refl, (refl, (refl, (refl, (refl, (refl, (refl, (refl, tt)))))))))))))))))
+unfolding number bits crcBit crcBits crcByte crcFrom crc8 isBeat inRows row size fieldsOf price isNode recorded place# placeOf cell creditAt setCredit pop push move putArrival putOutward putLast putMap start isReady wordOf readyWord maskedAbove pick arrived stitchRecord served lib.Count.ones lib.Count.trailingZeros
+cards-hold = (refl, (refl, (refl, (refl, (refl, (refl, (refl, (refl, (refl, (refl, (refl, (refl, (refl, (refl, (refl, (refl, (refl, (refl, (refl, (refl, tt))))))))))))))))))))

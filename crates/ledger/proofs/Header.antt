@@ -1,16 +1,13 @@
--- The laws of a header's fields, of the queue it means and of its price. Assumes nothing.
+-- The laws of a header's fields and of its price. Assumes nothing.
 use mathlib.Core.Path.{_≡_, refl}
-use mathlib.Core.Bool.{Bool, true, false}
 use mathlib.Core.List.{List}
 use Prim.Native.Nat.{ℕ, zero, suc, _+_, _*_, _-_, _/_, _^_, _≤_, _<_}
 use native.Mathlib.Nat.{div-add-mod', div-lt-iff-lt-mul, le-of-suc-le-suc, mod-lt}
 use native.Mathlib.Omega.{arith}
-use lib.Dec.{ltb}
 use Rattle.numbers.specs.Bytes.{number}
 use Rattle.numbers.proofs.Bytes.{number-lt}
 use Rattle.numbers.proofs.Fields.{bits-lt}
-use Rattle.ledger.specs.Header.{fieldsOf, queueOf, price}
-use Rattle.ledger.proofs.Tests.{ltb-is, ltb-not, ltb-yes}
+use Rattle.ledger.specs.Header.{fieldsOf, price}
 
 -- every field is as small as its width says, whatever the bytes are
 pub record FieldsIn (h : List ℕ) : Type 0 where
@@ -39,22 +36,6 @@ fields-in h = record {
   transaction = number-lt 1 h 8;
   check = number-lt 1 h 9;
 }
-
-pub queue-of-same : (n q : ℕ) → q < n → queueOf n q ≡ q
-unfolding queueOf
-queue-of-same n q h = rw (ltb-is q n h)
-
-pub queue-of-none : (n q : ℕ) → n ≤ q → queueOf n q ≡ 0
-unfolding queueOf
-queue-of-none n q h = rw (ltb-not q n h)
-
-pub queue-of-lt : (n q : ℕ) → 0 < n → queueOf n q < n
-unfolding queueOf
-queue-of-lt n q some = go (ltb q n) refl
-  where
-    go : (t : Bool) → ltb q n ≡ t → queueOf n q < n
-    go true e = rw e (ltb-yes q n e)
-    go false e = rw e some
 
 pub price-free : (beat len : ℕ) → price beat 0 len ≡ 0
 unfolding price

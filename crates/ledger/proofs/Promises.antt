@@ -11,10 +11,10 @@ use lib.Seq.{drop-append-le, drop-drop}
 use lib.Dec.{eqb, ltb}
 use Rattle.ledger.specs.Settings.{Settings, settings, inRows}
 use Rattle.ledger.specs.Rules.{Rule, refuse, guard, Clear}
-use Rattle.ledger.specs.Header.{headerRules}
+use Rattle.ledger.specs.Header.{fieldsOf, headerRules}
 use Rattle.ledger.specs.Ledger.{owner, isNode, Packet, bare, recorded, Place, free, ingress, egress, prefetched, place#, placeOf, Ledger, listAt, arrivalOf, outwardOf, lastOf, mapOf, move, putArrival, putOutward, putLast, putMap, start}
 use Rattle.ledger.specs.Ready.{readyWord, pick}
-use Rattle.ledger.specs.Calls.{Act, arrive, stitch, prefetch, credit, mapTo, turn, ready, whereIs, Side, Reply, refused, done, entry, stitched, idle, leaves, word, found, sideOf, noPort, isEmpty, firstOf, arriving, arrived, served, serve, turned, rules, result, step, run}
+use Rattle.ledger.specs.Calls.{Act, arrive, stitch, prefetch, credit, mapTo, turn, ready, whereIs, Side, Reply, refused, done, entry, stitched, idle, leaves, word, found, sideOf, noPort, isEmpty, firstOf, arriving, lastRules, arrived, served, serve, turned, rules, result, step, run}
 use Rattle.ledger.specs.Desk.{Desk, none, has, Call, setup, act, setupRules, onDesk, desk, after}
 use Rattle.ledger.specs.Sound.{All, OwnPort, Proper, Orderly, Roomy, Sound}
 use Rattle.ledger.specs.Demand.{isRefused}
@@ -25,7 +25,8 @@ use Rattle.ledger.proofs.Keep.{some-queue, len, first-fits, first-node,
 use Rattle.ledger.proofs.Rows.{roomy}
 use Rattle.ledger.proofs.Find.{where-right, one-place}
 use Rattle.ledger.proofs.Start.{start-sound}
-use Rattle.ledger.proofs.Steps.{guarded, picked-some, keep-step, keep-run}
+use Rattle.ledger.proofs.Admits.{guard-after, Passes, passes, passes-clear, admits}
+use Rattle.ledger.proofs.Steps.{guarded, recorded-proper, picked-some, keep-step, keep-run}
 
 -- ---- a refusal leaves the desk as it was
 
@@ -73,9 +74,16 @@ idle-keeps S L p hp = rw (leb-not (S .ports) p hp) (go (eqb (readyWord S L p) 0)
 
 -- ---- a sound arrival is turned away only for want of credit or of a node
 
--- no refusal tested before 10 applies (3 is the desk's: there is a ledger)
+-- no refusal tested before 10 applies: 4, 6, 7, 20, 8, 9 and 19 (3 is the desk's: there is a ledger)
 abbrev pub SoundArrival : Settings → ℕ → List ℕ → Type 0
-SoundArrival S p h = Clear (noPort S p ∷ headerRules p h)
+SoundArrival S p h = Clear (noPort S p ∷ headerRules (S .queues) p h)
+
+-- that is, the port is in the switch and the header has no fault of its own
+pub sound-means : (S : Settings) (p : ℕ) (h : List ℕ) → SoundArrival S p h → (p < S .ports) × Passes (S .queues) p h
+sound-means S p h c = (leb-no (S .ports) p (c .0), passes (S .queues) p h (c .1))
+
+pub means-sound : (S : Settings) (p : ℕ) (h : List ℕ) → p < S .ports → Passes (S .queues) p h → SoundArrival S p h
+means-sound S p h hp f = (leb-not (S .ports) p hp, passes-clear (S .queues) p h f)
 
 -- why it may be turned away all the same
 pub data Wanting (S : Settings) (L : Ledger) (p : ℕ) (h : List ℕ) : Reply × Ledger → Type 0 where
@@ -89,7 +97,7 @@ empty-is (k ∷ ks) e = absurd (true≢false (sym e))
 
 pub sound-arrival : (S : Settings) (L : Ledger) (p : ℕ) (h : List ℕ) → SoundArrival S p h → Wanting S L p h (step S L (arrive p h))
 sound-arrival S L p h c =
-    rw (c .0, c .1 .0, c .1 .1 .0, c .1 .1 .1 .0, c .1 .1 .1 .1 .0)
+    rw (guard-after (noPort S p ∷ headerRules (S .queues) p h) (lastRules S L p (arriving S L p h)) (λ n. (refused n, L)) (result S L (arrive p h)) c)
     (go (ltb (arrivalOf S L p (arriving S L p h .queue)) (arriving S L p h .price)) refl (isEmpty (listAt S L (free p))) refl)
   where
     go : (a : Bool) → ltb (arrivalOf S L p (arriving S L p h .queue)) (arriving S L p h .price) ≡ a → (b : Bool) → isEmpty (listAt S L (free p)) ≡ b
@@ -103,6 +111,12 @@ sound-arrival S L p h c =
 pub none-for-nothing : (S : Settings) → Roomy S → (k : Packet) → Proper S k → 0 < k .queue → 0 < k .price
 none-for-nothing S ok k h above =
     rw (h .price-is) (price-pays (S .beat) (k .queue) (k .len) (omega (arith, ok .low-beat)) above (omega (arith, h .len-low)))
+
+-- and the queue is the one that the header names: a header that is taken in pays unless it names queue 0
+pub no-free-ride : (S : Settings) → Roomy S → (L : Ledger) (p : ℕ) (h : List ℕ) → Clear (rules S L (arrive p h)) → 0 < fieldsOf h .queue → 0 < arriving S L p h .price
+unfolding recorded
+no-free-ride S ok L p h c above =
+    none-for-nothing S ok (arriving S L p h) (recorded-proper S ok (firstOf S L (free p) .node) p h (admits S L p h c .header)) above
 
 -- ---- queues keep their order
 
@@ -134,9 +148,10 @@ module _ (S : Settings) (ok : Roomy S) (L : Ledger) (s : Orderly S L) where
 
   result-in-order : (a : Act) → Clear (rules S L a) → InOrder (result S L a .1)
   result-in-order (arrive p h) c =
-      let v-in : Place·In S (free p) = (leb-no (S .ports) p (c .0), some-queue S ok L s) in
+      let a = admits S L p h c in
+      let v-in : Place·In S (free p) = (a .port, some-queue S ok L s) in
       unfold arrived putArrival in
-      moved-in-order (free p) (ingress p) v-in v-in (c .1 .1 .1 .1 .1 .1 .0)
+      moved-in-order (free p) (ingress p) v-in v-in (a .some)
       (λ i. let z : _≡_ {A = ℕ} 0 1 = cc in omega arith) (arriving S L p h) (unfold recorded in refl)
   result-in-order (stitch p) c =
       let v-in : Place·In S (ingress p) = (leb-no (S .ports) p (c .0), some-queue S ok L s) in

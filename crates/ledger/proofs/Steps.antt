@@ -9,7 +9,7 @@ use lib.ListN.{length}
 use lib.Dec.{eqb, ltb, leb}
 use Rattle.ledger.specs.Settings.{Settings, ids}
 use Rattle.ledger.specs.Rules.{Rule, refuse, guard, Clear}
-use Rattle.ledger.specs.Header.{fieldsOf, leastLength}
+use Rattle.ledger.specs.Header.{fieldsOf}
 use Rattle.ledger.specs.Ledger.{owner, Packet, bare, recorded, Place, free, ingress, egress, prefetched, Ledger, listAt, arrivalOf, outwardOf, lastOf, mapOf, move, putArrival, putOutward, putLast}
 use Rattle.ledger.specs.Ready.{covered, isReady, wordOf, readyWord, pick}
 use Rattle.ledger.specs.Calls.{Act, arrive, stitch, prefetch, credit, mapTo, turn, ready, whereIs, Reply, refused, idle, isEmpty, firstOf, arriving, arrived, served, serve, turned, rules, result, step, run}
@@ -17,7 +17,8 @@ use Rattle.ledger.specs.Sound.{Proper, OwnPort, OwnQueue, WellRecorded, 
 use Rattle.ledger.proofs.Tests.{leb-yes, leb-no, ltb-no, or-left}
 use Rattle.ledger.proofs.Places.{Place·In}
 use Rattle.ledger.proofs.Keep.{Fits, some-queue, first-fits, first-node, keep-moved, keep-traded, keep-outward, keep-last, keep-mapped, lowered, raised}
-use Rattle.ledger.proofs.Header.{fields-in, queue-of-lt}
+use Rattle.ledger.proofs.Header.{fields-in}
+use Rattle.ledger.proofs.Admits.{Passes, Admits, admits}
 use Rattle.ledger.proofs.Ready.{picked-ready}
 
 -- what holds of each refusal, and of the outcome where none applies, holds of what the rules decide
@@ -38,15 +39,15 @@ covered-some q c [] e = sym e
 covered-some q c (k ∷ ks) e = refl
 
 module _ (S : Settings) (roomy : Roomy S) where
-  -- what is recorded of a header is proper, if its length is
-  pub recorded-proper : (x : ℕ) (h : List ℕ) → leastLength ≤ fieldsOf h .len → Proper S (recorded S x (fieldsOf h))
+  -- what is recorded of a header with no fault is proper
+  pub recorded-proper : (x p : ℕ) (h : List ℕ) → Passes (S .queues) p h → Proper S (recorded S x (fieldsOf h))
   unfolding recorded
-  recorded-proper x h low =
+  recorded-proper x p h good =
       let f = fields-in h in
       record {
-        len-low = low;
+        len-low = good .long;
         len-high = f .len;
-        queue-in = queue-of-lt (S .queues) (fieldsOf h .queue) (omega (arith, roomy .some-queues));
+        queue-in = good .queue;
         dest-in = f .dest;
         stamp-in = f .stamp;
         poisoned-in = f .poisoned;
@@ -68,28 +69,26 @@ module _ (S : Settings) (roomy : Roomy S) where
         (r .0, ready-some L p (pick (lastOf L p) (wordOf (isReady S L p) (S .queues))) (r .1))
 
     -- arrive
-    keep-arrived : (p : ℕ) (h : List ℕ) → p < S .ports → leastLength ≤ fieldsOf h .len
-        → arriving S L p h .price ≤ arrivalOf S L p (arriving S L p h .queue) → isEmpty (listAt S L (free p)) ≡ false
-        → Orderly S (arrived S L p (arriving S L p h))
+    keep-arrived : (p : ℕ) (h : List ℕ) → Admits S L p h → Orderly S (arrived S L p (arriving S L p h))
     unfolding arrived
-    keep-arrived p h hp low afford e =
+    keep-arrived p h a =
         let k : Packet = arriving S L p h in
-        let v-in : Place·In S (free p) = (hp, some-queue S roomy L s) in
-        let good : Proper S k = recorded-proper (firstOf S L (free p) .node) h low in
+        let v-in : Place·In S (free p) = (a .port, some-queue S roomy L s) in
+        let good : Proper S k = recorded-proper (firstOf S L (free p) .node) p h (a .header) in
         let same : k .node ≡ firstOf S L (free p) .node = unfold recorded in refl in
-        let own : owner (k .node) ≡ p = ap owner same ∙ first-fits S roomy L s (free p) v-in e .0 in
-        keep-traded S roomy L s (free p) v-in e (ingress p) v-in k same
+        let own : owner (k .node) ≡ p = ap owner same ∙ first-fits S roomy L s (free p) v-in (a .some) .0 in
+        keep-traded S roomy L s (free p) v-in (a .some) (ingress p) v-in k same
         (λ i. let z : _≡_ {A = ℕ} 0 1 = cc in omega arith)
         (λ a b i. absurd (let z : _≡_ {A = ℕ} 0 1 = cc in omega arith))
         (own, tt, good)
         p (k .queue) (arrivalOf S L p (k .queue) - k .price)
-        (λ r t ht. omega (arith, low-by r t ht own good afford))
+        (λ r t ht. omega (arith, low-by r t ht own good (a .afford) (a .port)))
       where
         low-by : (r t : ℕ) → t < S .queues → owner (arriving S L p h .node) ≡ p → Proper S (arriving S L p h)
-            → arriving S L p h .price ≤ arrivalOf S L p (arriving S L p h .queue)
+            → arriving S L p h .price ≤ arrivalOf S L p (arriving S L p h .queue) → p < S .ports
             → arrivalOf S (putArrival S p (arriving S L p h .queue) (arrivalOf S L p (arriving S L p h .queue) - arriving S L p h .price) L) r t
             + owes r t (arriving S L p h) ≡ arrivalOf S L r t
-        low-by r t ht own good afford =
+        low-by r t ht own good afford hp =
             let k : Packet = arriving S L p h in
             subst (λ (a : ℕ). arrivalOf S (putArrival S a (k .queue) (arrivalOf S L a (k .queue) - k .price) L) r t + owes r t k ≡ arrivalOf S L r t) own
             (lowered S roomy L s k good (omega arith) (rw own afford) r t ht)
@@ -147,9 +146,7 @@ module _ (S : Settings) (roomy : Roomy S) where
         go false f = keep-served p (pick (lastOf L p) w) hp (f refl .0) (f refl .1)
 
     keep-result : (a : Act) → Clear (rules S L a) → Orderly S (result S L a .1)
-    keep-result (arrive p h) c =
-        keep-arrived p h (leb-no (S .ports) p (c .0)) (ltb-no (fieldsOf h .len) leastLength (c .1 .1 .1 .1 .0))
-        (ltb-no (arrivalOf S L p (arriving S L p h .queue)) (arriving S L p h .price) (c .1 .1 .1 .1 .1 .0)) (c .1 .1 .1 .1 .1 .1 .0)
+    keep-result (arrive p h) c = keep-arrived p h (admits S L p h c)
     keep-result (stitch p) c = keep-stitched p (leb-no (S .ports) p (c .0)) (c .1 .0)
     keep-result (prefetch p q) c =
         keep-prefetched p q (leb-no (S .ports) p (c .0)) (leb-no (S .queues) q (c .1 .0)) (c .1 .1 .0)

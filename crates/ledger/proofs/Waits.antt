@@ -23,6 +23,7 @@ use Rattle.ledger.proofs.Places.{Place·In, place#-inj, bit-le, cell-lt
 use Rattle.ledger.proofs.Keep.{some-queue, first-fits, first-node, from-moved, to-moved, else-moved}
 use Rattle.ledger.proofs.Ready.{gap, gap-pos, gap-le, picked-lt, word-some, picked-nearer}
 use Rattle.ledger.proofs.Rows.{roomy, this-build}
+use Rattle.ledger.proofs.Admits.{Admits, admits}
 use Rattle.ledger.proofs.Steps.{guarded, picked-some, keep-step}
 
 -- adding to one credit lowers none
@@ -71,12 +72,11 @@ module _ (S : Settings) (ok : Roomy S) (p q : ℕ) (hp : p < S .ports) (hq : q <
       let g = grown-moved L s v w hv hw e n d (firstOf S L v) refl in
       record { more = g .0; grown = g .1; funded = unfold move in omega arith }
 
-  spared-arrived : (L : Ledger) → Orderly S L → (r : ℕ) (h : List ℕ) → r < S .ports → isEmpty (listAt S L (free r)) ≡ false
-      → Spared L (arrived S L r (arriving S L r h))
+  spared-arrived : (L : Ledger) → Orderly S L → (r : ℕ) (h : List ℕ) → Admits S L r h → Spared L (arrived S L r (arriving S L r h))
   unfolding arrived putArrival
-  spared-arrived L s r h hr e =
-      let v-in : Place·In S (free r) = (hr, some-queue S ok L s) in
-      let g = grown-moved L s (free r) (ingress r) v-in v-in e
+  spared-arrived L s r h a =
+      let v-in : Place·In S (free r) = (a .port, some-queue S ok L s) in
+      let g = grown-moved L s (free r) (ingress r) v-in v-in (a .some)
       (λ i. let z : _≡_ {A = ℕ} 0 1 = cc in omega arith) (λ i. let z : _≡_ {A = ℕ} 0 1 = cc in omega arith)
       (arriving S L r h) (unfold recorded in refl) in
       record { more = g .0; grown = g .1; funded = unfold move in omega arith }
@@ -252,7 +252,7 @@ module _ (S : Settings) (ok : Roomy S) (p q : ℕ) (hp : p < S .ports) (hq : q <
 
     aside-result : (a : Act) → isTurn p a ≡ false → Clear (rules S L a) → Aside L (result S L a .1)
     aside-result (arrive r h) i c = record {
-      spared = spared-arrived L s r h (leb-no (S .ports) r (c .0)) (c .1 .1 .1 .1 .1 .1 .0);
+      spared = spared-arrived L s r h (admits S L r h c);
       mark = unfold arrived putArrival move in refl;
     }
     aside-result (stitch r) i c =

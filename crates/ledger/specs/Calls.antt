@@ -53,6 +53,10 @@ firstOf S L v = oldest (listAt S L v)
 abbrev pub arriving : Settings → Ledger → ℕ → List ℕ → Packet
 arriving S L p h = recorded S (firstOf S L (free p) .node) (fieldsOf h)
 
+-- the refusals that are left where port and header are right, packet k being what arrives: for want of credit, and of a node
+abbrev pub lastRules : Settings → Ledger → ℕ → Packet → List Rule
+lastRules S L p k = refuse 10 (ltb (arrivalOf S L p (k .queue)) (k .price)) ∷ refuse 11 (isEmpty (listAt S L (free p))) ∷ []
+
 unfoldable pub arrived : Settings → Ledger → ℕ → Packet → Ledger
 arrived S L p k = putArrival S p (k .queue) (arrivalOf S L p (k .queue) - k .price) (move S (free p) (ingress p) k L)
 
@@ -100,12 +104,7 @@ which y (l ∷ ls) = cond (ltb (position y l) (length l)) 0 (suc (which y ls))
 -- ---- the refusals of each act, in order
 
 abbrev pub rules : Settings → Ledger → Act → List Rule
-rules S L (arrive p h) =
-    noPort S p
-    ∷ (headerRules p h
-    ++ (refuse 10 (ltb (arrivalOf S L p (arriving S L p h .queue)) (arriving S L p h .price))
-    ∷ refuse 11 (isEmpty (listAt S L (free p)))
-    ∷ []))
+rules S L (arrive p h) = noPort S p ∷ (headerRules (S .queues) p h ++ lastRules S L p (arriving S L p h))
 rules S L (stitch p) = noPort S p ∷ refuse 12 (isEmpty (listAt S L (ingress p))) ∷ []
 rules S L (prefetch p q) =
     noPort S p

@@ -1,4 +1,5 @@
--- Paper 01, "Bench cards": the starred cards, and the cases of paper 02, Q-3 and Q-5: a single table. The claim that they hold is that of proofs/Cards.antt. Assumes nothing.
+-- Paper 01, "Bench cards": the starred cards, and the cases of paper 02, Q-3, Q-5 and Q-6: a single table. The claim that they
+-- hold is that of proofs/Cards.antt. Assumes nothing.
 use mathlib.Core.Path.{_≡_}
 use mathlib.Core.List.{List, [], _∷_, _++_, map}
 use Prim.Native.Nat.{ℕ, zero, suc, _+_, _-_, _*_, _/_, _%_}
@@ -8,13 +9,17 @@ use Rattle.ledger.specs.Ledger.{Packet, free}
 use Rattle.ledger.specs.Calls.{arrive, stitch, prefetch, credit, turn, ready, whereIs, inside, outside, Reply, refused, done, entry, stitched, idle, leaves, word, found}
 use Rattle.ledger.specs.Desk.{none, Call, setup, act, replies}
 
--- a header of these fields, timestamp and transaction 0, with its checksum
+-- the nine bytes before the checksum, timestamp and transaction 0; flags: 2 poisoned, 1 the reserved bit
+abbrev pub nine : ℕ → ℕ → ℕ → ℕ → ℕ → List ℕ
+nine dest source queue len flags =
+    (dest * 64 + source * 16 + queue / 2) ∷ (queue % 2 * 128 + len / 64) ∷ (len % 64 * 4 + flags) ∷ 0 ∷ 0 ∷ 0 ∷ 0 ∷ 0 ∷ 0 ∷ []
+
 abbrev pub sealed : List ℕ → List ℕ
 sealed bs = bs ++ (crc8 bs ∷ [])
 
+-- a header of these fields, with no flags and its checksum
 abbrev pub header : ℕ → ℕ → ℕ → ℕ → List ℕ
-header dest source queue len =
-    sealed ((dest * 64 + source * 16 + queue / 2) ∷ (queue % 2 * 128 + len / 64) ∷ (len % 64 * 4) ∷ 0 ∷ 0 ∷ 0 ∷ 0 ∷ 0 ∷ 0 ∷ [])
+header dest source queue len = sealed (nine dest source queue len 0)
 
 abbrev pub zeros : ℕ → List ℕ
 zeros zero = []
@@ -95,6 +100,22 @@ costs len n =
     (done ∷ refused 10 ∷ done ∷ entry 0 ∷ plain-record 1 len ∷ entry 0
     ∷ done ∷ idle ∷ done ∷ leaves (plain 1 len n) outside ∷ [])
 
+-- Every fault at once, then one less each time: the first that is left decides. Queue q is one that the switch doesn't have, the only
+-- node is taken, and K is 0.
+abbrev pub one-by-one : ℕ → Card
+one-by-one q =
+    says (setup 1 64 1 0 ∷ act (arrive 0 twelve)
+    ∷ act (arrive 4 (nine 0 1 q 11 1))
+    ∷ act (arrive 0 (nine 0 1 q 11 1))
+    ∷ act (arrive 0 (nine 0 1 q 11 1 ++ (0 ∷ [])))
+    ∷ act (arrive 0 (sealed (nine 0 1 q 11 1)))
+    ∷ act (arrive 0 (sealed (nine 0 1 q 11 0)))
+    ∷ act (arrive 0 (sealed (nine 0 0 q 11 0)))
+    ∷ act (arrive 0 (sealed (nine 0 0 q 12 0)))
+    ∷ act (arrive 0 (sealed (nine 0 0 23 12 0)))
+    ∷ act (arrive 0 (sealed (nine 0 0 0 12 0))) ∷ [])
+    (done ∷ entry 0 ∷ refused 4 ∷ refused 6 ∷ refused 7 ∷ refused 20 ∷ refused 8 ∷ refused 9 ∷ refused 19 ∷ refused 10 ∷ refused 11 ∷ [])
+
 abbrev pub cards : List Card
 cards =
     says (setup 1 64 1 16 ∷ act (arrive 0 (zeros 10)) ∷ act (arrive 1 (zeros 10)) ∷ [])
@@ -122,4 +143,7 @@ cards =
     ∷ costs 12 1 ∷ costs 64 1 ∷ costs 65 2 ∷ costs 76 2 ∷ costs 8191 128
     ∷ says (setup 1 64 1 0 ∷ (brought 0 8191 ++ (act (turn 0) ∷ [])))
     (done ∷ entry 0 ∷ plain-record 0 8191 ∷ entry 0 ∷ leaves (plain 0 8191 0) inside ∷ [])
+    ∷ says (setup 1 64 1 1 ∷ act (arrive 0 (sealed (nine 0 0 23 12 1))) ∷ act (arrive 0 (header 0 0 24 12)) ∷ act (arrive 0 (header 0 0 31 12)) ∷ act (arrive 0 (sealed (nine 0 0 23 12 2))) ∷ [])
+    (done ∷ refused 20 ∷ refused 19 ∷ refused 19 ∷ entry 0 ∷ [])
+    ∷ one-by-one 24 ∷ one-by-one 31
     ∷ []

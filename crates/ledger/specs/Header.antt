@@ -1,9 +1,9 @@
--- Paper 01, "The ten-byte header": its fields, its own refusals 6 to 9, and the price. Assumes nothing.
-use mathlib.Core.Bool.{not, cond}
+-- Paper 01, "The ten-byte header": its fields, its own refusals (6 to 9, and paper 02's 19 and 20), and the price. Assumes nothing.
+use mathlib.Core.Bool.{not}
 use mathlib.Core.List.{List, [], _∷_}
 use Prim.Native.Nat.{ℕ, zero, suc, _+_, _-_, _/_}
 use lib.ListN.{length, take}
-use lib.Dec.{eqb, ltb}
+use lib.Dec.{eqb, ltb, leb}
 use Rattle.numbers.specs.Bytes.{number}
 use Rattle.numbers.specs.Fields.{bits}
 use Rattle.crc.specs.Crc.{crc8}
@@ -43,18 +43,16 @@ headerSize = 10
 abbrev pub leastLength : ℕ
 leastLength = 12
 
--- what a header can be refused for, at the port where it arrives
-abbrev pub headerRules : ℕ → List ℕ → List Rule
-headerRules p h =
+-- what a header can be refused for, at the port where it arrives, in a switch of n queues (paper 02, Q-6: 20 and 19)
+abbrev pub headerRules : ℕ → ℕ → List ℕ → List Rule
+headerRules n p h =
     refuse 6 (not (eqb (length h) headerSize))
     ∷ refuse 7 (not (eqb (fieldsOf h .check) (crc8 (take 9 h))))
+    ∷ refuse 20 (not (eqb (fieldsOf h .reserved) 0))
     ∷ refuse 8 (not (eqb (fieldsOf h .source) p))
     ∷ refuse 9 (ltb (fieldsOf h .len) leastLength)
+    ∷ refuse 19 (leb n (fieldsOf h .queue))
     ∷ []
-
--- of n queues, which one a header's queue number means: one that the switch doesn't have is read as queue 0
-unfoldable pub queueOf : ℕ → ℕ → ℕ
-queueOf n q = cond (ltb q n) q 0
 
 -- the price (paper 02, Q-3), of a beat, a queue and a length: queue 0 is free; else the length divided by the beat, rounded up
 unfoldable pub price : ℕ → ℕ → ℕ → ℕ

@@ -5,7 +5,7 @@ use Prim.Native.Nat.{ℕ, zero, suc, _+_, _-_, _*_, _/_, _%_}
 use lib.ListN.{getD, set, drop, replicate}
 use lib.Dec.{ltb}
 use Rattle.ledger.specs.Settings.{Settings, ids, row}
-use Rattle.ledger.specs.Header.{Fields, queueOf, price}
+use Rattle.ledger.specs.Header.{Fields, price}
 
 -- ---- nodes
 
@@ -42,12 +42,12 @@ unfoldable pub recorded : Settings → ℕ → Fields → Packet
 recorded S x f = record {
   node = x;
   len = f .len;
-  queue = queueOf (S .queues) (f .queue);
+  queue = f .queue;
   dest = f .dest;
   stamp = f .stamp;
   poisoned = f .poisoned;
   transaction = f .transaction;
-  price = price (S .beat) (queueOf (S .queues) (f .queue)) (f .len);
+  price = price (S .beat) (f .queue) (f .len);
 }
 
 -- ---- places: a list each

@@ -1,0 +1,95 @@
+-- What is known of an arrival that no refusal turns away, each fact by its name. Proofs take these facts from here and never by their
+-- place among the rules, so a rule that comes or moves is paid here. Assumes nothing.
+use mathlib.Core.Path.{_≡_, refl, sym, ap}
+use mathlib.Core.Bool.{Bool, true, false, not}
+use mathlib.Core.List.{List, [], _∷_, _++_}
+use Prim.Native.Nat.{ℕ, _≤_, _<_}
+use lib.ListN.{length, take}
+use lib.Dec.{eqb}
+use Rattle.crc.specs.Crc.{crc8}
+use Rattle.ledger.specs.Settings.{Settings}
+use Rattle.ledger.specs.Rules.{Rule, refuse, guard, Clear}
+use Rattle.ledger.specs.Header.{fieldsOf, headerSize, leastLength, headerRules}
+use Rattle.ledger.specs.Ledger.{free, Ledger, listAt, arrivalOf}
+use Rattle.ledger.specs.Calls.{arrive, isEmpty, arriving, lastRules, rules}
+use Rattle.ledger.proofs.Tests.{true≢false, leb-no, leb-not, ltb-no, ltb-not, eqb-yes, eqb-is, not-yes}
+
+-- ---- rules one after another
+
+pub clear-left : (rs ts : List Rule) → Clear (rs ++ ts) → Clear rs
+clear-left [] ts c = tt
+clear-left (refuse n b ∷ rs) ts c = (c .0, clear-left rs ts (c .1))
+
+pub clear-right : (rs ts : List Rule) → Clear (rs ++ ts) → Clear ts
+clear-right [] ts c = c
+clear-right (refuse n b ∷ rs) ts c = clear-right rs ts (c .1)
+
+-- where none of the first applies, the others decide
+pub guard-after : {X : Type 0} (rs ts : List Rule) (no′ : ℕ → X) (out : X) → Clear rs → guard (rs ++ ts) no′ out ≡ guard ts no′ out
+guard-after [] ts no′ out c = refl
+guard-after (refuse n true ∷ rs) ts no′ out c = absurd (true≢false (c .0))
+guard-after (refuse n false ∷ rs) ts no′ out c = guard-after rs ts no′ out (c .1)
+
+-- ---- a header with no fault of its own, at port p of a switch of n queues
+
+pub record Passes (n p : ℕ) (h : List ℕ) : Type 0 where
+  pub ten : length h ≡ headerSize
+  pub summed : fieldsOf h .check ≡ crc8 (take 9 h)
+  pub unreserved : fieldsOf h .reserved ≡ 0
+  pub own : fieldsOf h .source ≡ p
+  pub long : leastLength ≤ fieldsOf h .len
+  pub queue : fieldsOf h .queue < n
+
+same : (a b : ℕ) → not (eqb a b) ≡ false → a ≡ b
+same a b e = eqb-yes a b (not-yes (eqb a b) e)
+
+not-other : (a b : ℕ) → a ≡ b → not (eqb a b) ≡ false
+not-other a b e = ap not (eqb-is a b e)
+
+module _ (n p : ℕ) (h : List ℕ) where
+  pub passes : Clear (headerRules n p h) → Passes n p h
+  passes c = record {
+    ten = same (length h) headerSize (c .0);
+    summed = same (fieldsOf h .check) (crc8 (take 9 h)) (c .1 .0);
+    unreserved = same (fieldsOf h .reserved) 0 (c .1 .1 .0);
+    own = same (fieldsOf h .source) p (c .1 .1 .1 .0);
+    long = ltb-no (fieldsOf h .len) leastLength (c .1 .1 .1 .1 .0);
+    queue = leb-no n (fieldsOf h .queue) (c .1 .1 .1 .1 .1 .0);
+  }
+
+  -- and these facts are all that the rules ask
+  pub passes-clear : Passes n p h → Clear (headerRules n p h)
+  passes-clear f = (
+    not-other (length h) headerSize (f .ten),
+    (
+      not-other (fieldsOf h .check) (crc8 (take 9 h)) (f .summed),
+      (
+        not-other (fieldsOf h .reserved) 0 (f .unreserved),
+        (
+          not-other (fieldsOf h .source) p (f .own),
+          (
+            ltb-not (fieldsOf h .len) leastLength (f .long),
+            (leb-not n (fieldsOf h .queue) (f .queue), tt),
+          ),
+        ),
+      ),
+    ),
+  )
+
+-- ---- an arrival that is taken in
+
+pub record Admits (S : Settings) (L : Ledger) (p : ℕ) (h : List ℕ) : Type 0 where
+  pub port : p < S .ports
+  pub header : Passes (S .queues) p h
+  pub afford : arriving S L p h .price ≤ arrivalOf S L p (arriving S L p h .queue)
+  pub some : isEmpty (listAt S L (free p)) ≡ false
+
+pub admits : (S : Settings) (L : Ledger) (p : ℕ) (h : List ℕ) → Clear (rules S L (arrive p h)) → Admits S L p h
+admits S L p h c =
+    let last : Clear (lastRules S L p (arriving S L p h)) = clear-right (headerRules (S .queues) p h) (lastRules S L p (arriving S L p h)) (c .1) in
+    record {
+      port = leb-no (S .ports) p (c .0);
+      header = passes (S .queues) p h (clear-left (headerRules (S .queues) p h) (lastRules S L p (arriving S L p h)) (c .1));
+      afford = ltb-no (arrivalOf S L p (arriving S L p h .queue)) (arriving S L p h .price) (last .0);
+      some = last .1 .0;
+    }
