@@ -271,13 +271,15 @@ def arrive(memory, port, header):
         return (7, None)
     bits = int.from_bytes(header[:3], "big")
     dest, source, queue = bits >> 22, bits >> 20 & 3, bits >> 15 & 31
-    length, poisoned = bits >> 2 & 8191, bits >> 1 & 1
+    length, poisoned, reserved = bits >> 2 & 8191, bits >> 1 & 1, bits & 1
+    if reserved:
+        return (20, None)
     if source != port:
         return (8, None)
     if length < 12:
         return (9, None)
     if queue >= QUEUES:
-        queue = 0
+        return (19, None)
     price = price_of(length, queue, v.get("setting", S_BEAT))
     if queue != 0 and price > v.get("arrival", cell(port, queue)):
         return (10, None)
@@ -549,6 +551,17 @@ def selftest_cards():
     check(stitch(memory, 0) == (0, bytes.fromhex("0000000C000000000000")), "card record")
     check(arrive(fresh(), 0, good[:9] + b"\x73") == (7, None), "card 73")
 
+    # every fault at once, then one less each time, where the only node is taken and K is 0
+    for queue in (24, 31):
+        memory = fresh(n=1, k=0)
+        check(arrive(memory, 0, good) == (0, 0), "the only node")
+        faulty = [make_header(0, source, q, length, 0, reserved, 0, 0, 0) for source, q, length, reserved in (
+            (1, queue, 11, 1), (1, queue, 11, 0), (0, queue, 11, 0), (0, queue, 12, 0), (0, 23, 12, 0), (0, 0, 12, 0))]
+        faulty = [faulty[0][:9], faulty[0][:9] + bytes([faulty[0][9] ^ 1])] + faulty
+        check(arrive(memory, 4, faulty[0]) == (4, None), "order", 4, queue)
+        for h, number in zip(faulty, (6, 7, 20, 8, 9, 19, 10, 11)):
+            check(arrive(memory, 0, h) == (number, None), "order", number, queue)
+
     # N = 1: the second queue-0 arrival, before and after the turn
     memory = fresh(n=1)
     check(arrive(memory, 0, good) == (0, 0), "first arrival")
@@ -626,11 +639,12 @@ class Ledger:
         if p > 3: return 4, None
         if len(h) != 10: return 6, None
         if crc8(h) != 0: return 7, None               # a right checksum ends at 0
+        if h[2] % 2 == 1: return 20, None
         if h[0] >> 4 & 3 != p: return 8, None
         length = (h[1] & 127) << 6 | h[2] >> 2
         queue = (h[0] & 15) << 1 | h[1] >> 7
         if length < 12: return 9, None
-        if queue > 23: queue = 0
+        if queue > 23: return 19, None
         price = (length + self.beat - 1) // self.beat if queue else 0
         if queue and self.inward[p, queue] < price: return 10, None
         if not self.lists[p * 50]: return 11, None
@@ -742,7 +756,7 @@ def may_write(before, n, name, given, value):
     if name == "arrive":
         p, s = given[0], v.slot(value)
         q = (given[1][0] & 15) << 1 | given[1][1] >> 7
-        cells = {("arrival", cell(p, q))} if 0 < q < 24 else set()
+        cells = {("arrival", cell(p, q))} if q else set()
         return off(free(p)) | on(ingress(p)) | {(f, s) for f in RECORD} | cells
     if name == "stitch":
         return off(ingress(given[0])) | on(egress(value[5], value[4]))
@@ -765,7 +779,7 @@ def wild_step(rng):
         h = make_header(rng.randrange(4), rng.choice((port & 3,) * 9 + (3,)),
                         rng.choice((queue,) * 8 + (24, 31)),
                         rng.choice((11, 12, 13, 76, 77, 524, 525, 8191, rng.randrange(8192))),
-                        rng.randrange(2), rng.randrange(2), rng.randrange(2**32),
+                        rng.randrange(2), rng.choice((0,) * 9 + (1,)), rng.randrange(2**32),
                         rng.randrange(256), rng.randrange(256))
         h = rng.choice((h,) * 18 + (h[:9], h[:9] + bytes([h[9] ^ 1])))
         return "arrive", (port, h)

@@ -8,13 +8,15 @@ use Rattle.ledger.specs.Settings.{Settings}
 use Rattle.ledger.specs.Rules.{Rule, refuse, guard}
 use Rattle.ledger.specs.Header.{Fields, fieldsOf, headerRules}
 use Rattle.ledger.specs.Ledger.{isNode, Packet, recorded, free, ingress, place#, arrivalOf}
-use Rattle.ledger.specs.Calls.{refused, entry, arrive, firstOf, rules}
+use Rattle.ledger.specs.Calls.{refused, entry, arrive, firstOf, lastRules, rules}
 use Rattle.ledger.specs.Sound.{weigh, one, Roomy}
-use Rattle.ledger.proofs.Tests.{leb-is, leb-not, leb-no, ltb-is, ltb-not, ltb-no}
+use Rattle.ledger.proofs.Tests.{leb-is, leb-not, ltb-is, ltb-not}
 use Rattle.ledger.proofs.Places.{Place·In, place#-lt}
-use Rattle.ledger.proofs.Header.{fields-in, queue-of-lt}
-use Rattle.ledger.proofs.Steps.{guarded, cleared}
+use Rattle.ledger.proofs.Header.{fields-in}
+use Rattle.ledger.proofs.Admits as ledger
+use Rattle.ledger.proofs.Steps.{cleared}
 use Rattle.header.specs.Judge.{Verdict, bad, good, verdict}
+use Rattle.header.proofs.Verdicts.{fields-are, good-passes}
 use Rattle.layout.specs.declared.Shape.{Shape}
 use Rattle.layout.specs.declared.Table.the-variants.{Arrival, Count}
 use Rattle.layout.specs.Tables.{lists, get, settingsOf}
@@ -28,13 +30,13 @@ use Rattle.memory.proofs.Chains.{item-node, state-tidy}
 use Rattle.memory.proofs.Judged.{judged-clear, acted-good, acted-bad}
 use Rattle.memory.proofs.Paint.{empty-is, some-is, counted-some, pop-item, record-kept}
 use Rattle.memory.proofs.Pop.{pop-tidy, pop-node, pop-gone}
-use Rattle.arrivals.specs.Admission.{Admission, accepted, rejected, packetFor, lastRules, judgedFields, judgedArrival, CanTakeIn}
+use Rattle.arrivals.specs.Admission.{Admission, accepted, rejected, packetFor, judgedFields, judgedArrival, CanTakeIn}
 
 -- ---- the packet
 
-pub queue-in : (S : Settings) → Roomy S → (x : ℕ) (f : Fields) → recorded S x f .queue < S .queues
+pub queue-in : (S : Settings) (x : ℕ) (f : Fields) → f .queue < S .queues → recorded S x f .queue < S .queues
 unfolding recorded
-queue-in S ok x f = queue-of-lt (S .queues) (f .queue) (omega (arith, ok .some-queues))
+queue-in S x f h = h
 
 -- ---- the judge of fields
 
@@ -73,14 +75,11 @@ by-verdict [] ts f no′ out = refl
 by-verdict (refuse n true ∷ rs) ts f no′ out = refl
 by-verdict (refuse n false ∷ rs) ts f no′ out = by-verdict rs ts f no′ out
 
-fields-are : (p : ℕ) (h : List ℕ) (f : Fields) → good f ≡ verdict p h → f ≡ fieldsOf h
-fields-are p h f =
-    guarded {X = Verdict} (λ v. good f ≡ v → f ≡ fieldsOf h) (headerRules p h) bad (good (fieldsOf h))
-    (λ n e. absurd (let z : _≡_ {A = ℕ} 0 1 = cc in omega arith))
-    (λ c e. cc)
+pub len-in : (n p : ℕ) (h : List ℕ) (f : Fields) → good f ≡ verdict n p h → f .len < 2 ^ 13
+len-in n p h f e = rw (fields-are n p h f e) (fields-in h .len)
 
-pub len-in : (p : ℕ) (h : List ℕ) (f : Fields) → good f ≡ verdict p h → f .len < 2 ^ 13
-len-in p h f e = rw (fields-are p h f e) (fields-in h .len)
+pub known-queue : (n p : ℕ) (h : List ℕ) (f : Fields) → good f ≡ verdict n p h → f .queue < n
+known-queue n p h f e = rw (fields-are n p h f e) (good-passes n p h f e .queue)
 
 module _ (S : Settings) (m : List ℕ) (p : ℕ) (h : List ℕ) where
   pub no-port : S .ports ≤ p → rejected 4 ≡ judgedArrival S m p h
@@ -88,17 +87,17 @@ module _ (S : Settings) (m : List ℕ) (p : ℕ) (h : List ℕ) where
   no-port e = rw (leb-is (S .ports) p e)
 
   module _ (hp : p < S .ports) where
-    by-header : carried rejected (judgedFields S m p (fieldsOf h)) (verdict p h) ≡ judgedArrival S m p h
+    by-header : carried rejected (judgedFields S m p (fieldsOf h)) (verdict (S .queues) p h) ≡ judgedArrival S m p h
     unfolding judgedArrival judgedFields recorded
     by-header =
-        by-verdict (headerRules p h) (lastRules S m p (fieldsOf h)) (fieldsOf h) rejected (accepted (packetFor S m p (fieldsOf h)))
+        by-verdict (headerRules (S .queues) p h) (lastRules S (ledgerIn S m) p (packetFor S m p (fieldsOf h))) (fieldsOf h) rejected (accepted (packetFor S m p (fieldsOf h)))
         ∙ rw (leb-not (S .ports) p hp)
 
-    pub bad-header : (n : ℕ) → bad n ≡ verdict p h → rejected n ≡ judgedArrival S m p h
+    pub bad-header : (n : ℕ) → bad n ≡ verdict (S .queues) p h → rejected n ≡ judgedArrival S m p h
     bad-header n e = ap (carried rejected (judgedFields S m p (fieldsOf h))) e ∙ by-header
 
-    pub good-header : (f : Fields) → good f ≡ verdict p h → judgedFields S m p f ≡ judgedArrival S m p h
-    good-header f e = ap (judgedFields S m p) (fields-are p h f e) ∙ ap (carried rejected (judgedFields S m p (fieldsOf h))) e ∙ by-header
+    pub good-header : (f : Fields) → good f ≡ verdict (S .queues) p h → judgedFields S m p f ≡ judgedArrival S m p h
+    good-header f e = ap (judgedFields S m p) (fields-are (S .queues) p h f e) ∙ ap (carried rejected (judgedFields S m p (fieldsOf h))) e ∙ by-header
 
 -- ---- from the judge to the outcome
 
@@ -129,22 +128,21 @@ arrives s m w p h k e =
     let S : Settings = settingsOf s in
     let fine = judged-plainly S m p h ∙ ap plainly (sym e) in
     let c = judged-clear S (ledgerIn S m) (arrive p h) fine in
-    let hp = leb-no (S .ports) p (c .0) in
-    let inside = lists-in S (w .laid .roomy) p hp .0 in
-    let filled = c .1 .1 .1 .1 .1 .1 .0 in
+    let a = ledger.admits S (ledgerIn S m) p h c in
+    let inside = lists-in S (w .laid .roomy) p (a .port) .0 in
     let is : k ≡ packetFor S m p (fieldsOf h) = let f = e ∙ cleared (rules S (ledgerIn S m) (arrive p h)) rejected (accepted (packetFor S m p (fieldsOf h))) c in cc in
     let first : firstOf S (ledgerIn S m) (free p) .node ≡ headOf S m (free p) =
-    ap (λ (j : Packet). j .node) (pop-item S (w .laid .roomy) m (state-tidy S m (w .state)) (place# S (free p)) inside filled)
+    ap (λ (j : Packet). j .node) (pop-item S (w .laid .roomy) m (state-tidy S m (w .state)) (place# S (free p)) inside (a .some))
     ∙ item-node S m (place# S (free p)) (headOf S m (free p)) in
     record {
       take = record {
         laid = w .laid;
         tidy = state-tidy S m (w .state);
-        port = hp;
-        queue = rw is (queue-in S (w .laid .roomy) (headOf S m (free p)) (fieldsOf h));
-        some = counted-some S m (place# S (free p)) inside filled;
+        port = a .port;
+        queue = rw is (queue-in S (headOf S m (free p)) (fieldsOf h) (a .header .queue));
+        some = counted-some S m (place# S (free p)) inside (a .some);
         node = ap (λ (j : Packet). j .node) is;
-        afford = rw is (ltb-no _ _ (c .1 .1 .1 .1 .1 .0));
+        afford = rw is (a .afford);
       };
       outcome = acted-good S m (arrive p h) fine ∙ rw (first, is);
     }

@@ -1,14 +1,13 @@
 -- What judging an arrival gives, what the code's answer means, and what its parts ask. Assumes nothing.
 use mathlib.Core.Path.{_≡_}
-use mathlib.Core.List.{List, [], _∷_}
+use mathlib.Core.List.{List}
 use Prim.Native.Nat.{ℕ, _^_, _≤_, _<_}
-use lib.Dec.{ltb}
 use lib.ListN.{length}
 use Rattle.ledger.specs.Settings.{Settings, size}
-use Rattle.ledger.specs.Rules.{Rule, refuse, guard}
+use Rattle.ledger.specs.Rules.{guard}
 use Rattle.ledger.specs.Header.{Fields, fieldsOf}
 use Rattle.ledger.specs.Ledger.{Packet, recorded, free, place#, listAt, arrivalOf}
-use Rattle.ledger.specs.Calls.{arrive, isEmpty, rules}
+use Rattle.ledger.specs.Calls.{arrive, lastRules, rules}
 use Rattle.ledger.specs.Answers.{numberOf, sentOf}
 use Rattle.layout.specs.declared.Shape.{Shape}
 use Rattle.layout.specs.declared.Table.the-variants.{Count}
@@ -35,26 +34,21 @@ packetFor S m p f = recorded S (headOf S m (free p)) f
 unfoldable pub judgedArrival : Settings → List ℕ → ℕ → List ℕ → Admission
 judgedArrival S m p h = guard (rules S (ledgerIn S m) (arrive p h)) rejected (accepted (packetFor S m p (fieldsOf h)))
 
--- the refusals that are left where the port is right and the header has no fault of its own
-abbrev pub lastRules : Settings → List ℕ → ℕ → Fields → List Rule
-lastRules S m p f =
-    refuse 10 (ltb (arrivalOf S (ledgerIn S m) p (packetFor S m p f .queue)) (packetFor S m p f .price))
-    ∷ refuse 11 (isEmpty (listAt S (ledgerIn S m) (free p)))
-    ∷ []
-
+-- the same where the port is right and the header has no fault of its own
 unfoldable pub judgedFields : Settings → List ℕ → ℕ → Fields → Admission
-judgedFields S m p f = guard (lastRules S m p f) rejected (accepted (packetFor S m p f))
+judgedFields S m p f = guard (lastRules S (ledgerIn S m) p (packetFor S m p f)) rejected (accepted (packetFor S m p f))
 
 -- a header whose price fits
 pub record CanPrice (s : Shape) (f : Fields) : Type 0 where
   pub laid : Laid s
   pub len : f .len < 2 ^ 13
 
--- and a port of a memory long enough
+-- and a port of a memory long enough, and a queue of the switch
 pub record CanAdmit (s : Shape) (p : ℕ) (f : Fields) (m : List ℕ) : Type 0 where
   pub priced : CanPrice s f
   pub long : size (settingsOf s) ≤ length m
   pub port : p < s .ports
+  pub queue : f .queue < s .queues
 
 -- packet k is of port p's first free node, and its price can be paid
 pub record CanTakeIn (s : Shape) (p : ℕ) (k : Packet) (m : List ℕ) : Type 0 where

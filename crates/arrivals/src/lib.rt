@@ -30,14 +30,12 @@ fn packet_of(s: Shape, x: u16, f: HeaderFields) -> Sent
     requires { ⌜ CanPrice s (headerOf f) ⌝ }
     ensures { λ r. ⌜ sentOf r ≡ recorded (settingsOf s) x (headerOf f) ⌝ }
 {
-    let queues = s.queues;
     let beat = s.beat;
-    let queue = header::queue_of(queues as u32, f.queue as u32);
-    let price = header::price_of(beat as u32, queue, f.len as u32);
+    let price = header::price_of(beat as u32, f.queue as u32, f.len as u32);
     Sent {
         entry: EntryId(x),
         length: f.len,
-        queue: queue as u8,
+        queue: f.queue,
         destination: f.dest,
         timestamp: f.stamp,
         poisoned: f.poisoned,
@@ -74,7 +72,8 @@ pub fn judge_arrive(m: &[u8], s: Shape, port: u32, h: &[u8]) -> Admitted
     if ports <= p {
         return Admitted::No(Refusal::NoPort);
     }
-    let judged = header::judge(h, port);
+    let queues = s.queues;
+    let judged = header::judge(h, queues as u32, port);
     match judged {
         Judged::No(r) => Admitted::No(r),
         Judged::Good(f) => admit(m, s, p, f),

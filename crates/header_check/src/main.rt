@@ -1,4 +1,4 @@
-// Judges six headers and prints a line for each: the refusal's number, or 0 and then destination, source, queue, length, poisoned,
+// Judges ten headers in a switch of 24 queues and prints a line for each: the refusal's number, or 0 and then destination, source, queue, length, poisoned,
 // timestamp and transaction.
 use header::HeaderFields;
 use header::Judged;
@@ -24,7 +24,7 @@ fn show_fields(f: HeaderFields) {
 }
 
 fn show(h: &[u8], port: u32) {
-    match header::judge(h, port) {
+    match header::judge(h, 24, port) {
         Judged::Good(f) => show_fields(f),
         Judged::No(r) => number(r.number() as u64),
     }
@@ -40,4 +40,9 @@ fn main() {
     let mut h = [107, 255, 252, 1, 2, 3, 4, 5, 200, 0];
     h[9] = crc::checksum(&h[..9]);
     show(&h, 2);
+    // Queues 24 and 31; then the reserved bit, alone and beside a wrong source.
+    show(&[12, 0, 48, 0, 0, 0, 0, 0, 0, 80], 0);
+    show(&[15, 128, 48, 0, 0, 0, 0, 0, 0, 100], 0);
+    show(&[0, 0, 49, 0, 0, 0, 0, 0, 0, 173], 0);
+    show(&[0, 0, 49, 0, 0, 0, 0, 0, 0, 173], 1);
 }

@@ -10,7 +10,7 @@ use lib.ListN.{length, getD, drop}
 use lib.Dec.{eqb}
 use Rattle.ledger.specs.Settings.{Settings, settings, inRows, ids, row, size}
 use Rattle.ledger.specs.Rules.{Rule, refuse, guard, Clear}
-use Rattle.ledger.specs.Header.{fieldsOf, leastLength, price}
+use Rattle.ledger.specs.Header.{fieldsOf, price}
 use Rattle.ledger.specs.Ledger.{owner, isNode, Packet, bare, recorded, Place, free, ingress, egress, prefetched, place#, column, portOf, Ledger, listAt, arrivalOf, outwardOf, lastOf, mapOf, creditAt, oldest, pop, push, move, putArrival, putOutward, putLast, putMap, start}
 use Rattle.ledger.specs.Ready.{bit, readyWord, pick}
 use Rattle.ledger.specs.Calls.{Act, arrive, stitch, prefetch, credit, mapTo, turn, ready, whereIs, Reply, refused, done, idle, isEmpty, firstOf, arriving, arrived, served, serve, turned, rules, result, step}
@@ -23,6 +23,7 @@ use Rattle.ledger.proofs.Places.{Place·In, place#-lt, row-mod, column-lt, Node
 use Rattle.ledger.proofs.Header.{price-free}
 use Rattle.ledger.proofs.Keep.{some-queue, first-fits, first-node}
 use Rattle.ledger.proofs.Rows.{roomy}
+use Rattle.ledger.proofs.Admits.{Admits, admits}
 use Rattle.ledger.proofs.Steps.{guarded, cleared, recorded-proper, picked-some, keep-served, keep-step}
 use Rattle.layout.specs.declared.Table.the-variants.{Mapped, Last, Arrival, Outward, Head}
 use Rattle.layout.specs.Tables.{lists, get, put}
@@ -100,8 +101,13 @@ module _ (S : Settings) (ok : Roomy S) (m : List ℕ) (s : StateOf S m) where
 
   -- ---- arrive
 
-  module _ (p : ℕ) (h : List ℕ) (hp : p < S .ports) (low : leastLength ≤ fieldsOf h .len)
-      (afford : arriving S L p h .price ≤ arrivalOf S L p (arriving S L p h .queue)) (e : isEmpty (listAt S L (free p)) ≡ false) where
+  module _ (p : ℕ) (h : List ℕ) (a : Admits S L p h) where
+    hp : p < S .ports
+    hp = a .port
+
+    e : isEmpty (listAt S L (free p)) ≡ false
+    e = a .some
+
     v-in : Place·In S (free p)
     v-in = (hp, some-queue S ok L o)
 
@@ -116,7 +122,7 @@ module _ (S : Settings) (ok : Roomy S) (m : List ℕ) (s : StateOf S m) where
     k-node = refl
 
     good : Proper S k
-    good = recorded-proper S ok (headOf S m (free p)) h low
+    good = recorded-proper S ok (headOf S m (free p)) p h (a .header)
 
     abbrev n₁ : List ℕ
     n₁ = popMem S (place# S (free p)) m
@@ -282,11 +288,8 @@ module _ (S : Settings) (ok : Roomy S) (m : List ℕ) (s : StateOf S m) where
 
   painted : (a : Act) → Clear (rules S L a) → Painted (write S m a) (result S L a .1)
   painted (arrive p h) c =
-      let hp = leb-no (S .ports) p (c .0) in
-      let low = ltb-no (fieldsOf h .len) leastLength (c .1 .1 .1 .1 .0) in
-      let afford = ltb-no (arrivalOf S L p (arriving S L p h .queue)) (arriving S L p h .price) (c .1 .1 .1 .1 .1 .0) in
-      let e = c .1 .1 .1 .1 .1 .1 .0 in
-      record { kept = arrive-kept p h hp low afford e; shows = arrive-paint p h hp low afford e }
+      let a = admits S L p h c in
+      record { kept = arrive-kept p h a; shows = arrive-paint p h a }
   painted (stitch p) c =
       let hp = leb-no (S .ports) p (c .0) in
       let v-in : Place·In S (ingress p) = (hp, some-queue S ok L o) in

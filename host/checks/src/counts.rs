@@ -2,7 +2,7 @@
 
 use std::fmt;
 
-use model::{Call, Reply};
+use model::{Call, Reply, REFUSALS};
 
 const NAMES: [&str; 10] = [
     "setup",
@@ -21,8 +21,8 @@ const NAMES: [&str; 10] = [
 pub struct Counts {
     /// In the order of `NAMES`.
     accepted: [u64; 10],
-    /// By the refusal's number; cell 0 stays 0.
-    refused: [u64; 16],
+    /// By the refusal's number; the cells of other numbers stay 0.
+    refused: [u64; 21],
     /// That an arrival or a prefetch was answered.
     highest_entry: u16,
 }
@@ -75,17 +75,15 @@ impl Counts {
     }
 
     /// The refusals that came less often than they should.
-    pub fn too_rare(&self, least_1_to_3: u64, least_4_to_15: u64) -> Vec<(usize, u64)> {
-        (1..=15)
-            .map(|number| (number, self.refused[number]))
-            .filter(|&(number, times)| {
-                let least = if number <= 3 {
-                    least_1_to_3
-                } else {
-                    least_4_to_15
-                };
-                times < least
-            })
+    pub fn too_rare(&self, least_1_to_3: u64, least_of_others: u64) -> Vec<(u8, u64)> {
+        let least = |number| match number {
+            1..=3 => least_1_to_3,
+            _ => least_of_others,
+        };
+        REFUSALS
+            .into_iter()
+            .map(|number| (number, self.refused[number as usize]))
+            .filter(|&(number, times)| times < least(number))
             .collect()
     }
 
@@ -102,8 +100,8 @@ impl fmt::Display for Counts {
             write!(f, " {name} {times},")?;
         }
         write!(f, "\nrefused:")?;
-        for (number, times) in self.refused.iter().enumerate().skip(1) {
-            write!(f, " [{number}] {times}")?;
+        for number in REFUSALS {
+            write!(f, " [{number}] {}", self.refused[number as usize])?;
         }
         Ok(())
     }

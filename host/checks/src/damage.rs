@@ -228,10 +228,10 @@ fn one_of_each(random: &mut Random, ledger: &Ledger) -> Vec<Call> {
     let arriving = header(
         random.below(4),
         port,
-        random.below(32),
+        random.below(QUEUES),
         12 + random.below(200),
         random.one_in(2),
-        random.one_in(2),
+        random.one_in(16),
         random.word() as u32,
         random.word() as u8,
         random.word() as u8,

@@ -1,6 +1,6 @@
 //! One call of the proved library, told in the model's words.
 
-use model::{Call, ListKind, Packet, Reply, Side};
+use model::{Call, ListKind, Packet, Reply, Side, REFUSALS};
 use ventorupo::calls;
 
 /// Rooms start with these bytes, so that a byte that should stay is seen.
@@ -16,7 +16,7 @@ fn refused<T: PartialEq + std::fmt::Debug>(
         return Err(format!("refused {number}, but the room is {room:?}"));
     }
     match u8::try_from(number) {
-        Ok(number @ 1..=15) => Ok(Reply::Refused(number)),
+        Ok(number) if REFUSALS.contains(&number) => Ok(Reply::Refused(number)),
         _ => Err(format!("answered {number}")),
     }
 }

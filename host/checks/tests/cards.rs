@@ -46,7 +46,7 @@ fn served(switch: &mut Switch<Vec<u8>>) -> u8 {
 }
 
 /// The published check value of this CRC-8 is F4, for the digits 1 to 9: of
-/// all last bytes, the library takes that one alone.
+/// all last bytes, the library refuses that one alone for another fault.
 #[test]
 fn published_check_value() {
     assert_eq!(crc8(b"123456789"), 0xF4);
@@ -54,16 +54,12 @@ fn published_check_value() {
         let mut switch = switch(SMALL);
         let mut header = *b"123456789?";
         header[9] = last;
-        // Read as a header: source 3, queue 2, length 3,212.
-        let answer = switch.arrive(3, &header);
-        if last != 0xF4 {
-            assert_eq!(answer, Err(Refusal::Checksum));
-            continue;
-        }
-        assert_eq!(answer, Ok(EntryId(3 * 2048)));
-        let record = switch.stitch(3).unwrap();
-        assert_eq!((record.queue, record.length, record.port), (2, 3212, 0));
-        assert_eq!(record.timestamp, u32::from_be_bytes(*b"4567"));
+        // The digit 3 is 33 in hex: as a header's byte, it has the reserved bit.
+        let wanted = match last {
+            0xF4 => Refusal::ReservedBit,
+            _ => Refusal::Checksum,
+        };
+        assert_eq!(switch.arrive(3, &header), Err(wanted));
     }
 }
 
@@ -258,8 +254,7 @@ fn port_3_node_5_is_6149() {
 fn a_turn_answers_every_recorded_field() {
     let mut switch = switch(SMALL);
     switch.map(3, 1).unwrap();
-    // The reserved bit is set and ignored.
-    let bytes = header(3, 2, 11, 1000, true, true, 0xDEAD_BEEF, 200, 0x5A);
+    let bytes = header(3, 2, 11, 1000, true, false, 0xDEAD_BEEF, 200, 0x5A);
     switch.arrive(2, &bytes).unwrap();
     switch.stitch(2).unwrap();
     switch.prefetch(1, 11).unwrap();
@@ -282,6 +277,53 @@ fn a_turn_answers_every_recorded_field() {
         (place.list, place.position),
         (ListKind::Free { port: 2 }, 7)
     );
+}
+
+/// Every fault at once, then one less each time: the first that is left
+/// decides. The only node is taken, and K is 0.
+#[test]
+fn arrive_tests_in_the_papers_order() {
+    for queue in 24..32 {
+        let mut switch = switch(Settings {
+            nodes: 1,
+            credit: 0,
+            ..SMALL
+        });
+        switch.arrive(0, &SHORTEST).unwrap();
+        let faulty =
+            |source, length, reserved| header(0, source, queue, length, true, reserved, 0, 0, 0);
+        let mut wrong_sum = faulty(1, 11, true);
+        wrong_sum[9] ^= 1;
+        for (header, refusal) in [
+            (&wrong_sum[..9], Refusal::HeaderLength),
+            (&wrong_sum[..], Refusal::Checksum),
+            (&faulty(1, 11, true)[..], Refusal::ReservedBit),
+            (&faulty(1, 11, false)[..], Refusal::WrongSource),
+            (&faulty(0, 11, false)[..], Refusal::PacketTooShort),
+            (&faulty(0, 12, false)[..], Refusal::HeaderQueue),
+            (&plain(0, 0, 23, 12)[..], Refusal::NoArrivalCredit),
+            (&plain(0, 0, 0, 12)[..], Refusal::NoFreeNode),
+        ] {
+            assert_eq!(switch.arrive(4, header), Err(Refusal::NoSuchPort));
+            assert_eq!(switch.arrive(0, header), Err(refusal));
+        }
+    }
+}
+
+/// Each alone, where everything else is right; 23 and the poisoned flag are.
+#[test]
+fn queue_above_23_and_reserved_bit() {
+    let mut switch = switch(SMALL);
+    for queue in 24..32 {
+        let header = plain(0, 0, queue, 12);
+        assert_eq!(switch.arrive(0, &header), Err(Refusal::HeaderQueue));
+    }
+    let flags = |poisoned, reserved| header(0, 0, 23, 12, poisoned, reserved, 0, 0, 0);
+    for poisoned in [false, true] {
+        let header = flags(poisoned, true);
+        assert_eq!(switch.arrive(0, &header), Err(Refusal::ReservedBit));
+    }
+    assert_eq!(switch.arrive(0, &flags(true, false)), Ok(EntryId(0)));
 }
 
 /// Lengths that would be ten if they were cut to a byte or two.

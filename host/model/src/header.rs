@@ -1,17 +1,17 @@
 //! The ten-byte header, read.
 
 use crate::checksum::crc8;
-use crate::QUEUES;
 
-/// A header's fields. The reserved bit is ignored, so it isn't here.
+/// A header's fields, as they stand there.
 #[derive(Debug, Clone, Copy, PartialEq, Eq)]
 pub struct Header {
     pub destination: u8,
     pub source: u8,
-    /// As read: 24 to 31 in the header is 0 here.
+    /// 0 to 31, and so also ones that no switch has.
     pub queue: u8,
     pub length: u16,
     pub poisoned: bool,
+    pub reserved: bool,
     pub timestamp: u32,
     pub offered: u8,
     pub transaction: u8,
@@ -22,18 +22,13 @@ pub struct Header {
 /// Read ten bytes as a header.
 pub fn read(bytes: &[u8; 10]) -> Header {
     let [b0, b1, b2, ..] = bytes.map(u16::from);
-    let written_queue = (b0 & 0b1111) << 1 | b1 >> 7;
-    let queue = if u32::from(written_queue) < QUEUES {
-        written_queue
-    } else {
-        0
-    };
     Header {
         destination: (b0 >> 6) as u8,
         source: (b0 >> 4 & 0b11) as u8,
-        queue: queue as u8,
+        queue: ((b0 & 0b1111) << 1 | b1 >> 7) as u8,
         length: (b1 & 0b111_1111) << 6 | b2 >> 2,
         poisoned: b2 & 0b10 != 0,
+        reserved: b2 & 0b01 != 0,
         timestamp: u32::from_be_bytes([bytes[3], bytes[4], bytes[5], bytes[6]]),
         offered: bytes[7],
         transaction: bytes[8],

@@ -107,11 +107,17 @@ impl Ledger {
         if !header.checksum_fits {
             return Err(7);
         }
+        if header.reserved {
+            return Err(20);
+        }
         if u32::from(header.source) != port {
             return Err(8);
         }
         if u32::from(header.length) < SHORTEST {
             return Err(9);
+        }
+        if u32::from(header.queue) >= QUEUES {
+            return Err(19);
         }
         let queue = header.queue as usize;
         let price = price(

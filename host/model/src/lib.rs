@@ -1,5 +1,5 @@
 //! An independent model of the queue manager, written from papers 01 and 02
-//! (requests) alone.
+//! (requests) alone.
 //!
 //! The model keeps plain lists and numbers; it has no memory image. The
 //! caller's memory is only a length here, so that setup can refuse a short one.
@@ -32,6 +32,9 @@ pub const MOST_CREDIT: u32 = 65_535;
 pub const SHORTEST: u32 = 12;
 /// The most that 13 bits of length can say.
 pub const LONGEST: u32 = 8191;
+
+/// The numbers of the refusals.
+pub const REFUSALS: [u8; 17] = [1, 2, 3, 4, 5, 6, 7, 8, 9, 10, 11, 12, 13, 14, 15, 19, 20];
 
 /// The settings, fixed at setup.
 #[derive(Debug, Clone, Copy, PartialEq, Eq)]

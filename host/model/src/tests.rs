@@ -184,6 +184,7 @@ fn header_fields_are_read_back() {
         queue: 19,
         length: 5000,
         poisoned: true,
+        reserved: false,
         timestamp: 0x01020304,
         offered: 77,
         transaction: 99,
@@ -204,9 +205,10 @@ fn header_widths_hold_over_all_values() {
                         let read = header::read(&bytes);
                         assert_eq!(u128::from(read.destination), dest);
                         assert_eq!(u128::from(read.source), source);
-                        assert_eq!(u128::from(read.queue), if queue > 23 { 0 } else { queue });
+                        assert_eq!(u128::from(read.queue), queue);
                         assert_eq!(u128::from(read.length), length);
                         assert_eq!(read.poisoned, flags & 2 == 2);
+                        assert_eq!(read.reserved, flags & 1 == 1);
                         assert_eq!(read.timestamp, u32::MAX);
                         assert!(read.checksum_fits);
                     }
@@ -560,7 +562,7 @@ fn setup_starts_anew_but_a_refused_one_leaves_the_older_state() {
 }
 
 #[test]
-fn arrive_tests_in_table_order() {
+fn arrive_tests_in_the_papers_order() {
     let mut desk = Desk::new(Settings {
         nodes: 1,
         credit: 2,
@@ -572,11 +574,17 @@ fn arrive_tests_in_table_order() {
     for bytes in (0..=40).filter(|&bytes| bytes != 10) {
         assert_eq!(desk.arrive(0, &vec![0xFF; bytes]), Reply::Refused(6));
     }
-    let mut header = written(0, 1, 3, 11);
-    header[9] ^= 1;
-    assert_eq!(desk.arrive(0, &header), Reply::Refused(7));
-    assert_eq!(desk.arrive(0, &written(0, 1, 3, 11)), Reply::Refused(8));
-    assert_eq!(desk.arrive(0, &written(0, 0, 3, 11)), Reply::Refused(9));
+    for queue in 24..32 {
+        let faulty =
+            |source, length, flags| written_fully(0, source, queue, length, flags, 0, 0, 0);
+        let mut header = faulty(1, 11, 0b01);
+        header[9] ^= 1;
+        assert_eq!(desk.arrive(0, &header), Reply::Refused(7));
+        assert_eq!(desk.arrive(0, &faulty(1, 11, 0b01)), Reply::Refused(20));
+        assert_eq!(desk.arrive(0, &faulty(1, 11, 0b10)), Reply::Refused(8));
+        assert_eq!(desk.arrive(0, &faulty(0, 11, 0)), Reply::Refused(9));
+        assert_eq!(desk.arrive(0, &faulty(0, 8191, 0)), Reply::Refused(19));
+    }
     assert_eq!(desk.arrive(0, &written(0, 0, 3, 129)), Reply::Refused(10));
     assert_eq!(desk.arrive(0, &written(0, 0, 3, 128)), Reply::Refused(11));
     // Every wrong bit of the header is noticed.
@@ -706,8 +714,7 @@ fn a_turn_answers_every_recorded_field() {
         ..SMALL
     });
     desk.map(3, 1);
-    // The reserved bit is set and ignored.
-    let header = written_fully(3, 2, 11, 1000, 0b11, 0xDEAD_BEEF, 200, 0x5A);
+    let header = written_fully(3, 2, 11, 1000, 0b10, 0xDEAD_BEEF, 200, 0x5A);
     assert_eq!(desk.arrive(2, &header), Reply::Entry(4096));
     assert_eq!(
         desk.stitch(2),
@@ -732,23 +739,31 @@ fn a_turn_answers_every_recorded_field() {
 }
 
 #[test]
-fn queues_24_to_31_are_queue_0() {
-    for written_queue in 24..32 {
-        // K = 0: a price would be refused 10.
-        let mut desk = Desk::new(Settings { credit: 0, ..SMALL });
-        let header = written(0, 0, written_queue, 8191);
-        assert_eq!(desk.arrive(0, &header), Reply::Entry(0));
+fn queues_24_to_31_are_refused_19() {
+    let mut desk = Desk::new(SMALL);
+    for queue in 24..32 {
         assert_eq!(
-            desk.stitch(0),
-            Reply::Stitched([0, 0, 0x1F, 0xFF, 0, 0, 0, 0, 0, 0])
+            desk.arrive(0, &written(0, 0, queue, 12)),
+            Reply::Refused(19)
         );
-        assert_eq!(desk.prefetch(0, 0), Reply::Entry(0));
-        match desk.turn(0) {
-            Reply::Leaves(packet, Side::Inside) => {
-                assert_eq!((packet.queue, packet.price, packet.length), (0, 0, 8191));
-            }
-            other => panic!("{other:?}"),
-        }
+    }
+    assert_eq!(desk.arrive(0, &written(0, 0, 23, 12)), Reply::Entry(0));
+}
+
+/// Alone, and beside each fault that is tested later.
+#[test]
+fn a_reserved_bit_of_1_is_refused_20() {
+    let mut desk = Desk::new(Settings {
+        nodes: 1,
+        credit: 0,
+        ..SMALL
+    });
+    let reserved = |source, queue, length| written_fully(0, source, queue, length, 0b01, 0, 0, 0);
+    assert_eq!(desk.arrive(0, &reserved(0, 0, 12)), Reply::Refused(20));
+    assert_eq!(desk.arrive(0, &ACCEPTED_HEADER), Reply::Entry(0));
+    for (source, queue, length) in [(1, 0, 12), (0, 0, 11), (0, 24, 12), (0, 1, 12), (0, 0, 12)] {
+        let header = reserved(source, queue, length);
+        assert_eq!(desk.arrive(0, &header), Reply::Refused(20));
     }
 }
 

@@ -47,7 +47,7 @@ pub fn header(
 pub enum Profile {
     /// Mostly calls that succeed: fills, drains, credits.
     Valid,
-    /// Half the calls aim at a refusal, each of 4 to 15 often.
+    /// Half the calls aim at a refusal, each of the later ones than 3 often.
     Hostile,
     /// One or two nodes, one slot, little credit.
     Tiny,
@@ -88,7 +88,7 @@ impl Profile {
             Profile::Hostile => 50,
             Profile::Tiny => 20,
             Profile::Full => 8,
-            Profile::Resetup => 10,
+            Profile::Resetup => 12,
             Profile::Brim => 4,
         }
     }
@@ -141,6 +141,9 @@ const WRONG_NODES: [u32; 8] = [0, 2049, 2368, 4160, 65_535, 65_537, 70_000, u32:
 const WRONG_BEATS: [u32; 10] = [0, 1, 32, 63, 65, 96, 192, 1024, 65_600, u32::MAX];
 const WRONG_SLOTS: [u32; 6] = [0, 9, 255, 257, 70_000, u32::MAX];
 const WRONG_CREDITS: [u32; 5] = [65_536, 65_537, 70_000, 1 << 31, u32::MAX];
+
+// The refusals at which a hostile call aims.
+const AIMS: [u32; 14] = [4, 5, 6, 7, 8, 9, 10, 11, 12, 13, 14, 15, 19, 20];
 
 impl Phase {
     /// How often each of the steps, in the order of `STEPS`.
@@ -384,18 +387,26 @@ impl Traffic {
     fn arriving_queue(&mut self) -> u32 {
         match self.random.below(20) {
             0..=1 => 0,
-            2 => self.random.among(24, 31),
-            3..=6 => self.random.below(QUEUES),
+            2..=6 => self.random.below(QUEUES),
             _ if self.busy_queues.is_empty() => self.random.below(QUEUES),
             _ => self.random.pick(&self.busy_queues),
         }
     }
 
-    /// The same, but queue 0 in place of one that has no credit left at the port.
+    /// The same, or one in three times a queue that no switch has.
+    fn written_queue(&mut self) -> u32 {
+        if self.random.one_in(3) {
+            self.random.among(QUEUES, 31)
+        } else {
+            self.arriving_queue()
+        }
+    }
+
+    /// An arriving queue, but queue 0 in place of one that has no credit left at the port.
     fn covered_queue(&mut self, ledger: &Ledger, port: u32) -> u32 {
         let queue = self.arriving_queue();
         let credit = &ledger.ports[port as usize].arrival_credit;
-        if (1..QUEUES).contains(&queue) && credit[queue as usize] == 0 {
+        if queue > 0 && credit[queue as usize] == 0 {
             0
         } else {
             queue
@@ -417,8 +428,16 @@ impl Traffic {
         wanted.min(most).max(SHORTEST)
     }
 
-    /// A right header with random contents.
-    fn header(&mut self, source: u32, queue: u32, length: u32) -> Vec<u8> {
+    /// Any length that a header can say, too short ones often.
+    fn any_length(&mut self) -> u32 {
+        match self.random.below(3) {
+            0 => self.random.below(SHORTEST + 2),
+            _ => self.random.below(LONGEST + 1),
+        }
+    }
+
+    /// A header with random contents and no fault but those that are asked for.
+    fn header(&mut self, source: u32, queue: u32, length: u32, reserved: bool) -> Vec<u8> {
         let r = &mut self.random;
         let timestamp = match r.below(8) {
             0 => r.pick(&[0, 1, u32::MAX, 1 << 31]),
@@ -431,7 +450,7 @@ impl Traffic {
             queue,
             length,
             r.one_in(4),
-            r.one_in(4),
+            reserved,
             timestamp,
             offered,
             transaction,
@@ -451,11 +470,11 @@ impl Traffic {
         };
         let beat = ledger.settings.beat;
         let mut most = LONGEST;
-        if !careless && (1..QUEUES).contains(&queue) {
+        if !careless && queue > 0 {
             most = most.min(ledger.ports[port as usize].arrival_credit[queue as usize] * beat);
         }
         let length = self.length(most, beat);
-        let header = self.header(port, queue, length);
+        let header = self.header(port, queue, length, false);
         Some(Call::Arrive { port, header })
     }
 
@@ -535,10 +554,11 @@ impl Traffic {
     // Calls that aim at a refusal.
 
     fn hostile(&mut self, ledger: &Ledger) -> Call {
-        match self.random.below(14) {
-            0 | 1 => self.anything(ledger),
-            aim => self.aimed(2 + aim, ledger),
+        if self.random.one_in(7) {
+            return self.anything(ledger);
         }
+        let aim = self.random.pick(&AIMS);
+        self.aimed(aim, ledger)
     }
 
     /// A number of at least `least`: small, near a power of two, or huge. The
@@ -583,7 +603,7 @@ impl Traffic {
                 match self.random.below(7) {
                     0 => Call::Arrive {
                         port,
-                        header: self.header(port % 4, queue, SHORTEST),
+                        header: self.header(port % 4, queue, SHORTEST, false),
                     },
                     1 => Call::Stitch { port },
                     2 => Call::Prefetch { port, queue },
@@ -617,7 +637,7 @@ impl Traffic {
                 }
             }
             6 => {
-                let mut header = self.header(port, 0, SHORTEST);
+                let mut header = self.header(port, 0, SHORTEST, false);
                 let bytes = match self.random.below(20) {
                     10.. => self.random.among(11, 20),
                     fewer => fewer,
@@ -626,23 +646,42 @@ impl Traffic {
                 Call::Arrive { port, header }
             }
             7 => {
-                let queue = self.arriving_queue();
-                let mut header = self.header(port, queue, SHORTEST);
+                let queue = self.written_queue();
+                let reserved = self.random.one_in(4);
+                let mut header = self.header(port, queue, SHORTEST, reserved);
                 let byte = self.random.below(10) as usize;
                 header[byte] ^= 1 << self.random.below(8);
                 Call::Arrive { port, header }
             }
             8 => {
                 let source = (port + self.random.among(1, 3)) % 4;
-                let queue = self.arriving_queue();
-                let length = self.random.below(LONGEST + 1);
-                let header = self.header(source, queue, length);
+                let queue = self.written_queue();
+                let length = self.any_length();
+                let header = self.header(source, queue, length, false);
                 Call::Arrive { port, header }
             }
             9 => {
-                let queue = self.arriving_queue();
+                let queue = self.written_queue();
                 let length = self.random.below(SHORTEST);
-                let header = self.header(port, queue, length);
+                let header = self.header(port, queue, length, false);
+                Call::Arrive { port, header }
+            }
+            19 => {
+                let queue = self.random.among(QUEUES, 31);
+                let length = self.random.among(SHORTEST, LONGEST);
+                let header = self.header(port, queue, length, false);
+                Call::Arrive { port, header }
+            }
+            20 => {
+                // Alone, or beside faults that are tested later.
+                let source = if self.random.one_in(3) {
+                    self.random.below(4)
+                } else {
+                    port
+                };
+                let queue = self.written_queue();
+                let length = self.any_length();
+                let header = self.header(source, queue, length, true);
                 Call::Arrive { port, header }
             }
             10 => {
@@ -662,7 +701,7 @@ impl Traffic {
                     1 => self.random.among(least, LONGEST),
                     _ => least,
                 };
-                let header = self.header(port, queue, length);
+                let header = self.header(port, queue, length, false);
                 Call::Arrive { port, header }
             }
             11 => {
@@ -671,7 +710,7 @@ impl Traffic {
                     .min_by_key(|&port| ledger.ports[port as usize].free.len())
                     .unwrap();
                 let queue = self.covered_queue(ledger, port);
-                let header = self.header(port, queue, SHORTEST);
+                let header = self.header(port, queue, SHORTEST, false);
                 Call::Arrive { port, header }
             }
             12 => {
@@ -774,11 +813,9 @@ impl Traffic {
                     port % 4
                 };
                 let queue = self.random.below(32);
-                let length = match self.random.below(3) {
-                    0 => self.random.below(SHORTEST + 2),
-                    _ => self.random.below(LONGEST + 1),
-                };
-                let mut header = self.header(source, queue, length);
+                let length = self.any_length();
+                let reserved = self.random.one_in(4);
+                let mut header = self.header(source, queue, length, reserved);
                 if self.random.one_in(3) {
                     header[self.random.below(10) as usize] ^= self.random.word() as u8;
                 }

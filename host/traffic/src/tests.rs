@@ -1,14 +1,14 @@
 use std::collections::BTreeMap;
 
 use model::bench::bench;
-use model::{size, Call, Choice, Model, Reply};
+use model::{size, Call, Choice, Model, Reply, REFUSALS};
 
 use crate::{field, header, stream, Profile, Traffic};
 
-/// How often each answer came. Refusals are 1 to 15.
+/// How often each answer came. Refusals by their numbers.
 #[derive(Default, Debug)]
 struct Counts {
-    refused: [u64; 16],
+    refused: [u64; 21],
     accepted: BTreeMap<&'static str, u64>,
 }
 
@@ -58,7 +58,7 @@ fn run(profile: Profile, memory_len: usize) -> Counts {
         }
     }
     println!("{profile:?}: {:?}", counts.accepted);
-    println!("  refused 1 to 15: {:?}", &counts.refused[1..]);
+    println!("  refused 1 to 20: {:?}", &counts.refused[1..]);
     counts
 }
 
@@ -67,8 +67,8 @@ fn accepted(counts: &Counts) -> u64 {
 }
 
 fn each_refusal_at_least(counts: &Counts, least: u64) {
-    for refusal in 4..=15 {
-        let times = counts.refused[refusal];
+    for refusal in REFUSALS.into_iter().filter(|&refusal| refusal > 3) {
+        let times = counts.refused[refusal as usize];
         assert!(times >= least, "refusal {refusal}: {times} times");
     }
     assert!(counts.refused[3] > 0);
@@ -177,7 +177,7 @@ fn header_cards() {
 fn headers_are_read_back() {
     for dest in 0..4 {
         for source in 0..4 {
-            for queue in 0..24 {
+            for queue in 0..32 {
                 for length in (0..8192).step_by(63) {
                     let bytes = header(
                         dest,
@@ -196,6 +196,7 @@ fn headers_are_read_back() {
                     assert_eq!(u32::from(read.queue), queue);
                     assert_eq!(u32::from(read.length), length);
                     assert_eq!(read.poisoned, length % 2 == 0);
+                    assert_eq!(read.reserved, length % 3 == 0);
                     assert_eq!(read.timestamp, 0xFEDC_BA98);
                     assert_eq!((read.offered, read.transaction), (0x76, 0x54));
                     assert!(read.checksum_fits);

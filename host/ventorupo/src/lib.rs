@@ -69,7 +69,9 @@ pub fn size(nodes: u32) -> Option<usize> {
 fn done(number: u32) -> Result<(), Refusal> {
     match number {
         0 => Ok(()),
-        _ => Err(Refusal::from_number(number).expect("the library answers 0 to 15")),
+        _ => {
+            Err(Refusal::from_number(number).expect("the library answers 0 or a refusal's number"))
+        }
     }
 }
 

@@ -1,8 +1,8 @@
-//! The fifteen refusals.
+//! The seventeen refusals.
 
 use std::fmt;
 
-/// Why a call was refused; the paper's table, in its order. A refused call
+/// Why a call was refused; the papers' numbers, in their order. A refused call
 /// changes nothing.
 #[derive(Debug, Clone, Copy, PartialEq, Eq, Hash, PartialOrd, Ord)]
 pub enum Refusal {
@@ -36,11 +36,15 @@ pub enum Refusal {
     CreditOverflow,
     /// 15, map and where: id above 3; no such node.
     NoSuchIdOrNode,
+    /// 19, arrive: header's queue above 23.
+    HeaderQueue = 19,
+    /// 20, arrive: header's reserved bit is 1.
+    ReservedBit,
 }
 
 impl Refusal {
-    /// Every refusal, in the table's order.
-    pub const ALL: [Refusal; 15] = [
+    /// Every refusal, in the order of their numbers.
+    pub const ALL: [Refusal; 17] = [
         Refusal::ShortMemory,
         Refusal::SettingOutOfRow,
         Refusal::NoState,
@@ -56,17 +60,20 @@ impl Refusal {
         Refusal::SlotsInUse,
         Refusal::CreditOverflow,
         Refusal::NoSuchIdOrNode,
+        Refusal::HeaderQueue,
+        Refusal::ReservedBit,
     ];
 
-    /// The number in the paper's table, 1 to 15.
+    /// The number in the papers: 1 to 15, 19 or 20.
     pub fn number(self) -> u32 {
         self as u32
     }
 
-    /// The refusal of a number; none for any number but 1 to 15.
+    /// The refusal of a number, if it is one of a refusal.
     pub fn from_number(number: u32) -> Option<Refusal> {
-        let place = number.checked_sub(1)?;
-        Refusal::ALL.get(place as usize).copied()
+        Refusal::ALL
+            .into_iter()
+            .find(|refusal| refusal.number() == number)
     }
 }
 
@@ -88,6 +95,8 @@ impl fmt::Display for Refusal {
             Refusal::SlotsInUse => "D slots in use",
             Refusal::CreditOverflow => "sum above 65,535",
             Refusal::NoSuchIdOrNode => "id above 3; no such node",
+            Refusal::HeaderQueue => "header's queue above 23",
+            Refusal::ReservedBit => "header's reserved bit is 1",
         })
     }
 }

@@ -43,12 +43,12 @@ fn no_memory_at_all() {
 
 #[test]
 fn refusals_and_their_numbers() {
-    for (number, refusal) in (1..).zip(Refusal::ALL) {
+    for (number, refusal) in (1..=15).chain([19, 20]).zip(Refusal::ALL) {
         assert_eq!(refusal.number(), number);
         assert_eq!(Refusal::from_number(number), Some(refusal));
         assert!(!refusal.to_string().is_empty());
     }
-    for number in [0, 16, 17, 256 + 3, u32::MAX] {
+    for number in [0, 16, 17, 18, 21, 256 + 3, u32::MAX] {
         assert_eq!(Refusal::from_number(number), None);
     }
     assert_eq!(Refusal::Checksum.to_string(), "checksum differs");

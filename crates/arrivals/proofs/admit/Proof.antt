@@ -65,7 +65,7 @@ arrival-requires c κs =
       laid = st .pre .priced .laid;
       long = st .pre .long;
       port = st .pre .port;
-      queue = rw (queue-is k) (laws.queue-in (settingsOf (a .s)) (st .pre .priced .laid .roomy) _ (headerOf (a .f)));
+      queue = rw (queue-is k) (laws.queue-in (settingsOf (a .s)) _ (headerOf (a .f)) (st .pre .queue));
     }
 
 -- the credit is that of its queue

@@ -13,6 +13,9 @@ returns c =
     let a = c .before .before .before .args in
     laws.no-port (settingsOf (a .s)) (a .m .now) (a .port) (a .h .now) (c .if1 .taken)
 
+cast-judge : tie.Need-cast-judge
+cast-judge c = search needs
+
 judge-requires : tie.Need-judge-requires
 judge-requires c κs = search needs
 
@@ -24,7 +27,7 @@ enum-known-judged-2 c = search needs
 
 -- the header has no fault of its own
 passed : (c : tie.After-judged2) → let a = c .before .before .before .before .before .before .args in
-    good (headerOf (c .judged2 .given .0 .0)) ≡ verdict (a .port) (a .h .now)
+    good (headerOf (c .judged2 .given .0 .0)) ≡ verdict (a .s .queues) (a .port) (a .h .now)
 passed c = sym (ap verdictOf (c .judged2 .given .1)) ∙ c .before .before .judge .ensures
 
 admit-requires : tie.Need-admit-requires
@@ -32,9 +35,10 @@ admit-requires c κs =
     let e = c .before .before .before .before in
     let st = e .before .before .before in
     record {
-      priced = record { laid = st .pre .laid; len = laws.len-in (st .args .port) (st .args .h .now) _ (passed (c .before)) };
+      priced = record { laid = st .pre .laid; len = laws.len-in (st .args .s .queues) (st .args .port) (st .args .h .now) _ (passed (c .before)) };
       long = st .pre .state .long;
       port = e .if1 .left;
+      queue = laws.known-queue (st .args .s .queues) (st .args .port) (st .args .h .now) _ (passed (c .before));
     }
 
 returns-2 : tie.Need-returns-2
@@ -57,6 +61,7 @@ judge-arrive-spec =
     tie.close
     (tie.spec
     returns
+    cast-judge
     judge-requires
     enum-known-judged
     enum-known-judged-2

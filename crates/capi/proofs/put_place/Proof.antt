@@ -19,7 +19,7 @@ returns : tie.Need-returns
 returns c = let e = c .before .before .answer .given .1 in (rw e, rw e (c .place-bytes .ensures))
 
 returns-2 : tie.Need-returns-2
-returns-2 c = search needs
+returns-2 c = let e = c .before .before .answer2 .given .1 in (rw e (c .refusal .ensures), rw e)
 
 pub put-place-spec : {M : Type 1} → statement M
 put-place-spec =

@@ -28,7 +28,7 @@ returns-2 : tie.Need-returns-2
 returns-2 c = let e = c .before .before .answer .given .1 in (rw e, rw e (c .sent-bytes .ensures))
 
 returns-3 : tie.Need-returns-3
-returns-3 c = search needs
+returns-3 c = let e = c .before .before .answer2 .given .1 in (rw e (c .refusal .ensures), rw e)
 
 pub put-sent-spec : {M : Type 1} → statement M
 put-sent-spec =
