@@ -19,10 +19,13 @@
  *   13   all slots in use                           prefetch
  *   14   sum above 65,535                           credit
  *   15   id above 3; no such node                   map, where
+ *   19   header's queue above 23                    arrive
+ *   20   header's reserved bit is 1                 arrive
  *
  * A packet's price is its length divided by the beat, rounded up; packets of queue 0 are free.
  *
- * Setup tests 2, then 1. The others test 3 first, then in the table's order, but map tests 15 before 4.
+ * Setup tests 2, then 1. The others test 3 first, then in the table's order, but map tests 15 before 4, and arrive's order is
+ * 3, 4, 6, 7, 20, 8, 9, 19, 10, 11.
  *
  * What C asks remains the caller's: each pointer is valid, and not null, for the length given (a room for its whole size); pointers to
  * uint16_t, uint32_t and uint64_t are aligned; the memories lent to one call do not overlap; and no two calls run at once on a memory
