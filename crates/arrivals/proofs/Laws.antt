@@ -13,10 +13,10 @@ use Rattle.ledger.specs.Sound.{weigh, one, Roomy}
 use Rattle.ledger.proofs.Tests.{leb-is, leb-not, ltb-is, ltb-not}
 use Rattle.ledger.proofs.Places.{Place·In, place#-lt}
 use Rattle.ledger.proofs.Header.{fields-in}
-use Rattle.ledger.proofs.Admits as ledger
+use Rattle.ledger.proofs.Passes as ledger
 use Rattle.ledger.proofs.Steps.{cleared}
 use Rattle.header.specs.Judge.{Verdict, bad, good, verdict}
-use Rattle.header.proofs.Verdicts.{fields-are, good-passes}
+use Rattle.header.proofs.Verdicts.{good-means}
 use Rattle.layout.specs.declared.Shape.{Shape}
 use Rattle.layout.specs.declared.Table.the-variants.{Arrival, Count}
 use Rattle.layout.specs.Tables.{lists, get, settingsOf}
@@ -76,10 +76,10 @@ by-verdict (refuse n true ∷ rs) ts f no′ out = refl
 by-verdict (refuse n false ∷ rs) ts f no′ out = by-verdict rs ts f no′ out
 
 pub len-in : (n p : ℕ) (h : List ℕ) (f : Fields) → good f ≡ verdict n p h → f .len < 2 ^ 13
-len-in n p h f e = rw (fields-are n p h f e) (fields-in h .len)
+len-in n p h f e = rw (good-means n p h f e .0) (fields-in h .len)
 
 pub known-queue : (n p : ℕ) (h : List ℕ) (f : Fields) → good f ≡ verdict n p h → f .queue < n
-known-queue n p h f e = rw (fields-are n p h f e) (good-passes n p h f e .queue)
+known-queue n p h f e = let g = good-means n p h f e in rw (g .0) (g .1 .queue)
 
 module _ (S : Settings) (m : List ℕ) (p : ℕ) (h : List ℕ) where
   pub no-port : S .ports ≤ p → rejected 4 ≡ judgedArrival S m p h
@@ -97,7 +97,7 @@ module _ (S : Settings) (m : List ℕ) (p : ℕ) (h : List ℕ) where
     bad-header n e = ap (carried rejected (judgedFields S m p (fieldsOf h))) e ∙ by-header
 
     pub good-header : (f : Fields) → good f ≡ verdict (S .queues) p h → judgedFields S m p f ≡ judgedArrival S m p h
-    good-header f e = ap (judgedFields S m p) (fields-are (S .queues) p h f e) ∙ ap (carried rejected (judgedFields S m p (fieldsOf h))) e ∙ by-header
+    good-header f e = ap (judgedFields S m p) (good-means (S .queues) p h f e .0) ∙ ap (carried rejected (judgedFields S m p (fieldsOf h))) e ∙ by-header
 
 -- ---- from the judge to the outcome
 

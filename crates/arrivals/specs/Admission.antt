@@ -6,7 +6,7 @@ use lib.ListN.{length}
 use Rattle.ledger.specs.Settings.{Settings, size}
 use Rattle.ledger.specs.Rules.{guard}
 use Rattle.ledger.specs.Header.{Fields, fieldsOf}
-use Rattle.ledger.specs.Ledger.{Packet, recorded, free, place#, listAt, arrivalOf}
+use Rattle.ledger.specs.Ledger.{Packet, recorded, free, place#, arrivalOf}
 use Rattle.ledger.specs.Calls.{arrive, lastRules, rules}
 use Rattle.ledger.specs.Answers.{numberOf, sentOf}
 use Rattle.layout.specs.declared.Shape.{Shape}

@@ -10,7 +10,7 @@ use borrow.Author.Tests.{eq-eqb, ne-eqb, lt-ltb, le-ltb}
 use Rattle.crc.specs.Crc.{crc8}
 use Rattle.ledger.specs.Header.{Fields, fieldsOf, headerSize, leastLength, headerRules}
 use Rattle.ledger.proofs.Tests.{leb-is, leb-not}
-use Rattle.ledger.proofs.Admits.{Passes, passes}
+use Rattle.ledger.proofs.Passes.{Passes, passes}
 use Rattle.ledger.proofs.Steps.{guarded}
 use Rattle.ledger.proofs.Answers.{number-inj}
 use Rattle.header.specs.Parse.{fields, wrongSize, parsed}
@@ -66,17 +66,11 @@ module _ (n p : ℕ) (h : List ℕ) (f : Fields) (found : parsed h ≡ fields f)
           of-good has = rw (same, size, summed, unset, own, le-ltb (f .len) leastLength long, leb-not n (f .queue) has)
 
 -- what a good verdict says: the fields are the header's, and it has no fault
-pub fields-are : (n p : ℕ) (h : List ℕ) (f : Fields) → good f ≡ verdict n p h → f ≡ fieldsOf h
-fields-are n p h f =
-    guarded {X = Verdict} (λ v. good f ≡ v → f ≡ fieldsOf h) (headerRules n p h) bad (good (fieldsOf h))
+pub good-means : (n p : ℕ) (h : List ℕ) (f : Fields) → good f ≡ verdict n p h → (f ≡ fieldsOf h) × Passes n p h
+good-means n p h f =
+    guarded {X = Verdict} (λ v. good f ≡ v → (f ≡ fieldsOf h) × Passes n p h) (headerRules n p h) bad (good (fieldsOf h))
     (λ r e. absurd (let z : _≡_ {A = ℕ} 0 1 = cc in omega arith))
-    (λ c e. cc)
-
-pub good-passes : (n p : ℕ) (h : List ℕ) (f : Fields) → good f ≡ verdict n p h → Passes n p h
-good-passes n p h f =
-    guarded {X = Verdict} (λ v. good f ≡ v → Passes n p h) (headerRules n p h) bad (good (fieldsOf h))
-    (λ r e. absurd (let z : _≡_ {A = ℕ} 0 1 = cc in omega arith))
-    (λ c e. passes n p h c)
+    (λ c e. (cc, passes n p h c))
 
 pub verdictOf-injective : (a b : Judged) → verdictOf a ≡ verdictOf b → a ≡ b
 verdictOf-injective (Good a) (Good b) e = cc (headerOf-injective a b (cc))

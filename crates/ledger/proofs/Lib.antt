@@ -5,7 +5,7 @@ pub mod Header
 pub mod Ready
 pub mod Rows
 pub mod Keep
-pub mod Admits
+pub mod Passes
 pub mod Steps
 pub mod Find
 pub mod Start

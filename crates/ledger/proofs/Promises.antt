@@ -25,7 +25,7 @@ use Rattle.ledger.proofs.Keep.{some-queue, len, first-fits, first-node,
 use Rattle.ledger.proofs.Rows.{roomy}
 use Rattle.ledger.proofs.Find.{where-right, one-place}
 use Rattle.ledger.proofs.Start.{start-sound}
-use Rattle.ledger.proofs.Admits.{guard-after, Passes, passes, passes-clear, admits}
+use Rattle.ledger.proofs.Passes.{guard-after, Passes, passes, passes-clear, admits}
 use Rattle.ledger.proofs.Steps.{guarded, recorded-proper, picked-some, keep-step, keep-run}
 
 -- ---- a refusal leaves the desk as it was

@@ -3,7 +3,7 @@ use mathlib.Core.Path.{_≡_, refl, sym, ap, _∙_, subst}
 use mathlib.Core.Logic.{_≢_, _⊎_, inl, inr}
 use mathlib.Core.Bool.{Bool, true, false, cond, not, _&&_, _||_}
 use mathlib.Core.List.{List, [], _∷_, _++_}
-use Prim.Native.Nat.{ℕ, zero, suc, _+_, _-_, _*_, _≤_, _<_}
+use Prim.Native.Nat.{ℕ, _+_, _-_, _<_}
 use native.Mathlib.Omega.{arith}
 use lib.ListN.{length}
 use lib.Dec.{eqb, ltb, leb}
@@ -18,7 +18,7 @@ use Rattle.ledger.proofs.Tests.{leb-yes, leb-no, ltb-no, or-left}
 use Rattle.ledger.proofs.Places.{Place·In}
 use Rattle.ledger.proofs.Keep.{Fits, some-queue, first-fits, first-node, keep-moved, keep-traded, keep-outward, keep-last, keep-mapped, lowered, raised}
 use Rattle.ledger.proofs.Header.{fields-in}
-use Rattle.ledger.proofs.Admits.{Passes, Admits, admits}
+use Rattle.ledger.proofs.Passes.{Passes, Admits, admits}
 use Rattle.ledger.proofs.Ready.{picked-ready}
 
 -- what holds of each refusal, and of the outcome where none applies, holds of what the rules decide
@@ -82,16 +82,15 @@ module _ (S : Settings) (roomy : Roomy S) where
         (λ a b i. absurd (let z : _≡_ {A = ℕ} 0 1 = cc in omega arith))
         (own, tt, good)
         p (k .queue) (arrivalOf S L p (k .queue) - k .price)
-        (λ r t ht. omega (arith, low-by r t ht own good (a .afford) (a .port)))
+        (λ r t ht. omega (arith, low-by r t ht own good a))
       where
-        low-by : (r t : ℕ) → t < S .queues → owner (arriving S L p h .node) ≡ p → Proper S (arriving S L p h)
-            → arriving S L p h .price ≤ arrivalOf S L p (arriving S L p h .queue) → p < S .ports
+        low-by : (r t : ℕ) → t < S .queues → owner (arriving S L p h .node) ≡ p → Proper S (arriving S L p h) → Admits S L p h
             → arrivalOf S (putArrival S p (arriving S L p h .queue) (arrivalOf S L p (arriving S L p h .queue) - arriving S L p h .price) L) r t
             + owes r t (arriving S L p h) ≡ arrivalOf S L r t
-        low-by r t ht own good afford hp =
+        low-by r t ht own good a =
             let k : Packet = arriving S L p h in
             subst (λ (a : ℕ). arrivalOf S (putArrival S a (k .queue) (arrivalOf S L a (k .queue) - k .price) L) r t + owes r t k ≡ arrivalOf S L r t) own
-            (lowered S roomy L s k good (omega arith) (rw own afford) r t ht)
+            (lowered S roomy L s k good (omega (arith, a .port)) (rw own (a .afford)) r t ht)
 
     -- stitch
     keep-stitched : (p : ℕ) → p < S .ports → isEmpty (listAt S L (ingress p)) ≡ false

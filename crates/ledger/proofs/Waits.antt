@@ -23,7 +23,7 @@ use Rattle.ledger.proofs.Places.{Place·In, place#-inj, bit-le, cell-lt
 use Rattle.ledger.proofs.Keep.{some-queue, first-fits, first-node, from-moved, to-moved, else-moved}
 use Rattle.ledger.proofs.Ready.{gap, gap-pos, gap-le, picked-lt, word-some, picked-nearer}
 use Rattle.ledger.proofs.Rows.{roomy, this-build}
-use Rattle.ledger.proofs.Admits.{Admits, admits}
+use Rattle.ledger.proofs.Passes.{Admits, admits}
 use Rattle.ledger.proofs.Steps.{guarded, picked-some, keep-step}
 
 -- adding to one credit lowers none

@@ -23,7 +23,7 @@ use Rattle.ledger.proofs.Places.{Place·In, place#-lt, row-mod, column-lt, Node
 use Rattle.ledger.proofs.Header.{price-free}
 use Rattle.ledger.proofs.Keep.{some-queue, first-fits, first-node}
 use Rattle.ledger.proofs.Rows.{roomy}
-use Rattle.ledger.proofs.Admits.{Admits, admits}
+use Rattle.ledger.proofs.Passes.{Admits, admits}
 use Rattle.ledger.proofs.Steps.{guarded, cleared, recorded-proper, picked-some, keep-served, keep-step}
 use Rattle.layout.specs.declared.Table.the-variants.{Mapped, Last, Arrival, Outward, Head}
 use Rattle.layout.specs.Tables.{lists, get, put}

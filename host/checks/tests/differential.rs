@@ -3,8 +3,8 @@
 use checks::counts::Counts;
 use checks::run::{run, Plan};
 use checks::{damage, library, wrapper, Desk};
-use model::{size, Call, Model, Reply};
-use traffic::{Profile, Traffic};
+use model::{size, Call, Model, Reply, Settings};
+use traffic::{header, Profile, Traffic};
 
 const NODES: [u32; 7] = [1, 2, 4, 16, 64, 256, 257];
 
@@ -100,6 +100,60 @@ fn full_pools_of_1000_nodes() {
 #[test]
 fn full_pools_of_2048_nodes() {
     full_pools(2048, 1);
+}
+
+/// Every reserved bit, source and queue with lengths at the edges, and the
+/// checksum right or wrong: each fault alone and beside every other.
+fn headers_with_faults() -> Vec<Vec<u8>> {
+    let mut headers = Vec::new();
+    for reserved in [false, true] {
+        for source in 0..4 {
+            for queue in 0..32 {
+                for length in [0, 11, 12, 64, 65, 8191] {
+                    let right = header(3, source, queue, length, true, reserved, 5, 6, 7).to_vec();
+                    let mut wrong = right.clone();
+                    wrong[9] ^= 1;
+                    headers.extend([right, wrong]);
+                }
+            }
+        }
+    }
+    headers
+}
+
+/// All of them at a port with and without a free node and credit.
+#[test]
+fn headers_with_every_mix_of_faults() {
+    let mut counts = Counts::default();
+    for (taken, credit) in [(false, 1), (false, 0), (true, 1), (true, 0)] {
+        let (nodes, beat, slots) = (1, 64, 1);
+        let mut calls = vec![Call::Setup(Settings {
+            nodes,
+            beat,
+            slots,
+            credit,
+        })];
+        if taken {
+            let header = header(0, 2, 0, 12, false, false, 0, 0, 0).to_vec();
+            calls.push(Call::Arrive { port: 2, header });
+        }
+        let (mut start, mut model) = (vec![0; size(nodes)], Model::new(size(nodes)));
+        for call in &calls {
+            assert_eq!(library::call(&mut start, call), Ok(model.call(call)));
+        }
+        for header in headers_with_faults() {
+            let call = Call::Arrive { port: 2, header };
+            let (mut memory, wanted) = (start.clone(), model.clone().call(&call));
+            assert_eq!(library::call(&mut memory, &call), Ok(wanted), "{call:?}");
+            let refused = matches!(wanted, Reply::Refused(_));
+            assert_eq!(memory == start, refused, "{call:?}");
+            counts.note(&call, &wanted);
+        }
+    }
+    println!("{counts}");
+    for number in [7, 20, 8, 9, 19, 10, 11] {
+        assert!(counts.refused(number) > 0, "refusal {number}");
+    }
 }
 
 /// Memory that no state fits into, of any length down to none.

@@ -695,7 +695,7 @@ impl Traffic {
                     queue
                 };
                 let covered = at.arrival_credit[queue as usize] * ledger.settings.beat;
-                let least = (covered + 1).max(SHORTEST).min(LONGEST);
+                let least = (covered + 1).clamp(SHORTEST, LONGEST);
                 let length = match self.random.below(3) {
                     0 => LONGEST,
                     1 => self.random.among(least, LONGEST),

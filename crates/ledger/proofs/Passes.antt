@@ -1,7 +1,7 @@
 -- What is known of an arrival that no refusal turns away, each fact by its name. Proofs take these facts from here and never by their
 -- place among the rules, so a rule that comes or moves is paid here. Assumes nothing.
-use mathlib.Core.Path.{_≡_, refl, sym, ap}
-use mathlib.Core.Bool.{Bool, true, false, not}
+use mathlib.Core.Path.{_≡_, refl, ap}
+use mathlib.Core.Bool.{true, false, not}
 use mathlib.Core.List.{List, [], _∷_, _++_}
 use Prim.Native.Nat.{ℕ, _≤_, _<_}
 use lib.ListN.{length, take}
