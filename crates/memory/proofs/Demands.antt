@@ -8,14 +8,15 @@ use lib.ListN.{length, getD, take}
 use Rattle.ledger.specs.Settings.{Settings}
 use Rattle.ledger.specs.Ledger.{owner, isNode, Packet, Place, place#, free, Ledger, listAt}
 use Rattle.ledger.specs.Ready.{bit}
-use Rattle.ledger.specs.Calls.{Act, turn, whereIs, Reply, refused, leaves, found, sideOf, step, run, answers}
+use Rattle.ledger.specs.Calls.{Act, arrive, turn, whereIs, Reply, refused, leaves, found, sideOf, step, run, answers}
 use Rattle.ledger.specs.Desk.{Desk, none, has, Call, act, onDesk, desk}
 use Rattle.ledger.specs.Sound.{All, Orderly, Sound}
 use Rattle.ledger.specs.Demand.{isRefused, isTurn, turnsOf, NobodyStarves24}
 use Rattle.ledger.proofs.Places.{Place·In, place#-lt}
 use Rattle.ledger.proofs.Rows.{roomy, this-build}
 use Rattle.ledger.proofs.Find.{where-right}
-use Rattle.ledger.proofs.Promises.{OnePlace, each-in-one-place, First-in-first-out, run-in-order, home-only, refusal-keeps-desk}
+use Rattle.ledger.proofs.Passes.{Passes}
+use Rattle.ledger.proofs.Promises.{means-sound, Wanting, sound-arrival, OnePlace, each-in-one-place, First-in-first-out, run-in-order, home-only, refusal-keeps-desk}
 use Rattle.ledger.proofs.Waits.{nobody-starves-24}
 use Rattle.layout.specs.Tables.{lists}
 use Rattle.layout.specs.Picture.{settingsIn, ledgerIn, State}
@@ -107,6 +108,16 @@ module _ (m : List ℕ) (S : Settings) (L : Ledger) (e : picture m ≡ has S L) 
   pub memory-home : (acts : List Act) (p : ℕ) → p < S .ports
       → (N : Ledger) × (picture (afterActs m acts) ≡ has S N) × All (λ k. owner (k .node) ≡ p) (listAt S N (free p))
   memory-home acts p hp = (run S L acts, acts-picture S m L e acts, home-only S (roomy S (s .rows)) L (s .orderly) acts p hp)
+
+  -- a header with no fault, at a port of the switch: turned away only for want of credit or of a node
+  pub memory-arrival : (p : ℕ) (h : List ℕ) → p < S .ports → Passes (S .queues) p h
+      → (N : Ledger) × (picture (M (act (arrive p h)) m .1) ≡ has S N) × Wanting S L p h (M (act (arrive p h)) m .0, N)
+  memory-arrival p h hp f = (
+    step S L (arrive p h) .1,
+    act-picture S m L e (arrive p h),
+    subst (λ (r : Reply). Wanting S L p h (r, step S L (arrive p h) .1)) (sym (act-answer S m L e (arrive p h)))
+        (sound-arrival S L p h (means-sound S p h hp f)),
+  )
 
 -- ---- on a memory that is no state every act is refused 3
 

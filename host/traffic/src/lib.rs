@@ -47,7 +47,7 @@ pub fn header(
 pub enum Profile {
     /// Mostly calls that succeed: fills, drains, credits.
     Valid,
-    /// Half the calls aim at a refusal, each of the later ones than 3 often.
+    /// Half the calls aim at a refusal, each above 3 often.
     Hostile,
     /// One or two nodes, one slot, little credit.
     Tiny,
