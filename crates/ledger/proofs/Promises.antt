@@ -85,11 +85,11 @@ sound-means S p h c = (leb-no (S .ports) p (c .0), passes (S .queues) p h (c .1)
 pub means-sound : (S : Settings) (p : ℕ) (h : List ℕ) → p < S .ports → Passes (S .queues) p h → SoundArrival S p h
 means-sound S p h hp f = (leb-not (S .ports) p hp, passes-clear (S .queues) p h f)
 
--- why it may be turned away all the same
+-- why it may be turned away all the same, with nothing changed; else it is taken in, by the oldest free node and as the ledger says
 pub data Wanting (S : Settings) (L : Ledger) (p : ℕ) (h : List ℕ) : Reply × Ledger → Type 0 where
   no-credit : arrivalOf S L p (arriving S L p h .queue) < arriving S L p h .price → Wanting S L p h (refused 10, L)
   no-node : listAt S L (free p) ≡ [] → Wanting S L p h (refused 11, L)
-  taken-in : (M : Ledger) → Wanting S L p h (entry (firstOf S L (free p) .node), M)
+  taken-in : Wanting S L p h (entry (firstOf S L (free p) .node), arrived S L p (arriving S L p h))
 
 empty-is : (ks : List Packet) → isEmpty ks ≡ true → ks ≡ []
 empty-is [] e = refl
@@ -104,7 +104,7 @@ sound-arrival S L p h c =
         → Wanting S L p h (guard (refuse 10 a ∷ refuse 11 b ∷ []) (λ n. (refused n, L)) (result S L (arrive p h)))
     go true d b e = no-credit (ltb-yes (arrivalOf S L p (arriving S L p h .queue)) (arriving S L p h .price) d)
     go false d true e = no-node (empty-is (listAt S L (free p)) e)
-    go false d false e = taken-in (arrived S L p (arriving S L p h))
+    go false d false e = taken-in
 
 -- ---- none but queue 0 goes for nothing: rule (f) makes every recorded packet proper, and such a one pays
 
