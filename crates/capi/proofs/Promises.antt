@@ -5,12 +5,11 @@ use mathlib.Core.List.{List}
 use Prim.Native.Nat.{ℕ, _≤_}
 use native.Mathlib.Omega.{arith}
 use Rattle.ledger.specs.Settings.{settings, row, size}
-use Rattle.ledger.specs.Calls.{Reply, refused, done, entry, stitched, idle, leaves, word, found}
+use Rattle.ledger.specs.Calls.{Reply, refused, done, entry, stitched, idle, leaves, word, found, isRefused}
 use Rattle.ledger.specs.Desk.{Call}
 use Rattle.ledger.specs.Answers.{numberOf}
 use Rattle.ledger.specs.declared.Refusal.{Refusal}
 use Rattle.ledger.specs.declared.Refusal.the-variants.{ShortMemory, BadSetting, NoState, NoPort, NoQueue, HeaderSize, Checksum, Source, TooShort, NoCredit, NoFreeNode, NothingThere, SlotsInUse, TooMuchCredit, NoSuchId, HeaderQueue, ReservedBit}
-use Rattle.ledger.specs.Demand.{isRefused}
 use Rattle.memory.specs.Memory.{M}
 use Rattle.memory.proofs.Square.{refusal-keeps-bytes}
 use Rattle.capi.specs.Rooms.{numberIn, toldIn, entryRoom, recordRoom, sentRoom, readyRoom, placeRoom}

@@ -12,5 +12,8 @@ pub mod Start
 pub mod Decide
 pub mod Waits
 pub mod Promises
+pub mod Courses
+pub mod Order
+pub mod Night
 pub mod Answers
 pub mod Cards

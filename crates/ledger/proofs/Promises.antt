@@ -13,16 +13,16 @@ use Rattle.ledger.specs.Settings.{Settings, settings, inRows}
 use Rattle.ledger.specs.Rules.{Rule, refuse, guard, Clear}
 use Rattle.ledger.specs.Header.{fieldsOf, headerRules}
 use Rattle.ledger.specs.Ledger.{owner, isNode, Packet, bare, recorded, Place, free, ingress, egress, prefetched, place#, placeOf, Ledger, listAt, arrivalOf, outwardOf, lastOf, mapOf, move, putArrival, putOutward, putLast, putMap, start}
-use Rattle.ledger.specs.Ready.{readyWord, pick}
-use Rattle.ledger.specs.Calls.{Act, arrive, stitch, prefetch, credit, mapTo, turn, ready, whereIs, Side, Reply, refused, done, entry, stitched, idle, leaves, word, found, sideOf, noPort, isEmpty, firstOf, arriving, lastRules, arrived, served, serve, turned, rules, result, step, run}
+use Rattle.ledger.specs.Ready.{isReady, wordOf, countOf, readyWord, pick}
+use Rattle.ledger.specs.Calls.{Act, arrive, stitch, prefetch, credit, mapTo, turn, ready, whereIs, Side, Reply, refused, done, entry, stitched, idle, leaves, word, found, isRefused, sideOf, noPort, isEmpty, firstOf, arriving, lastRules, arrived, served, serve, turned, rules, result, step, run}
 use Rattle.ledger.specs.Desk.{Desk, none, has, Call, setup, act, setupRules, onDesk, desk, after}
 use Rattle.ledger.specs.Sound.{All, OwnPort, Proper, Orderly, Roomy, Sound}
-use Rattle.ledger.specs.Demand.{isRefused}
 use Rattle.ledger.proofs.Tests.{true≢false, leb-no, leb-not, ltb-yes, eqb-yes, eqb-no, not-yes}
 use Rattle.ledger.proofs.Header.{price-pays}
 use Rattle.ledger.proofs.Places.{Place·In, place#-inj, place-number}
 use Rattle.ledger.proofs.Keep.{some-queue, len, first-fits, first-node, from-moved, to-moved, else-moved}
 use Rattle.ledger.proofs.Rows.{roomy}
+use Rattle.ledger.proofs.Ready.{count-is-ones}
 use Rattle.ledger.proofs.Find.{where-right, one-place}
 use Rattle.ledger.proofs.Start.{start-sound}
 use Rattle.ledger.proofs.Passes.{guard-after, Passes, passes, passes-clear, admits}
@@ -72,6 +72,13 @@ idle-keeps S L p hp = rw (leb-not (S .ports) p hp) (go (eqb (readyWord S L p) 0)
     go true e = inl (eqb-yes (readyWord S L p) 0 e, refl)
     go false e = inr (eqb-no (readyWord S L p) 0 e, refl)
 
+-- ---- ready's answer: bit q of the word says whether queue q is ready, and the count is the number of ready queues
+
+pub ready-counts : (S : Settings) (L : Ledger) (p : ℕ) → p < S .ports
+    → step S L (ready p) ≡ (word (wordOf (isReady S L p) (S .queues)) (countOf (isReady S L p) (S .queues)), L)
+unfolding readyWord
+ready-counts S L p hp = rw (leb-not (S .ports) p hp, count-is-ones (isReady S L p) (S .queues))
+
 -- ---- a sound arrival is turned away only for want of credit or of a node
 
 -- no refusal tested before 10 applies: 4, 6, 7, 20, 8, 9 and 19 (3 is the desk's: there is a ledger)
@@ -118,125 +125,14 @@ unfolding recorded
 no-free-ride S ok L p h c above =
     none-for-nothing S ok (arriving S L p h) (recorded-proper S ok (firstOf S L (free p) .node) p h (admits S L p h c .header)) above
 
--- ---- queues keep their order
-
--- a list in which nothing happens, or whose oldest leaves, or to which a last one comes
-pub data Orderly-change (xs ys : List Packet) : Type 0 where
-  same : ys ≡ xs → Orderly-change xs ys
-  oldest-left : isEmpty xs ≡ false → ys ≡ drop 1 xs → Orderly-change xs ys
-  last-came : (k : Packet) → ys ≡ xs ++ (k ∷ []) → Orderly-change xs ys
-
-module _ (S : Settings) (ok : Roomy S) (L : Ledger) (s : Orderly S L) where
-  moved-in-order : (v w : Place) → Place·In S v → Place·In S w → isEmpty (listAt S L v) ≡ false → v ≢ w → (k : Packet) → k .node ≡ firstOf S L v .node
-      → (u : Place) → Place·In S u → Orderly-change (listAt S L u) (listAt S (move S v w k L) u)
-  moved-in-order v w hv hw e d k n u hu = go (ℕ-discrete (place# S u) (place# S v)) (ℕ-discrete (place# S u) (place# S w))
-    where
-      go : Dec (place# S u ≡ place# S v) → Dec (place# S u ≡ place# S w) → Orderly-change (listAt S L u) (listAt S (move S v w k L) u)
-      go (yes i) j = oldest-left (rw i e) (rw i (from-moved S ok L s v hv e w hw k n d))
-      go (no i) (yes j) = last-came k (rw j (to-moved S ok L s v hv e w hw k n d))
-      go (no i) (no j) = same (else-moved S ok L s v hv e w hw k n d u hu (λ z. i (ap (place# S) z)) (λ z. j (ap (place# S) z)))
-
-  abbrev InOrder : Ledger → Type 0
-  InOrder M = (u : Place) → Place·In S u → Orderly-change (listAt S L u) (listAt S M u)
-
-  served-in-order : (p q : ℕ) → p < S .ports → q < S .queues → isEmpty (listAt S L (prefetched p q)) ≡ false → InOrder (served S L p q (firstOf S L (prefetched p q)))
-  unfolding served putLast putOutward putArrival
-  served-in-order p q hp hq e =
-      let n = first-node S ok L s (prefetched p q) (hp, hq) e in
-      moved-in-order (prefetched p q) (free (owner (firstOf S L (prefetched p q) .node))) (hp, hq) (n .home, some-queue S ok L s) e
-      (λ i. let z : _≡_ {A = ℕ} 0 1 = cc in omega arith) (bare (firstOf S L (prefetched p q) .node)) refl
-
-  result-in-order : (a : Act) → Clear (rules S L a) → InOrder (result S L a .1)
-  result-in-order (arrive p h) c =
-      let a = admits S L p h c in
-      let v-in : Place·In S (free p) = (a .port, some-queue S ok L s) in
-      unfold arrived putArrival in
-      moved-in-order (free p) (ingress p) v-in v-in (a .some)
-      (λ i. let z : _≡_ {A = ℕ} 0 1 = cc in omega arith) (arriving S L p h) (unfold recorded in refl)
-  result-in-order (stitch p) c =
-      let v-in : Place·In S (ingress p) = (leb-no (S .ports) p (c .0), some-queue S ok L s) in
-      let k : Packet = firstOf S L (ingress p) in
-      let f = first-fits S ok L s (ingress p) v-in (c .1 .0) in
-      moved-in-order (ingress p) (egress (mapOf L (k .dest)) (k .queue)) v-in (s .ranges .map-in (k .dest) (f .2 .dest-in), f .2 .queue-in) (c .1 .0)
-      (λ i. let z : _≡_ {A = ℕ} 0 1 = cc in omega arith) k refl
-  result-in-order (prefetch p q) c =
-      let hp : p < S .ports = leb-no (S .ports) p (c .0) in
-      let hq : q < S .queues = leb-no (S .queues) q (c .1 .0) in
-      moved-in-order (egress p q) (prefetched p q) (hp, hq) (hp, hq) (c .1 .1 .0)
-      (λ i. let z : _≡_ {A = ℕ} 0 1 = cc in omega arith) (firstOf S L (egress p q)) refl
-  result-in-order (credit p q n) c = λ u hu. unfold putOutward in same refl
-  result-in-order (mapTo d p) c = λ u hu. unfold putMap in same refl
-  result-in-order (turn p) c = go (eqb (readyWord S L p) 0) (picked-some S ok L s p (leb-no (S .ports) p (c .0)))
-    where
-      t : ℕ
-      t = pick (lastOf L p) (readyWord S L p)
-
-      go : (b : Bool) → (b ≡ false → (t < S .queues) × (isEmpty (listAt S L (prefetched p t)) ≡ false)) → InOrder ((cond b (idle, L) (serve S L p t)) .1)
-      go true f = λ u hu. same refl
-      go false f = served-in-order p t (leb-no (S .ports) p (c .0)) (f refl .0) (f refl .1)
-  result-in-order (ready p) c = λ u hu. same refl
-  result-in-order (whereIs y) c = λ u hu. same refl
-
-  pub act-in-order : (a : Act) → InOrder (step S L a .1)
-  act-in-order a = guarded (λ out. InOrder (out .1)) (rules S L a) (λ n. (refused n, L)) (result S L a) (λ n u hu. same refl) (result-in-order a)
-
--- over any acts: of what stood there and what came, in the order in which it came, the oldest left
-pub record First-in-first-out (xs ys : List Packet) : Type 0 where
-  pub came : List Packet
-  pub left : ℕ
-  pub enough : left ≤ length (xs ++ came)
-  pub what-stays : ys ≡ drop left (xs ++ came)
-
-one-change : (xs ys : List Packet) → Orderly-change xs ys → First-in-first-out xs ys
-one-change xs ys (same e) = record { came = []; left = 0; enough = zero-le; what-stays = e ∙ sym (append-nil xs) }
-one-change xs ys (oldest-left n e) = record { came = []; left = 1; enough = rw (append-nil xs) (some xs n); what-stays = e ∙ ap (drop 1) (sym (append-nil xs)) }
-  where
-    some : (ks : List Packet) → isEmpty ks ≡ false → 1 ≤ length ks
-    some [] d = absurd (true≢false d)
-    some (k ∷ ks) d = suc-le-suc zero-le
-one-change xs ys (last-came k e) = record { came = k ∷ []; left = 0; enough = zero-le; what-stays = e }
-
-then-too : (xs ys zs : List Packet) → First-in-first-out xs ys → First-in-first-out ys zs → First-in-first-out xs zs
-then-too xs ys zs f g =
-    let line : ys ++ g .came ≡ drop (f .left) (xs ++ (f .came ++ g .came)) =
-    ap (λ (l : List Packet). l ++ g .came) (f .what-stays)
-    ∙ sym (drop-append-le (f .left) (xs ++ f .came) (g .came) (f .enough))
-    ∙ ap (drop (f .left)) (append-assoc xs (f .came) (g .came)) in
-    record {
-      came = f .came ++ g .came;
-      left = f .left + g .left;
-      enough =
-          omega (
-            arith,
-            g .enough,
-            f .enough,
-            ap length line,
-            length-drop (f .left) (xs ++ (f .came ++ g .came)),
-            length-append xs (f .came),
-            length-append xs (f .came ++ g .came),
-            length-append (f .came) (g .came),
-          );
-      what-stays = g .what-stays ∙ ap (drop (g .left)) line ∙ drop-drop (g .left) (f .left) (xs ++ (f .came ++ g .came));
-    }
-
-pub run-in-order : (S : Settings) → Roomy S → (L : Ledger) → Orderly S L → (acts : List Act) (u : Place) → Place·In S u
-    → First-in-first-out (listAt S L u) (listAt S (run S L acts) u)
-run-in-order S ok L s [] u hu = one-change (listAt S L u) (listAt S L u) (same refl)
-run-in-order S ok L s (a ∷ acts) u hu =
-    then-too (listAt S L u) (listAt S (step S L a .1) u) (listAt S (run S (step S L a .1) acts) u)
-    (one-change (listAt S L u) (listAt S (step S L a .1) u) (act-in-order S ok L s a u hu))
-    (run-in-order S ok (step S L a .1) (keep-step S ok L s a) acts u hu)
-
 -- ---- nodes go home to their owner
 
--- only a port's own nodes stand in its free list, after any acts
-pub home-only : (S : Settings) → Roomy S → (L : Ledger) → Orderly S L → (acts : List Act) (p : ℕ) → p < S .ports
-    → All (λ k. owner (k .node) ≡ p) (listAt S (run S L acts) (free p))
-home-only S ok L s acts p hp =
-    let t = keep-run S ok L s acts in
+-- only a port's own nodes stand in its free list
+pub home-only : (S : Settings) → Roomy S → (L : Ledger) → Orderly S L → (p : ℕ) → p < S .ports → All (λ k. owner (k .node) ≡ p) (listAt S L (free p))
+home-only S ok L s p hp =
     let v-in : Place·In S (free p) = (hp, some-queue S ok L s) in
-    let a = t .owned .holds (place# S (free p)) (len S ok (run S L acts) t (free p) v-in) in
-    subst (λ (u : Place). All (λ k. OwnPort u k) (listAt S (run S L acts) (free p))) (place-number S (free p) v-in) a
+    let a = s .owned .holds (place# S (free p)) (len S ok L s (free p) v-in) in
+    subst (λ (u : Place). All (λ k. OwnPort u k) (listAt S L (free p))) (place-number S (free p) v-in) a
 
 -- the packet that leaves was its list's oldest, and its node goes to the back of its owner's free list
 pub sent-home : (S : Settings) → Roomy S → (L : Ledger) → Orderly S L → (p q : ℕ) → p < S .ports → q < S .queues

@@ -15,9 +15,9 @@ use Rattle.ledger.specs.Rules.{guard, Clear}
 use Rattle.ledger.specs.Header.{fieldsOf, leastLength}
 use Rattle.ledger.specs.Ledger.{owner, Packet, bare, recorded, Place, free, ingress, egress, prefetched, place#, Ledger, listAt, arrivalOf, outwardOf, lastOf, mapOf, creditAt, setCredit, cell, move, putArrival, putOutward, putLast, putMap}
 use Rattle.ledger.specs.Ready.{bit, covered, isReady, wordOf, readyWord, pick}
-use Rattle.ledger.specs.Calls.{Act, arrive, stitch, prefetch, credit, mapTo, turn, ready, whereIs, Reply, refused, idle, leaves, sideOf, isEmpty, firstOf, arriving, arrived, served, serve, turned, rules, result, step, run}
+use Rattle.ledger.specs.Calls.{Act, arrive, stitch, prefetch, credit, mapTo, turn, ready, whereIs, Reply, refused, idle, leaves, isRefused, sideOf, isEmpty, firstOf, arriving, arrived, served, serve, turned, rules, result, step, run}
 use Rattle.ledger.specs.Sound.{sum, Proper, Orderly, Roomy, Sound}
-use Rattle.ledger.specs.Demand.{isRefused, isTurn, turnsOf, InHand, Stands, LeavesWithin, NobodyStarves, NobodyStarves24}
+use Rattle.ledger.specs.Demand.{isTurn, turnsOf, InHand, Stands, LeavesWithin, NobodyStarves}
 use Rattle.ledger.proofs.Tests.{true≢false, leb-is, leb-no, leb-not, eqb-is, eqb-yes, eqb-no, ltb-no, or-is, or-is-right}
 use Rattle.ledger.proofs.Places.{Place·In, place#-inj, bit-le, cell-lt, credit-same, credit-other}
 use Rattle.ledger.proofs.Keep.{some-queue, first-fits, first-node, from-moved, to-moved, else-moved}
@@ -376,11 +376,3 @@ unfolding NobodyStarves
 nobody-starves S ok L s p q hp hq ahead k e c acts h =
     leaves-in S ok p q hp hq k acts (S .queues * (length ahead + 1)) L s
     (record { ahead = ahead; behind = e .behind; stands = e .there; affords = c; soon = omega (arith, gap-le (lastOf L p) q (S .queues) hq) }) h
-
-pub nobody-starves-24 : NobodyStarves24
-unfolding NobodyStarves NobodyStarves24
-nobody-starves-24 S L s p q n hp hq ahead k e l c acts h =
-    let b = this-build S (s .rows) in
-    let w : S .queues * (length ahead + 1) ≡ 24 * (n + 1) = ap₂ (λ (a d : ℕ). a * (d + 1)) (b .1) l in
-    let o = nobody-starves S (roomy S (s .rows)) L (s .orderly) p q (omega arith) (omega arith) ahead k e c acts (rw w h) in
-    rw w at o

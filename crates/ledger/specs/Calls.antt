@@ -35,6 +35,16 @@ pub data Reply : Type 0 where
   word : ℕ → ℕ → Reply
   found : Place → ℕ → Reply
 
+abbrev pub isRefused : Reply → Bool
+isRefused (refused n) = true
+isRefused done = false
+isRefused (entry x) = false
+isRefused (stitched b) = false
+isRefused idle = false
+isRefused (leaves k s) = false
+isRefused (word w n) = false
+isRefused (found v i) = false
+
 -- ---- parts of the rules
 
 abbrev pub noPort : Settings → ℕ → Rule

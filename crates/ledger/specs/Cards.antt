@@ -1,12 +1,12 @@
--- Paper 01, "Bench cards": the starred cards, and the cases of paper 02, Q-3, Q-5 and Q-6: a single table. The claim that they
--- hold is that of proofs/Cards.antt. Assumes nothing.
+-- Paper 01, "Bench cards": the starred cards, the cases of paper 02, Q-3, Q-5 and Q-6, and packets that cross from port to port: a single
+-- table. The claim that they hold is that of proofs/Cards.antt. Assumes nothing.
 use mathlib.Core.Path.{_≡_}
 use mathlib.Core.List.{List, [], _∷_, _++_, map}
 use Prim.Native.Nat.{ℕ, zero, suc, _+_, _-_, _*_, _/_, _%_}
 use lib.ListN.{drop}
 use Rattle.crc.specs.Crc.{crc8}
-use Rattle.ledger.specs.Ledger.{Packet, free}
-use Rattle.ledger.specs.Calls.{arrive, stitch, prefetch, credit, turn, ready, whereIs, inside, outside, Reply, refused, done, entry, stitched, idle, leaves, word, found}
+use Rattle.ledger.specs.Ledger.{Packet, free, ingress, egress, prefetched}
+use Rattle.ledger.specs.Calls.{arrive, stitch, prefetch, credit, mapTo, turn, ready, whereIs, inside, outside, Reply, refused, done, entry, stitched, idle, leaves, word, found}
 use Rattle.ledger.specs.Desk.{none, Call, setup, act, replies}
 
 -- the nine bytes before the checksum, timestamp and transaction 0; flags: 2 poisoned, 1 the reserved bit
@@ -116,6 +116,29 @@ one-by-one q =
     ∷ act (arrive 0 (sealed (nine 0 0 0 12 0))) ∷ [])
     (done ∷ entry 0 ∷ refused 4 ∷ refused 6 ∷ refused 7 ∷ refused 20 ∷ refused 8 ∷ refused 9 ∷ refused 19 ∷ refused 10 ∷ refused 11 ∷ [])
 
+-- destination 3, source 1, queue 5, length 100, poisoned; timestamp 0x01020304, 9 credits on offer, transaction 171
+abbrev pub across : List ℕ
+across = sealed (0xD2 ∷ 0x81 ∷ 0x92 ∷ 1 ∷ 2 ∷ 3 ∷ 4 ∷ 9 ∷ 171 ∷ [])
+
+-- node x with all that it records
+abbrev pub crossed : ℕ → Packet
+crossed x = record { node = x; len = 100; queue = 5; dest = 3; stamp = 0x01020304; poisoned = 1; transaction = 171; price = 2 }
+
+-- Two such packets and a free one come in at port 1 and leave by port 2, which destination 3 is mapped to. No port, queue, position, count
+-- or field in the answers is 0 where another number is right.
+abbrev pub crossing : Card
+crossing =
+    says (setup 4 64 2 200 ∷ act (mapTo 3 2) ∷ act (arrive 1 across) ∷ act (arrive 1 across) ∷ act (whereIs 2049) ∷ act (whereIs 2051)
+    ∷ act (stitch 1) ∷ act (stitch 1) ∷ act (whereIs 2049) ∷ act (prefetch 2 5) ∷ act (prefetch 2 5) ∷ act (whereIs 2049) ∷ act (ready 2)
+    ∷ act (arrive 1 (header 3 1 0 12)) ∷ act (stitch 1) ∷ act (prefetch 2 0) ∷ act (credit 2 5 3) ∷ act (ready 2) ∷ act (ready 1)
+    ∷ act (turn 2) ∷ act (turn 2) ∷ act (ready 2) ∷ act (turn 2) ∷ act (whereIs 2048) ∷ [])
+    (done ∷ done ∷ entry 2048 ∷ entry 2049 ∷ found (ingress 1) 1 ∷ found (free 1) 1
+    ∷ stitched (8 ∷ 0 ∷ 0 ∷ 100 ∷ 5 ∷ 2 ∷ 1 ∷ 2 ∷ 3 ∷ 4 ∷ []) ∷ stitched (8 ∷ 1 ∷ 0 ∷ 100 ∷ 5 ∷ 2 ∷ 1 ∷ 2 ∷ 3 ∷ 4 ∷ [])
+    ∷ found (egress 2 5) 1 ∷ entry 2048 ∷ entry 2049 ∷ found (prefetched 2 5) 1 ∷ word 0 0
+    ∷ entry 2050 ∷ stitched (8 ∷ 2 ∷ 0 ∷ 12 ∷ 0 ∷ 2 ∷ 0 ∷ 0 ∷ 0 ∷ 0 ∷ []) ∷ entry 2050 ∷ done ∷ word 33 2 ∷ word 0 0
+    ∷ leaves (record { node = 2050; len = 12; queue = 0; dest = 3; stamp = 0; poisoned = 0; transaction = 0; price = 0 }) inside
+    ∷ leaves (crossed 2048) outside ∷ word 0 0 ∷ idle ∷ found (free 1) 2 ∷ [])
+
 abbrev pub cards : List Card
 cards =
     says (setup 1 64 1 16 ∷ act (arrive 0 (zeros 10)) ∷ act (arrive 1 (zeros 10)) ∷ [])
@@ -146,4 +169,5 @@ cards =
     ∷ says (setup 1 64 1 1 ∷ act (arrive 0 (sealed (nine 0 0 23 12 1))) ∷ act (arrive 0 (header 0 0 24 12)) ∷ act (arrive 0 (header 0 0 31 12)) ∷ act (arrive 0 (sealed (nine 0 0 23 12 2))) ∷ [])
     (done ∷ refused 20 ∷ refused 19 ∷ refused 19 ∷ entry 0 ∷ [])
     ∷ one-by-one 24 ∷ one-by-one 31
+    ∷ crossing
     ∷ []

@@ -9,18 +9,9 @@ use lib.Dec.{eqb}
 use Rattle.ledger.specs.Settings.{Settings}
 use Rattle.ledger.specs.Ledger.{Packet, prefetched, Ledger, listAt, outwardOf}
 use Rattle.ledger.specs.Ready.{bit}
-use Rattle.ledger.specs.Calls.{Act, arrive, stitch, prefetch, credit, mapTo, turn, ready, whereIs, Reply, refused, done, entry, stitched, idle, leaves, word, found, sideOf, step, run}
+use Rattle.ledger.specs.Calls.{Act, arrive, stitch, prefetch, credit, mapTo, turn, ready, whereIs, Reply, refused, done, entry, stitched, idle, leaves, word, found, isRefused, sideOf, step, run}
+use Rattle.ledger.specs.Desk.{Desk, has, Call, setup, act, desk, afterCalls, SetupsRefused}
 use Rattle.ledger.specs.Sound.{sum, Roomy, Orderly, Sound}
-
-abbrev pub isRefused : Reply → Bool
-isRefused (refused n) = true
-isRefused done = false
-isRefused (entry x) = false
-isRefused (stitched b) = false
-isRefused idle = false
-isRefused (leaves k s) = false
-isRefused (word w n) = false
-isRefused (found v i) = false
 
 -- is the act a turn of port p
 abbrev pub isTurn : ℕ → Act → Bool
@@ -68,12 +59,51 @@ NobodyStarves =
     → (acts : List Act) → S .queues * (length ahead + 1) ≤ turnsOf S p L acts
     → LeavesWithin S p q k (S .queues * (length ahead + 1)) L acts
 
--- the same in this build: turn 24 (k + 1)
-unfoldable pub NobodyStarves24 : Type 0
-NobodyStarves24 =
-    (S : Settings) (L : Ledger) → Sound S L
-    → (p q n : ℕ) → p < 4 → q < 24
-    → (ahead : List Packet) (k : Packet) → Stands S p q k ahead L → length ahead ≡ n
+-- ---- the same over calls, on whatever takes calls and shows a desk: the desk itself, or a memory
+
+abbrev pub isTurnCall : ℕ → Call → Bool
+isTurnCall p (setup N b s c) = false
+isTurnCall p (act a) = isTurn p a
+
+module _ {X : Type 0} (call : X → Call → Reply × X) where
+  -- how many turns port p has among the calls, refused ones not counted
+  abbrev pub turnsIn : ℕ → X → List Call → ℕ
+  turnsIn p x [] = 0
+  turnsIn p x (c ∷ cs) = bit (isTurnCall p c && not (isRefused (call x c .0))) + turnsIn p (call x c .1) cs
+
+-- x shows packet k in the prefetch slots of port p and queue q
+pub record ShowsWaiting {X : Type 0} (shows : X → Desk) (S : Settings) (p q : ℕ) (k : Packet) (x : X) : Type 0 where
+  pub ledger : Ledger
+  pub ahead : List Packet
+  pub shown : shows x ≡ has S ledger
+  pub stands : Stands S p q k ahead ledger
+
+-- among the calls there is a turn of port p, before which it had fewer than n turns, at which packet k leaves by queue q;
+-- and at every moment up to then x shows k in its prefetch list
+pub record LeavesAmong {X : Type 0} (call : X → Call → Reply × X) (shows : X → Desk) (S : Settings) (p q : ℕ) (k : Packet) (n : ℕ) (x : X) (cs : List Call) : Type 0 where
+  pub moment : ℕ
+  pub among : moment < length cs
+  pub soon : turnsIn call p x (take moment cs) < n
+  pub a-turn : getD cs moment (act (ready 0)) ≡ act (turn p)
+  pub it-leaves : call (afterCalls call x (take moment cs)) (act (turn p)) .0 ≡ leaves k (sideOf q)
+  pub until-then : (i : ℕ) → i ≤ moment → ShowsWaiting shows S p q k (afterCalls call x (take i cs))
+
+-- Nobody starves from here on, where x shows the ledger L: a packet of a port below P and a queue below Q, in the prefetch slots behind
+-- `ahead` and with credit in hand for all of these, leaves by turn Q × (length ahead + 1) of its port, whatever calls come, accepted or
+-- refused, setting up anew excepted.
+abbrev pub NobodyStarvesFrom : {X : Type 0} → (X → Call → Reply × X) → (X → Desk) → Settings → Ledger → ℕ → ℕ → X → Type 0
+NobodyStarvesFrom call shows S L P Q x =
+    (p q : ℕ) → p < P → q < Q
+    → (ahead : List Packet) (k : Packet) → Stands S p q k ahead L
     → InHand S L p q (ahead ++ (k ∷ []))
-    → (acts : List Act) → 24 * (n + 1) ≤ turnsOf S p L acts
-    → LeavesWithin S p q k (24 * (n + 1)) L acts
+    → (cs : List Call) → SetupsRefused call x cs → Q * (length ahead + 1) ≤ turnsIn call p x cs
+    → LeavesAmong call shows S p q k (Q * (length ahead + 1)) x cs
+
+-- at the desk, whatever its memory's length n: for any number of ports and queues
+unfoldable pub NobodyStarvesAtDesk : Type 0
+NobodyStarvesAtDesk =
+    (n : ℕ) (S : Settings) → Roomy S → (L : Ledger) → Orderly S L → NobodyStarvesFrom (desk n) (λ D. D) S L (S .ports) (S .queues) (has S L)
+
+-- and in this build: turn 24 (k + 1)
+unfoldable pub NobodyStarvesAtDesk24 : Type 0
+NobodyStarvesAtDesk24 = (n : ℕ) (S : Settings) (L : Ledger) → Sound S L → NobodyStarvesFrom (desk n) (λ D. D) S L 4 24 (has S L)

@@ -1,13 +1,14 @@
 -- The desk: all nine calls on a lent memory of which only its length and what it pictures count. Setup, and refusal 3, stand here.
 -- Assumes nothing.
-use mathlib.Core.Bool.{not}
+use mathlib.Core.Path.{_≡_}
+use mathlib.Core.Bool.{Bool, true, false, not}
 use mathlib.Core.List.{List, [], _∷_}
 use Prim.Native.Nat.{ℕ}
 use lib.Dec.{ltb}
 use Rattle.ledger.specs.Settings.{Settings, settings, inRows, size}
 use Rattle.ledger.specs.Rules.{Rule, refuse, guard}
 use Rattle.ledger.specs.Ledger.{Ledger, start}
-use Rattle.ledger.specs.Calls.{Act, Reply, refused, done, step}
+use Rattle.ledger.specs.Calls.{Act, Reply, refused, done, isRefused, step}
 
 -- no switch state; or one, with its settings and its ledger
 pub data Desk : Type 0 where
@@ -18,6 +19,10 @@ pub data Desk : Type 0 where
 pub data Call : Type 0 where
   setup : ℕ → ℕ → ℕ → ℕ → Call
   act : Act → Call
+
+abbrev pub isSetup : Call → Bool
+isSetup (setup N b s c) = true
+isSetup (act a) = false
 
 -- memory of n bytes: a setting not in its row, then memory shorter than N needs
 abbrev pub setupRules : ℕ → Settings → List Rule
@@ -32,12 +37,27 @@ desk n D (setup N b s c) = guard (setupRules n (settings N b s c)) (λ r. (refus
 desk n none (act a) = (refused 3, none)
 desk n (has S L) (act a) = onDesk S (step S L a)
 
--- calls one after another: their answers
-abbrev pub replies : ℕ → Desk → List Call → List Reply
-replies n D [] = []
-replies n D (c ∷ cs) = desk n D c .0 ∷ replies n (desk n D c .1) cs
+-- ---- calls one after another, on whatever takes calls: a desk, or a memory
 
--- and the desk after them
+module _ {X : Type 0} (call : X → Call → Reply × X) where
+  -- what they leave
+  abbrev pub afterCalls : X → List Call → X
+  afterCalls x [] = x
+  afterCalls x (c ∷ cs) = afterCalls (call x c .1) cs
+
+  -- and their answers
+  abbrev pub answersOf : X → List Call → List Reply
+  answersOf x [] = []
+  answersOf x (c ∷ cs) = call x c .0 ∷ answersOf (call x c .1) cs
+
+  -- "accepted or refused, setting up anew excepted": every setup among them is refused
+  abbrev pub SetupsRefused : X → List Call → Type 0
+  SetupsRefused x [] = Unit {0}
+  SetupsRefused x (c ∷ cs) = (isSetup c ≡ true → isRefused (call x c .0) ≡ true) × SetupsRefused (call x c .1) cs
+
+-- at a desk whose memory has n bytes
+abbrev pub replies : ℕ → Desk → List Call → List Reply
+replies n = answersOf (desk n)
+
 abbrev pub after : ℕ → Desk → List Call → Desk
-after n D [] = D
-after n D (c ∷ cs) = after n (desk n D c .1) cs
+after n = afterCalls (desk n)

@@ -7,5 +7,7 @@ pub mod Calls
 pub mod Desk
 pub mod Sound
 pub mod Demand
+pub mod Order
+pub mod Night
 pub mod Answers
 pub mod Cards

@@ -6,25 +6,28 @@ use Prim.Native.Nat.{ℕ, zero, suc, _+_, _*_, _≤_, _<_}
 use native.Mathlib.Omega.{arith}
 use lib.ListN.{length, getD, take}
 use Rattle.ledger.specs.Settings.{Settings}
-use Rattle.ledger.specs.Ledger.{owner, isNode, Packet, Place, place#, free, Ledger, listAt}
-use Rattle.ledger.specs.Ready.{bit}
-use Rattle.ledger.specs.Calls.{Act, arrive, turn, whereIs, Reply, refused, leaves, found, sideOf, step, run, answers}
-use Rattle.ledger.specs.Desk.{Desk, none, has, Call, act, onDesk, desk}
-use Rattle.ledger.specs.Sound.{All, Orderly, Sound}
-use Rattle.ledger.specs.Demand.{isRefused, isTurn, turnsOf, NobodyStarves24}
+use Rattle.ledger.specs.Ledger.{isNode, Place, place#, Ledger}
+use Rattle.ledger.specs.Ready.{isReady, wordOf, countOf}
+use Rattle.ledger.specs.Calls.{Act, arrive, ready, whereIs, Reply, refused, entry, word, found, step}
+use Rattle.ledger.specs.Desk.{has, Call, act, SetupsRefused}
+use Rattle.ledger.specs.Sound.{Roomy, Sound}
+use Rattle.ledger.specs.Order.{KeepsOrder}
+use Rattle.ledger.specs.Night.{Arrival, PoolKept}
 use Rattle.ledger.proofs.Places.{Place·In, place#-lt}
 use Rattle.ledger.proofs.Rows.{roomy, this-build}
 use Rattle.ledger.proofs.Find.{where-right}
 use Rattle.ledger.proofs.Passes.{Passes}
-use Rattle.ledger.proofs.Promises.{means-sound, Wanting, sound-arrival, OnePlace, each-in-one-place, First-in-first-out, run-in-order, home-only, refusal-keeps-desk}
-use Rattle.ledger.proofs.Waits.{nobody-starves-24}
+use Rattle.ledger.proofs.Promises.{ready-counts, means-sound, Wanting, sound-arrival, OnePlace, each-in-one-place}
+use Rattle.ledger.proofs.Courses.{Faithful, act-answer, act-shows, nobody-starves-from, this-build-from}
+use Rattle.ledger.proofs.Order.{keeps-order}
+use Rattle.ledger.proofs.Night.{whose-node, arrival-shows, pool-kept}
 use Rattle.layout.specs.Tables.{lists}
 use Rattle.layout.specs.Picture.{settingsIn, ledgerIn, State}
 use Rattle.memory.specs.Memory.{state-dec, deskOf, picture, tested, M}
-use Rattle.memory.specs.Demands.{afterActs, answersOf, turnsIn, ShowsWaiting, LeavesMemory, NobodyStarvesInMemory}
+use Rattle.memory.specs.Demands.{onMemory, NobodyStarvesInMemory, NobodyStarvesInMemory24}
 use Rattle.memory.proofs.Chains.{node-below, state-tidy, list-length, count-bound}
 use Rattle.memory.proofs.Picture.{picture-state}
-use Rattle.memory.proofs.Square.{pictured, square}
+use Rattle.memory.proofs.Square.{square}
 
 -- a memory that pictures a ledger is a state, and the ledger is sound
 pub pictured-state : (m : List ℕ) (S : Settings) (L : Ledger) → picture m ≡ has S L → State m × Sound S L
@@ -38,84 +41,70 @@ pictured-state m S L e = go (state-dec m) e
         (s, subst (λ (T : Settings). Sound T L) a (subst (Sound (settingsIn m)) b (s .sound)))
     go (no n) i = absurd (let z : _≡_ {A = ℕ} 0 1 = cc in omega arith)
 
-module _ (S : Settings) where
-  -- one act on memory is the desk's step on what it pictures
-  pub act-answer : (m : List ℕ) (L : Ledger) → picture m ≡ has S L → (a : Act) → M (act a) m .0 ≡ step S L a .0
-  act-answer m L e a =
-      ap (λ (r : Reply × Desk). r .0) (square (act a) m) ∙ ap (λ (D : Desk). desk (length m) D (act a) .0) e
+-- a memory answers and shows as the desk does: the square
+pub memory-faithful : Faithful onMemory picture length
+memory-faithful m c = square c m
 
-  pub act-picture : (m : List ℕ) (L : Ledger) → picture m ≡ has S L → (a : Act) → picture (M (act a) m .1) ≡ has S (step S L a .1)
-  act-picture m L e a =
-      ap (λ (r : Reply × Desk). r .1) (square (act a) m) ∙ ap (λ (D : Desk). desk (length m) D (act a) .1) e
+-- ---- demand 3, on memory
 
-  -- and so are any acts
-  pub acts-picture : (m : List ℕ) (L : Ledger) → picture m ≡ has S L → (acts : List Act) → picture (afterActs m acts) ≡ has S (run S L acts)
-  acts-picture m L e [] = e
-  acts-picture m L e (a ∷ acts) = acts-picture (M (act a) m .1) (step S L a .1) (act-picture m L e a) acts
-
-  pub acts-answers : (m : List ℕ) (L : Ledger) → picture m ≡ has S L → (acts : List Act) → answersOf m acts ≡ answers S L acts
-  acts-answers m L e [] = refl
-  acts-answers m L e (a ∷ acts) =
-      let h = act-answer m L e a in
-      let t = acts-answers (M (act a) m .1) (step S L a .1) (act-picture m L e a) acts in
-      cc
-
-  turns-same : (p : ℕ) (m : List ℕ) (L : Ledger) → picture m ≡ has S L → (acts : List Act) → turnsIn p m acts ≡ turnsOf S p L acts
-  turns-same p m L e [] = refl
-  turns-same p m L e (a ∷ acts) =
-      omega (
-        arith,
-        ap (λ (r : Reply). bit (isTurn p a && not (isRefused r))) (act-answer m L e a),
-        turns-same p (M (act a) m .1) (step S L a .1) (act-picture m L e a) acts,
-      )
-
--- demand 3, on memory
 pub nobody-starves-in-memory : NobodyStarvesInMemory
-unfolding NobodyStarvesInMemory NobodyStarves24
-nobody-starves-in-memory m S L e p q n hp hq ahead k there l hand acts h =
+unfolding NobodyStarvesInMemory
+nobody-starves-in-memory m S L e =
     let s = pictured-state m S L e .1 in
-    let o = nobody-starves-24 S L s p q n hp hq ahead k there l hand acts (rw (turns-same S p m L e acts) at h) in
-    record {
-      moment = o .moment;
-      among = o .among;
-      soon = rw (turns-same S p m L e (take (o .moment) acts)) (o .soon);
-      a-turn = o .a-turn;
-      it-leaves = act-answer S (afterActs m (take (o .moment) acts)) (run S L (take (o .moment) acts)) (acts-picture S m L e (take (o .moment) acts)) (turn p) ∙ o .it-leaves;
-      until-then = λ i h. record {
-        ledger = run S L (take i acts);
-        ahead = o .until-then i h .0;
-        shows = acts-picture S m L e (take i acts);
-        stands = o .until-then i h .1;
-      };
-    }
+    nobody-starves-from onMemory picture length memory-faithful S (roomy S (s .rows)) m L e (s .orderly)
 
--- ---- demand 2, on memory, after any acts
+pub nobody-starves-in-memory-24 : NobodyStarvesInMemory24
+unfolding NobodyStarvesInMemory NobodyStarvesInMemory24
+nobody-starves-in-memory-24 m S L e = this-build-from onMemory picture S L m (pictured-state m S L e .1) (nobody-starves-in-memory m S L e)
+
+-- ---- demand 2, on a memory that is a switch state
 
 module _ (m : List ℕ) (S : Settings) (L : Ledger) (e : picture m ≡ has S L) where
   s : Sound S L
   s = pictured-state m S L e .1
 
-  -- each node stands in one place
-  pub memory-one-place : (acts : List Act) (y : ℕ) → isNode S y ≡ true → (M′ : Ledger) → picture (afterActs m acts) ≡ has S M′ → OnePlace S M′ y
-  memory-one-place acts y n M′ d = each-in-one-place S M′ (pictured-state (afterActs m acts) S M′ d .1) y n
+  ok : Roomy S
+  ok = roomy S (s .rows)
 
-  -- queues keep their order
-  pub memory-in-order : (acts : List Act) (v : Place) → Place·In S v
-      → (N : Ledger) × (picture (afterActs m acts) ≡ has S N) × First-in-first-out (listAt S L v) (listAt S N v)
-  memory-in-order acts v hv = (run S L acts, acts-picture S m L e acts, run-in-order S (roomy S (s .rows)) L (s .orderly) acts v hv)
+  -- one act on memory is the desk's step on what it pictures
+  pub on-state : (a : Act) → M (act a) m .0 ≡ step S L a .0
+  on-state a = act-answer onMemory picture length memory-faithful S m L e a
 
-  -- nodes go home only to their owner
-  pub memory-home : (acts : List Act) (p : ℕ) → p < S .ports
-      → (N : Ledger) × (picture (afterActs m acts) ≡ has S N) × All (λ k. owner (k .node) ≡ p) (listAt S N (free p))
-  memory-home acts p hp = (run S L acts, acts-picture S m L e acts, home-only S (roomy S (s .rows)) L (s .orderly) acts p hp)
+  pub then-pictures : (a : Act) → picture (M (act a) m .1) ≡ has S (step S L a .1)
+  then-pictures a = act-shows onMemory picture length memory-faithful S m L e a
+
+  -- each node stands in one place; m is any state, so one after any calls
+  pub memory-one-place : (y : ℕ) → isNode S y ≡ true → OnePlace S L y
+  memory-one-place y n = each-in-one-place S L s y n
+
+  -- over any calls in which every setup is refused: queues keep their order
+  pub memory-keeps-order : (u : Place) → Place·In S u → (cs : List Call) → SetupsRefused onMemory m cs → KeepsOrder onMemory picture S L u m cs
+  memory-keeps-order u hu cs f = keeps-order onMemory picture length memory-faithful S ok u hu m L e (s .orderly) cs f
+
+  -- and pools neither leak nor mix
+  pub memory-pool-kept : (p : ℕ) → p < S .ports → (cs : List Call) → SetupsRefused onMemory m cs → PoolKept onMemory picture S L p m cs
+  memory-pool-kept p hp cs f = pool-kept onMemory picture length memory-faithful S ok m L e (s .orderly) p hp cs f
+
+  -- an arrival at port p, whatever its bytes, hurts nobody but p
+  pub memory-hurts-only-itself : (p : ℕ) (h : List ℕ)
+      → (N : Ledger) × (picture (M (act (arrive p h)) m .1) ≡ has S N) × Arrival S L p h (M (act (arrive p h)) m .0) N
+  memory-hurts-only-itself p h = arrival-shows onMemory picture length memory-faithful S ok m L e (s .orderly) p h
+
+  pub memory-whose-node : (p : ℕ) (h h′ : List ℕ) (x y : ℕ) → M (act (arrive p h)) m .0 ≡ entry x → M (act (arrive p h′)) m .0 ≡ entry y → x ≡ y
+  memory-whose-node p h h′ x y d i = whose-node S L p h h′ x y (sym (on-state (arrive p h)) ∙ d) (sym (on-state (arrive p h′)) ∙ i)
+
+  -- ready's count is the number of ready queues
+  pub memory-ready-counts : (p : ℕ) → p < S .ports
+      → M (act (ready p)) m .0 ≡ word (wordOf (isReady S L p) (S .queues)) (countOf (isReady S L p) (S .queues))
+  memory-ready-counts p hp = on-state (ready p) ∙ ap (λ (r : Reply × Ledger). r .0) (ready-counts S L p hp)
 
   -- a header with no fault, at a port of the switch: turned away only for want of credit or of a node
   pub memory-arrival : (p : ℕ) (h : List ℕ) → p < S .ports → Passes (S .queues) p h
       → (N : Ledger) × (picture (M (act (arrive p h)) m .1) ≡ has S N) × Wanting S L p h (M (act (arrive p h)) m .0, N)
   memory-arrival p h hp f = (
     step S L (arrive p h) .1,
-    act-picture S m L e (arrive p h),
-    subst (λ (r : Reply). Wanting S L p h (r, step S L (arrive p h) .1)) (sym (act-answer S m L e (arrive p h)))
+    then-pictures (arrive p h),
+    subst (λ (r : Reply). Wanting S L p h (r, step S L (arrive p h) .1)) (sym (on-state (arrive p h)))
         (sound-arrival S L p h (means-sound S p h hp f)),
   )
 
@@ -162,7 +151,7 @@ module _ (m : List ℕ) (y : ℕ) (v : Place) (i : ℕ) where
     pub where-below : Below (settingsIn m .ports * 2048)
     where-below =
         let S = settingsIn m in
-        below found-state (isNode S y) refl (sym (act-answer S m (ledgerIn S m) (picture-state m found-state) (whereIs y)) ∙ f)
+        below found-state (isNode S y) refl (sym (on-state m S (ledgerIn S m) (picture-state m found-state) (whereIs y)) ∙ f)
 
     -- with four ports they reach 8,191 at most
     pub where-reach : Below 8192
@@ -179,4 +168,4 @@ pub still-a-state : (a : Act) (m : List ℕ) → State m → State (M (act a) m 
 still-a-state a m t =
     let e = picture-state m t in
     let S = settingsIn m in
-    pictured-state (M (act a) m .1) S (step S (ledgerIn S m) a .1) (act-picture S m (ledgerIn S m) e a) .0
+    pictured-state (M (act a) m .1) S (step S (ledgerIn S m) a .1) (then-pictures m S (ledgerIn S m) e a) .0

@@ -13,10 +13,9 @@ use Rattle.ledger.specs.Rules.{Rule, refuse, guard, Clear}
 use Rattle.ledger.specs.Header.{fieldsOf, price}
 use Rattle.ledger.specs.Ledger.{owner, isNode, Packet, bare, recorded, Place, free, ingress, egress, prefetched, place#, column, portOf, Ledger, listAt, arrivalOf, outwardOf, lastOf, mapOf, creditAt, oldest, pop, push, move, putArrival, putOutward, putLast, putMap, start}
 use Rattle.ledger.specs.Ready.{bit, readyWord, pick}
-use Rattle.ledger.specs.Calls.{Act, arrive, stitch, prefetch, credit, mapTo, turn, ready, whereIs, Reply, refused, done, idle, isEmpty, firstOf, arriving, arrived, served, serve, turned, rules, result, step}
+use Rattle.ledger.specs.Calls.{Act, arrive, stitch, prefetch, credit, mapTo, turn, ready, whereIs, Reply, refused, done, idle, isRefused, isEmpty, firstOf, arriving, arrived, served, serve, turned, rules, result, step}
 use Rattle.ledger.specs.Desk.{Desk, none, has, Call, setup, act, setupRules, onDesk, desk}
 use Rattle.ledger.specs.Sound.{weigh, one, Proper, Orderly, Roomy, Sound}
-use Rattle.ledger.specs.Demand.{isRefused}
 use Rattle.ledger.proofs.Promises.{result-given}
 use Rattle.ledger.proofs.Tests.{true≢false, leb-no, ltb-no, eqb-is, eqb-not, or-left, not-yes}
 use Rattle.ledger.proofs.Places.{Place·In, place#-lt, row-mod, column-lt, Node, node-is, credit-none, credit-same}

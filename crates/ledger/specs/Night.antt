@@ -1,0 +1,63 @@
+-- "The old queue manager handed the nodes back to the wrong port. One pool ran dry": the customer's night, as statements. A port that lies
+-- hurts only itself; pools neither leak nor mix. Assumes nothing.
+use mathlib.Core.Path.{_≡_}
+use mathlib.Core.Logic.{_≢_}
+use mathlib.Core.Bool.{Bool, not, _&&_}
+use mathlib.Core.List.{List, [], _∷_, _++_}
+use Prim.Native.Nat.{ℕ, _+_, _<_}
+use lib.ListN.{length, getD}
+use lib.Dec.{eqb}
+use Rattle.ledger.specs.Settings.{Settings}
+use Rattle.ledger.specs.Header.{fieldsOf}
+use Rattle.ledger.specs.Ledger.{owner, Packet, recorded, Place, free, ingress, place#, placeOf, Ledger, listAt, arrivalOf}
+use Rattle.ledger.specs.Ready.{bit}
+use Rattle.ledger.specs.Calls.{Reply, refused, entry}
+use Rattle.ledger.specs.Desk.{Desk, has, Call, afterCalls, answersOf}
+use Rattle.ledger.specs.Sound.{All, weigh, owes}
+use Rattle.ledger.specs.Order.{kindIn, cameTo, leftFrom, idsAt, FirstInFirstOut}
+
+-- ---- an arrival
+
+-- the ledgers L and N differ at port p alone: in its free list, its ingress list and its arrival credit
+pub record OnlyAt (S : Settings) (p : ℕ) (L N : Ledger) : Type 0 where
+  pub other-lists : (l : ℕ) → l ≢ place# S (free p) → l ≢ place# S (ingress p) → getD (N .lists) l [] ≡ getD (L .lists) l []
+  pub other-credit : (r q : ℕ) → q < S .queues → r ≢ p → arrivalOf S N r q ≡ arrivalOf S L r q
+  pub outward : N .outward ≡ L .outward
+  pub last : N .last ≡ L .last
+  pub mapped : N .mapped ≡ L .mapped
+
+-- port p's oldest free node x, one of its own, took the header in: it stands last in p's ingress list with what the header says recorded,
+-- and p's arrival credit for the queue is lower by the price
+pub record TakenIn (S : Settings) (L : Ledger) (p : ℕ) (h : List ℕ) (x : ℕ) (N : Ledger) : Type 0 where
+  pub own : owner x ≡ p
+  pub from-pool : idsAt S L (free p) ≡ x ∷ idsAt S N (free p)
+  pub to-ingress : listAt S N (ingress p) ≡ listAt S L (ingress p) ++ (recorded S x (fieldsOf h) ∷ [])
+  pub paid : (q : ℕ) → q < S .queues → arrivalOf S N p q + owes p q (recorded S x (fieldsOf h)) ≡ arrivalOf S L p q
+  pub only : OnlyAt S p L N
+
+-- what an arrival at port p of any bytes h answers and leaves of the ledger L: a refusal and nothing else, or an own node with the header
+pub data Arrival (S : Settings) (L : Ledger) (p : ℕ) (h : List ℕ) : Reply → Ledger → Type 0 where
+  turned-away : (n : ℕ) → Arrival S L p h (refused n) L
+  taken : (x : ℕ) (N : Ledger) → TakenIn S L p h x N → Arrival S L p h (entry x) N
+
+-- ---- a pool
+
+-- port p's nodes that aren't free
+abbrev pub isFree : Place → Bool
+isFree v = eqb (kindIn v) 0
+
+abbrev pub away : Settings → ℕ → ℕ → Packet → ℕ
+away S p l k = bit (eqb (owner (k .node)) p && not (isFree (placeOf S l)))
+
+abbrev pub awayFrom : Settings → Ledger → ℕ → ℕ
+awayFrom S L p = weigh (away S p) (L .lists)
+
+-- After calls in which every setup is refused, where x showed the ledger L: port p's free list is what was free and what came home, in
+-- that order, less as many of the oldest as arrivals at p took, both read off the answers; it holds p's own nodes alone; and free and not
+-- free together are N.
+pub record PoolKept {X : Type 0} (call : X → Call → Reply × X) (shows : X → Desk) (S : Settings) (L : Ledger) (p : ℕ) (x : X) (cs : List Call) : Type 0 where
+  pub ledger : Ledger
+  pub shown : shows (afterCalls call x cs) ≡ has S ledger
+  pub in-order : FirstInFirstOut (idsAt S L (free p)) (cameTo (free p) cs (answersOf call x cs)) (leftFrom (free p) cs (answersOf call x cs)) (idsAt S ledger (free p))
+  pub own : All (λ y. owner y ≡ p) (idsAt S ledger (free p))
+  pub whole : length (idsAt S ledger (free p)) + awayFrom S ledger p ≡ S .nodes

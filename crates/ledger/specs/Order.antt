@@ -1,0 +1,111 @@
+-- Demand 2, "queues keep order; nodes go home to their owner", as statements. What came to a list and what left it are read off the calls
+-- and their answers alone, by entry ids, as a caller can read them. Assumes nothing.
+use mathlib.Core.Path.{_≡_}
+use mathlib.Core.Bool.{Bool, cond, _&&_}
+use mathlib.Core.List.{List, [], _∷_, _++_, map}
+use Prim.Native.Nat.{ℕ}
+use lib.ListN.{length, getD, take, drop}
+use lib.Dec.{eqb}
+use Rattle.numbers.specs.Bytes.{number}
+use Rattle.ledger.specs.Settings.{Settings}
+use Rattle.ledger.specs.Ledger.{owner, Packet, Place, free, ingress, egress, prefetched, portOf, Ledger, listAt}
+use Rattle.ledger.specs.Calls.{Act, arrive, stitch, prefetch, credit, mapTo, turn, ready, whereIs, Reply, refused, done, entry, stitched, idle, leaves, word, found}
+use Rattle.ledger.specs.Desk.{Desk, has, Call, setup, act, afterCalls, answersOf}
+
+-- ---- are two places the same
+
+abbrev pub kindIn : Place → ℕ
+kindIn (free p) = 0
+kindIn (ingress p) = 1
+kindIn (egress p q) = 2
+kindIn (prefetched p q) = 3
+
+abbrev pub queueIn : Place → ℕ
+queueIn (free p) = 0
+queueIn (ingress p) = 0
+queueIn (egress p q) = q
+queueIn (prefetched p q) = q
+
+abbrev pub samePlace : Place → Place → Bool
+samePlace u v = eqb (kindIn u) (kindIn v) && (eqb (portOf u) (portOf v) && eqb (queueIn u) (queueIn v))
+
+-- ---- which node a call moved, from where to where
+
+pub data Movement : Type 0 where
+  stays : Movement
+  moves : ℕ → Place → Place → Movement
+
+-- by what an answer names: an entry id, a stitch's record, a packet that leaves; a refusal, and any other answer, names none
+abbrev pub named : (ℕ → Movement) → (List ℕ → Movement) → (Packet → Movement) → Reply → Movement
+named e s l (refused n) = stays
+named e s l done = stays
+named e s l (entry x) = e x
+named e s l (stitched b) = s b
+named e s l idle = stays
+named e s l (leaves k t) = l k
+named e s l (word w n) = stays
+named e s l (found v i) = stays
+
+abbrev pub byEntry : Place → Place → Reply → Movement
+byEntry v w = named (λ x. moves x v w) (λ b. stays) (λ k. stays)
+
+-- the record has the entry id in its first two bytes, then the length, then the queue and the mapped port
+abbrev pub byRecord : Place → Reply → Movement
+byRecord v = named (λ x. stays) (λ b. moves (number 2 b 0) v (egress (getD b 5 0) (getD b 4 0))) (λ k. stays)
+
+-- a packet leaves the slots of its queue, and its node goes to the port in its entry id
+abbrev pub byTurn : ℕ → Reply → Movement
+byTurn p = named (λ x. stays) (λ b. stays) (λ k. moves (k .node) (prefetched p (k .queue)) (free (owner (k .node))))
+
+abbrev pub movement : Act → Reply → Movement
+movement (arrive p h) r = byEntry (free p) (ingress p) r
+movement (stitch p) r = byRecord (ingress p) r
+movement (prefetch p q) r = byEntry (egress p q) (prefetched p q) r
+movement (credit p q n) r = stays
+movement (mapTo d p) r = stays
+movement (turn p) r = byTurn p r
+movement (ready p) r = stays
+movement (whereIs y) r = stays
+
+abbrev pub movementOf : Call → Reply → Movement
+movementOf (setup N b s c) r = stays
+movementOf (act a) r = movement a r
+
+-- ---- what came to place u, and what left it, in the order of the calls
+
+abbrev pub cameBy : Place → Movement → List ℕ
+cameBy u stays = []
+cameBy u (moves x v w) = cond (samePlace u w) (x ∷ []) []
+
+abbrev pub leftBy : Place → Movement → List ℕ
+leftBy u stays = []
+leftBy u (moves x v w) = cond (samePlace u v) (x ∷ []) []
+
+abbrev pub gathered : (Movement → List ℕ) → List Call → List Reply → List ℕ
+gathered f [] rs = []
+gathered f (c ∷ cs) [] = []
+gathered f (c ∷ cs) (r ∷ rs) = f (movementOf c r) ++ gathered f cs rs
+
+abbrev pub cameTo : Place → List Call → List Reply → List ℕ
+cameTo u = gathered (cameBy u)
+
+abbrev pub leftFrom : Place → List Call → List Reply → List ℕ
+leftFrom u = gathered (leftBy u)
+
+-- ---- a list keeps its order
+
+-- the entry ids of a place, the oldest first
+abbrev pub idsAt : Settings → Ledger → Place → List ℕ
+idsAt S L u = map (λ k. k .node) (listAt S L u)
+
+-- what stands there is what stood there and what came, in that order, less as many of the oldest as left; and what left is those oldest,
+-- in that order
+pub record FirstInFirstOut (stood came left stands : List ℕ) : Type 0 where
+  pub stays-behind : stands ≡ drop (length left) (stood ++ came)
+  pub oldest-left : left ≡ take (length left) (stood ++ came)
+
+-- after calls in which every setup is refused, on whatever takes calls and shows a desk, place u has kept its order; x showed the ledger L
+pub record KeepsOrder {X : Type 0} (call : X → Call → Reply × X) (shows : X → Desk) (S : Settings) (L : Ledger) (u : Place) (x : X) (cs : List Call) : Type 0 where
+  pub ledger : Ledger
+  pub shown : shows (afterCalls call x cs) ≡ has S ledger
+  pub in-order : FirstInFirstOut (idsAt S L u) (cameTo u cs (answersOf call x cs)) (leftFrom u cs (answersOf call x cs)) (idsAt S ledger u)
