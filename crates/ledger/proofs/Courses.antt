@@ -1,22 +1,23 @@
 -- Calls in which every setup is refused are the acts among them: on the desk, and on whatever answers and shows as the desk does. So what
 -- is proved of acts holds of calls; demand 3 first. Assumes nothing.
 use mathlib.Core.Path.{_≡_, refl, sym, ap, ap₂, _∙_, subst}
-use mathlib.Core.Bool.{true, false, not, _&&_}
-use mathlib.Core.List.{List, [], _∷_, _++_}
-use Prim.Native.Nat.{ℕ, zero, suc, _+_, _*_, _≤_, _<_, zero-le, suc-le-suc}
+use mathlib.Core.Bool.{Bool, true, false, not, _&&_}
+use mathlib.Core.List.{List, [], _∷_}
+use Prim.Native.Nat.{ℕ, zero, suc, _+_, _≤_, _<_, zero-le, suc-le-suc}
 use native.Mathlib.Nat.{le-of-suc-le-suc, not-suc-le-zero}
 use native.Mathlib.Omega.{arith}
 use lib.ListN.{length, getD, take}
 use Rattle.ledger.specs.Settings.{Settings}
-use Rattle.ledger.specs.Ledger.{Packet, Ledger}
+use Rattle.ledger.specs.Ledger.{Ledger}
 use Rattle.ledger.specs.Ready.{bit}
-use Rattle.ledger.specs.Calls.{Act, turn, ready, Reply, isRefused, step, run}
-use Rattle.ledger.specs.Desk.{Desk, none, has, Call, setup, act, isSetup, desk, afterCalls, answersOf, SetupsRefused}
+use Rattle.ledger.specs.Calls.{Act, arrive, stitch, prefetch, credit, mapTo, turn, ready, whereIs, Reply, isRefused, step, run}
+use Rattle.ledger.specs.Desk.{Desk, has, Call, setup, act, desk, afterCalls, SetupsRefused}
 use Rattle.ledger.specs.Sound.{Orderly, Roomy, Sound}
-use Rattle.ledger.specs.Demand.{isTurn, turnsOf, Stands, LeavesWithin, NobodyStarves, isTurnCall, turnsIn, ShowsWaiting, LeavesAmong, NobodyStarvesFrom, NobodyStarvesAtDesk, NobodyStarvesAtDesk24}
+use Rattle.ledger.specs.Demand.{isTurn, turnsOf, Stands, NobodyStarves, turnsIn, NobodyStarvesFrom, NobodyStarvesAtDesk, NobodyStarvesAtDesk24}
+use Rattle.ledger.proofs.Tests.{true≢false, leb-not, eqb-yes}
 use Rattle.ledger.proofs.Rows.{roomy, this-build}
 use Rattle.ledger.proofs.Waits.{nobody-starves}
-use Rattle.ledger.proofs.Promises.{refusal-keeps-desk}
+use Rattle.ledger.proofs.Promises.{result-given, refusal-keeps-desk}
 
 -- ---- the acts among calls
 
@@ -70,6 +71,27 @@ not-past i (suc j) (setup N b s c ∷ cs) h = not-past i j cs (le-of-suc-le-suc 
 not-past zero (suc j) (act a ∷ cs) h = absurd (not-suc-le-zero h)
 not-past (suc i) (suc j) (act a ∷ cs) h = suc-le-suc (not-past i j cs (le-of-suc-le-suc h))
 
+-- a turn of a port of the switch is never refused, so all of them count
+turn-counts : (S : Settings) (p : ℕ) → p < S .ports → (L : Ledger) (a : Act) → isTurn p a ≡ true → isRefused (step S L a .0) ≡ false
+turn-counts S p hp L (arrive r h) i = absurd (true≢false (sym i))
+turn-counts S p hp L (stitch r) i = absurd (true≢false (sym i))
+turn-counts S p hp L (prefetch r q) i = absurd (true≢false (sym i))
+turn-counts S p hp L (credit r q n) i = absurd (true≢false (sym i))
+turn-counts S p hp L (mapTo d r) i = absurd (true≢false (sym i))
+turn-counts S p hp L (turn r) i = rw (leb-not (S .ports) r (omega (arith, eqb-yes r p i))) (result-given S L (turn r))
+turn-counts S p hp L (ready r) i = absurd (true≢false (sym i))
+turn-counts S p hp L (whereIs y) i = absurd (true≢false (sym i))
+
+turns-same : (S : Settings) (p : ℕ) → p < S .ports → (L : Ledger) (cs : List Call) → turnsIn p cs ≡ turnsOf S p L (actsIn cs)
+unfolding actsIn
+turns-same S p hp L [] = refl
+turns-same S p hp L (setup N b s c ∷ cs) = omega (arith, turns-same S p hp L cs)
+turns-same S p hp L (act a ∷ cs) = ap₂ (λ (m n : ℕ). m + n) (go (isTurn p a) (turn-counts S p hp L a)) (turns-same S p hp (step S L a .1) cs)
+  where
+    go : (b : Bool) → (b ≡ true → isRefused (step S L a .0) ≡ false) → bit b ≡ bit (b && not (isRefused (step S L a .0)))
+    go true f = rw (f refl)
+    go false f = refl
+
 -- ---- whatever takes calls, and answers and shows as the desk does
 
 module _ {X : Type 0} (call : X → Call → Reply × X) (shows : X → Desk) where
@@ -98,16 +120,6 @@ module _ {X : Type 0} (call : X → Call → Reply × X) (shows : X → Desk) wh
     calls-show x L e (setup N b s c ∷ cs) f = calls-show (call x (setup N b s c) .1) L (refused-shows x (setup N b s c) (f .0 refl) ∙ e) cs (f .1)
     calls-show x L e (act a ∷ cs) f = calls-show (call x (act a) .1) (step S L a .1) (act-shows x L e a) cs (f .1)
 
-    turns-same : (p : ℕ) (x : X) (L : Ledger) → shows x ≡ has S L → (cs : List Call) → SetupsRefused call x cs
-        → turnsIn call p x cs ≡ turnsOf S p L (actsIn cs)
-    unfolding actsIn
-    turns-same p x L e [] f = refl
-    turns-same p x L e (setup N b s c ∷ cs) f =
-        omega (arith, turns-same p (call x (setup N b s c) .1) L (refused-shows x (setup N b s c) (f .0 refl) ∙ e) cs (f .1))
-    turns-same p x L e (act a ∷ cs) f =
-        ap₂ (λ (m n : ℕ). m + n) (ap (λ (r : Reply). bit (isTurn p a && not (isRefused r))) (act-answer x L e a))
-        (turns-same p (call x (act a) .1) (step S L a .1) (act-shows x L e a) cs (f .1))
-
     first-refused : (x : X) (cs : List Call) → SetupsRefused call x cs → (j : ℕ) → SetupsRefused call x (take j cs)
     first-refused x cs f zero = tt
     first-refused x [] f (suc j) = tt
@@ -119,13 +131,13 @@ module _ {X : Type 0} (call : X → Call → Reply × X) (shows : X → Desk) wh
     unfolding NobodyStarves
     nobody-starves-from ok x L e s p q hp hq ahead k there hand cs f h =
         let acts : List Act = actsIn cs in
-        let o = nobody-starves S ok L s p q hp hq ahead k there hand acts (rw (turns-same p x L e cs f) at h) in
+        let o = nobody-starves S ok L s p q hp hq ahead k there hand acts (rw (turns-same S p hp L cs) at h) in
         let j : ℕ = seat (o .moment) cs in
         let before = seat-before (o .moment) cs (o .among) in
         record {
           moment = j;
           among = seat-in (o .moment) cs (o .among);
-          soon = rw (turns-same p x L e (take j cs) (first-refused x cs f j), before) (o .soon);
+          soon = rw (turns-same S p hp L (take j cs), before) (o .soon);
           a-turn = seat-act (o .moment) cs (o .among) ∙ ap act (o .a-turn);
           it-leaves =
               act-answer (afterCalls call x (take j cs)) (run S L (actsIn (take j cs))) (calls-show x L e (take j cs) (first-refused x cs f j)) (turn p)

@@ -1,21 +1,20 @@
 -- Each way in which a call changes the ledger keeps (b) to (g). Assumes nothing.
 use mathlib.Core.Path.{_≡_, refl, sym, ap, _∙_, subst}
 use mathlib.Core.Logic.{_≢_, _⊎_, inl, inr}
-use mathlib.Core.Bool.{Bool, true, false, cond, not, _&&_, _||_}
-use mathlib.Core.List.{List, [], _∷_, _++_}
-use Prim.Native.Nat.{ℕ, zero, suc, _+_, _-_, _*_, _/_, _%_, _^_, _≤_, _<_, zero-le, suc-le-suc}
+use mathlib.Core.Bool.{Bool, true, false, cond, _&&_}
+use mathlib.Core.List.{List, [], _∷_}
+use Prim.Native.Nat.{ℕ, zero, suc, _+_, _-_, _*_, _≤_, _<_, zero-le, suc-le-suc}
 use native.Mathlib.Omega.{arith}
 use native.Mathlib.Decide.{ℕ-discrete}
 use lib.ListN.{length, getD, set, drop, length-set, length-append}
-use lib.Seq.{getD-set-same, getD-set-other}
 use lib.Dec.{eqb}
-use Rattle.ledger.specs.Settings.{Settings, ids, row}
+use Rattle.ledger.specs.Settings.{Settings, row}
 use Rattle.ledger.specs.Header.{price}
-use Rattle.ledger.specs.Ledger.{owner, isNode, Packet, bare, Place, free, ingress, egress, prefetched, place#, placeOf, Ledger, listAt, arrivalOf, outwardOf, lastOf, mapOf, oldest, pop, push, move, putArrival, putOutward, putLast, putMap, setCredit}
+use Rattle.ledger.specs.Ledger.{owner, Packet, Place, prefetched, place#, placeOf, Ledger, listAt, arrivalOf, behind, pop, push, move, putArrival, putOutward, putLast, putMap, setCredit}
 use Rattle.ledger.specs.Ready.{bit}
-use Rattle.ledger.specs.Calls.{isEmpty, firstOf, arrived, served}
-use Rattle.ledger.specs.Sound.{All, Everywhere, sum, weigh, Shaped, InRange, one, Once, OwnPort, OwnQueue, Proper, WellRecorded, owes, due, owed, Orderly, Roomy}
-use Rattle.ledger.proofs.Tests.{eqb-yes, eqb-no, eqb-is, eqb-not}
+use Rattle.ledger.specs.Calls.{isEmpty, firstOf}
+use Rattle.ledger.specs.Sound.{Everywhere, weigh, one, Once, OwnPort, OwnQueue, Proper, WellRecorded, owes, due, owed, Orderly, Roomy}
+use Rattle.ledger.proofs.Tests.{eqb-yes, eqb-no}
 use Rattle.ledger.proofs.Lists.{drop-le, weigh-pop, weigh-push, length-pop, length-push, at-push-other, at-push, at-pop-other, at-pop, All-front, everywhere-map, everywhere-both, everywhere-pop, everywhere-push, counted}
 use Rattle.ledger.proofs.Header.{price-free}
 use Rattle.ledger.proofs.Places.{Place·In, place#-lt, place-number, place#-inj, place#-other, Node, node-of, length-credit, credit-none, credit-at, credit-other, credit-le}
@@ -106,11 +105,11 @@ module _ (S : Settings) (roomy : Roomy S) (L : Ledger) (s : Orderly S L) where
             at-push-other (place# S w) k (place# S v) (pop (place# S v) (L .lists)) (place#-other S v w h h′ apart)
             ∙ at-pop (place# S v) (L .lists) (len v h)
 
-        pub to-moved : listAt S (move S v w k L) w ≡ listAt S L w ++ (k ∷ [])
+        pub to-moved : listAt S (move S v w k L) w ≡ behind k (listAt S L w)
         unfolding move
         to-moved =
             at-push (place# S w) k (pop (place# S v) (L .lists)) to-len
-            ∙ ap (λ (ks : List Packet). ks ++ (k ∷ [])) (at-pop-other (place# S v) (place# S w) (L .lists) (place#-other S w v h′ h (λ i. apart (sym i))))
+            ∙ ap (behind k) (at-pop-other (place# S v) (place# S w) (L .lists) (place#-other S w v h′ h (λ i. apart (sym i))))
 
         pub else-moved : (u : Place) → Place·In S u → u ≢ v → u ≢ w → listAt S (move S v w k L) u ≡ listAt S L u
         unfolding move
@@ -129,8 +128,7 @@ module _ (S : Settings) (roomy : Roomy S) (L : Ledger) (s : Orderly S L) where
             go : Dec (place# S (prefetched p q) ≡ place# S w) → Dec (place# S (prefetched p q) ≡ place# S v)
                 → length (listAt S (move S v w k L) (prefetched p q)) ≤ S .slots
             go (yes i) d =
-                rw (i, to-moved, length-append (listAt S L w) (k ∷ []))
-                (omega (arith, f p q (same-place w h′ i)))
+                rw (i, to-moved) (omega (arith, f p q (same-place w h′ i), length-append (listAt S L w) (k ∷ [])))
             go (no i) (yes j) =
                 rw (j, from-moved)
                 (let a : length (listAt S L v) ≤ S .slots = rw j at (s .ranges .slots-in p q hp hq) in

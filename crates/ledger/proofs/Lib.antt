@@ -14,6 +14,8 @@ pub mod Waits
 pub mod Promises
 pub mod Courses
 pub mod Order
+pub mod Records
 pub mod Night
+pub mod WrongDesks
 pub mod Answers
 pub mod Cards

@@ -1,16 +1,16 @@
 -- The laws of sums over lists, and of taking off and putting on. Assumes nothing.
-use mathlib.Core.Path.{_≡_, refl, sym, ap, _∙_, subst}
+use mathlib.Core.Path.{_≡_, refl, sym, ap, subst}
 use mathlib.Core.Logic.{_≢_}
-use mathlib.Core.Bool.{Bool, true, false, cond}
+use mathlib.Core.Bool.{true, false}
 use mathlib.Core.List.{List, [], _∷_, _++_}
-use Prim.Native.Nat.{ℕ, zero, suc, _+_, _-_, _*_, _≤_, _<_, zero-le, suc-le-suc}
+use Prim.Native.Nat.{ℕ, zero, suc, _+_, _≤_, _<_, zero-le, suc-le-suc}
 use native.Mathlib.Nat.{not-suc-le-zero, le-of-suc-le-suc}
 use native.Mathlib.Omega.{arith}
 use native.Mathlib.Decide.{ℕ-discrete}
 use lib.ListN.{length, getD, set, drop, length-set}
 use lib.Seq.{getD-set-same, getD-set-other}
 use lib.Dec.{eqb}
-use Rattle.ledger.specs.Ledger.{Packet, bare, oldest, pop, push}
+use Rattle.ledger.specs.Ledger.{Packet, oldest, behind, pop, push}
 use Rattle.ledger.specs.Ready.{bit}
 use Rattle.ledger.specs.Calls.{isEmpty}
 use Rattle.ledger.specs.Sound.{All, Everywhere, sum, weigh, one}
@@ -47,7 +47,7 @@ weigh-pop f a ls h e =
 pub weigh-push : (f : ℕ → Packet → ℕ) (b : ℕ) (k : Packet) (ls : List (List Packet)) → b < length ls → weigh f (push b k ls) ≡ weigh f ls + f b k
 unfolding push
 weigh-push f b k ls h =
-    omega (arith, weigh-set f ls b (getD ls b [] ++ (k ∷ [])) h, sum-append (f b) (getD ls b []) (k ∷ []))
+    omega (arith, weigh-set f ls b (behind k (getD ls b [])) h, sum-append (f b) (getD ls b []) (k ∷ []))
 
 pub length-pop : (a : ℕ) (ls : List (List Packet)) → length (pop a ls) ≡ length ls
 unfolding pop
@@ -55,17 +55,17 @@ length-pop a ls = length-set ls a (drop 1 (getD ls a []))
 
 pub length-push : (b : ℕ) (k : Packet) (ls : List (List Packet)) → length (push b k ls) ≡ length ls
 unfolding push
-length-push b k ls = length-set ls b (getD ls b [] ++ (k ∷ []))
+length-push b k ls = length-set ls b (behind k (getD ls b []))
 
 -- ---- where the lists stand afterwards
 
 pub at-push-other : (b : ℕ) (k : Packet) (c : ℕ) (ls : List (List Packet)) → c ≢ b → getD (push b k ls) c [] ≡ getD ls c []
 unfolding push
-at-push-other b k c ls n = getD-set-other ls b c (getD ls b [] ++ (k ∷ [])) [] n
+at-push-other b k c ls n = getD-set-other ls b c (behind k (getD ls b [])) [] n
 
-pub at-push : (b : ℕ) (k : Packet) (ls : List (List Packet)) → b < length ls → getD (push b k ls) b [] ≡ getD ls b [] ++ (k ∷ [])
+pub at-push : (b : ℕ) (k : Packet) (ls : List (List Packet)) → b < length ls → getD (push b k ls) b [] ≡ behind k (getD ls b [])
 unfolding push
-at-push b k ls h = getD-set-same ls b (getD ls b [] ++ (k ∷ [])) [] h
+at-push b k ls h = getD-set-same ls b (behind k (getD ls b [])) [] h
 
 pub at-pop-other : (a c : ℕ) (ls : List (List Packet)) → c ≢ a → getD (pop a ls) c [] ≡ getD ls c []
 unfolding pop
@@ -92,6 +92,9 @@ All-both (x ∷ xs) f a b = (f x (a .0) (b .0), All-both xs f (a .1) (b .1))
 pub All-append : {A : Type 0} (P : A → Type 0) (xs ys : List A) → All P xs → All P ys → All P (xs ++ ys)
 All-append P [] ys a b = b
 All-append P (x ∷ xs) ys a b = (a .0, All-append P xs ys (a .1) b)
+
+pub All-behind : (P : Packet → Type 0) (k : Packet) (ks : List Packet) → All P ks → P k → All P (behind k ks)
+All-behind P k ks a p = search All-append
 
 pub All-drop : {A : Type 0} (P : A → Type 0) (xs : List A) → All P xs → All P (drop 1 xs)
 All-drop P [] a = tt
@@ -128,7 +131,7 @@ everywhere-pop {P} a ls h e = everywhere-set ls a (drop 1 (getD ls a [])) e (All
 
 pub everywhere-push : {P : ℕ → Packet → Type 0} (b : ℕ) (k : Packet) (ls : List (List Packet)) → b < length ls → Everywhere P ls → P b k → Everywhere P (push b k ls)
 unfolding push
-everywhere-push {P} b k ls h e p = everywhere-set ls b (getD ls b [] ++ (k ∷ [])) e (All-append (P b) (getD ls b []) (k ∷ []) (e .holds b h) (p, tt))
+everywhere-push {P} b k ls h e p = everywhere-set ls b (behind k (getD ls b [])) e (All-behind (P b) k (getD ls b []) (e .holds b h) p)
 
 -- ---- from sums to facts about every node, and back
 

@@ -1,27 +1,25 @@
 -- The customer's night: a port that lies hurts only itself; pools neither leak nor mix. Assumes nothing.
 use mathlib.Core.Path.{_≡_, refl, sym, ap, _∙_, subst}
 use mathlib.Core.Logic.{_≢_}
-use mathlib.Core.Bool.{Bool, true, false, cond, not, _&&_}
-use mathlib.Core.List.{List, [], _∷_, _++_, map}
-use Prim.Native.Nat.{ℕ, zero, suc, _+_, _-_, _*_, _/_, _%_, _≤_, _<_, zero-le, suc-le-suc}
+use mathlib.Core.Bool.{Bool, true, false, not, _&&_}
+use mathlib.Core.List.{List, [], _∷_, map}
+use Prim.Native.Nat.{ℕ, zero, suc, _+_, _-_, _≤_, _<_, zero-le, suc-le-suc}
 use native.Mathlib.Omega.{arith}
 use native.Mathlib.Decide.{ℕ-discrete, decLe}
 use lib.ListN.{length, getD, length-map}
 use lib.Dec.{eqb, ltb}
-use Rattle.ledger.specs.Settings.{Settings, row}
-use Rattle.ledger.specs.Rules.{Clear}
-use Rattle.ledger.specs.Header.{fieldsOf}
-use Rattle.ledger.specs.Ledger.{owner, index, entryId, isNode, Packet, recorded, Place, free, ingress, egress, prefetched, place#, placeOf, Ledger, listAt, arrivalOf, pop, push, move, putArrival}
+use Rattle.ledger.specs.Settings.{Settings}
+use Rattle.ledger.specs.Ledger.{owner, index, entryId, isNode, Packet, recorded, Place, free, ingress, egress, prefetched, place#, placeOf, Ledger, listAt, arrivalOf, pop, move, putArrival}
 use Rattle.ledger.specs.Ready.{bit}
-use Rattle.ledger.specs.Calls.{Act, arrive, turn, Reply, refused, entry, leaves, isEmpty, firstOf, arriving, arrived, rules, result, step, run}
+use Rattle.ledger.specs.Calls.{arrive, Reply, refused, entry, firstOf, arriving, arrived, rules, result, step, run}
 use Rattle.ledger.specs.Desk.{Desk, has, Call, act, desk, SetupsRefused}
 use Rattle.ledger.specs.Sound.{All, Everywhere, sum, weigh, one, OwnPort, Proper, owes, Orderly, Roomy}
-use Rattle.ledger.specs.Order.{idsAt}
-use Rattle.ledger.specs.Night.{OnlyAt, TakenIn, Arrival, turned-away, taken, isFree, away, awayFrom, PoolKept}
-use Rattle.ledger.proofs.Tests.{true≢false, leb-no, ltb-yes, ltb-no, ltb-is, ltb-not, eqb-yes, eqb-no, eqb-is, eqb-not}
-use Rattle.ledger.proofs.Lists.{cons-form, sum-cong, weigh-cong, weigh-none, All-map, All-of, everywhere-map, everywhere-both, at-push-other, at-pop-other}
-use Rattle.ledger.proofs.Places.{Place·In, place#-lt, place-of, place-number, row-div, row-mod, Node, node-is}
-use Rattle.ledger.proofs.Keep.{some-queue, len, nodes, first-fits, from-moved, to-moved, owes-cases, lowered}
+use Rattle.ledger.specs.Order.{isFree}
+use Rattle.ledger.specs.Night.{TakenIn, Arrival, turned-away, taken, away, awayFrom, PoolKept}
+use Rattle.ledger.proofs.Tests.{ltb-is, ltb-not, eqb-is, eqb-not}
+use Rattle.ledger.proofs.Lists.{cons-form, weigh-cong, weigh-none, All-map, All-of, everywhere-map, at-push-other, at-pop-other}
+use Rattle.ledger.proofs.Places.{Place·In, place-of, place-number, row-div, row-mod, Node, node-is}
+use Rattle.ledger.proofs.Keep.{some-queue, nodes, first-fits, from-moved, to-moved, lowered}
 use Rattle.ledger.proofs.Passes.{Admits, admits}
 use Rattle.ledger.proofs.Steps.{guarded, recorded-proper, keep-run}
 use Rattle.ledger.proofs.Promises.{home-only}

@@ -1,23 +1,22 @@
 -- Demand 2: queues keep their order, over any calls in which every setup is refused. Assumes nothing.
-use mathlib.Core.Path.{_≡_, refl, sym, ap, ap₂, _∙_, subst}
+use mathlib.Core.Path.{_≡_, refl, sym, ap, _∙_, subst}
 use mathlib.Core.Logic.{_≢_}
 use mathlib.Core.Bool.{Bool, true, false, cond, _&&_}
 use mathlib.Core.List.{List, [], _∷_, _++_, append-nil, append-assoc, map, map-append}
-use Prim.Native.Nat.{ℕ, zero, suc, _+_, _*_, _/_, _%_, _<_}
-use native.Mathlib.Nat.{div-lt-iff-lt-mul}
+use Prim.Native.Nat.{ℕ, zero, suc, _+_, _/_, _<_}
 use native.Mathlib.Omega.{arith}
-use lib.ListN.{length, getD, drop}
+use lib.ListN.{length, drop}
 use lib.Seq.{take-append-seam, drop-append-seam}
 use lib.Dec.{eqb}
 use Rattle.numbers.specs.Bytes.{number}
 use Rattle.ledger.specs.Settings.{Settings}
 use Rattle.ledger.specs.Rules.{Clear}
-use Rattle.ledger.specs.Ledger.{owner, index, Packet, bare, recorded, Place, free, ingress, egress, prefetched, portOf, Ledger, listAt, lastOf, mapOf, move, putArrival, putOutward, putLast, putMap}
+use Rattle.ledger.specs.Ledger.{owner, Packet, bare, recorded, Place, free, ingress, egress, prefetched, portOf, Ledger, listAt, lastOf, mapOf, move, putArrival, putOutward, putLast, putMap}
 use Rattle.ledger.specs.Ready.{readyWord, pick}
 use Rattle.ledger.specs.Calls.{Act, arrive, stitch, prefetch, credit, mapTo, turn, ready, whereIs, Reply, refused, idle, isEmpty, firstOf, stitchRecord, arriving, arrived, served, serve, rules, result, step, run}
-use Rattle.ledger.specs.Desk.{Desk, has, Call, setup, act, desk, afterCalls, answersOf, SetupsRefused}
+use Rattle.ledger.specs.Desk.{Desk, has, Call, setup, act, desk, answersOf, SetupsRefused}
 use Rattle.ledger.specs.Sound.{Orderly, Roomy}
-use Rattle.ledger.specs.Order.{kindIn, queueIn, samePlace, Movement, stays, moves, movement, movementOf, cameBy, leftBy, gathered, cameTo, leftFrom, idsAt, FirstInFirstOut, KeepsOrder}
+use Rattle.ledger.specs.Order.{kindIn, queueIn, samePlace, Movement, stays, moves, movement, cameBy, leftBy, cameTo, leftFrom, idsAt, FirstInFirstOut, KeepsOrder}
 use Rattle.ledger.proofs.Tests.{true≢false, is-false, leb-no, eqb-yes, eqb-is, and-left, and-right}
 use Rattle.ledger.proofs.Lists.{cons-form}
 use Rattle.ledger.proofs.Places.{Place·In, Node}

@@ -1,32 +1,30 @@
 -- Demand 2 as theorems about the desk: refusals change nothing, sound arrivals, order, home. Assumes nothing.
 use mathlib.Core.Path.{_≡_, refl, sym, ap, _∙_, subst}
 use mathlib.Core.Logic.{_≢_, _⊎_, inl, inr}
-use mathlib.Core.Bool.{Bool, true, false, cond, not}
-use mathlib.Core.List.{List, [], _∷_, _++_, append-nil, append-assoc}
-use Prim.Native.Nat.{ℕ, zero, suc, _+_, _≤_, _<_, zero-le, suc-le-suc}
+use mathlib.Core.Bool.{Bool, true, false, cond}
+use mathlib.Core.List.{List, [], _∷_, _++_}
+use Prim.Native.Nat.{ℕ, _+_, _<_}
 use native.Mathlib.Omega.{arith}
-use native.Mathlib.Decide.{ℕ-discrete}
-use lib.ListN.{length, getD, drop, length-append, length-drop}
-use lib.Seq.{drop-append-le, drop-drop}
+use lib.ListN.{length, getD}
 use lib.Dec.{eqb, ltb}
 use Rattle.ledger.specs.Settings.{Settings, settings, inRows}
-use Rattle.ledger.specs.Rules.{Rule, refuse, guard, Clear}
+use Rattle.ledger.specs.Rules.{refuse, guard, Clear}
 use Rattle.ledger.specs.Header.{fieldsOf, headerRules}
-use Rattle.ledger.specs.Ledger.{owner, isNode, Packet, bare, recorded, Place, free, ingress, egress, prefetched, place#, placeOf, Ledger, listAt, arrivalOf, outwardOf, lastOf, mapOf, move, putArrival, putOutward, putLast, putMap, start}
+use Rattle.ledger.specs.Ledger.{owner, isNode, Packet, bare, recorded, Place, free, prefetched, place#, Ledger, listAt, arrivalOf, lastOf, putArrival, putOutward, putLast, start}
 use Rattle.ledger.specs.Ready.{isReady, wordOf, countOf, readyWord, pick}
-use Rattle.ledger.specs.Calls.{Act, arrive, stitch, prefetch, credit, mapTo, turn, ready, whereIs, Side, Reply, refused, done, entry, stitched, idle, leaves, word, found, isRefused, sideOf, noPort, isEmpty, firstOf, arriving, lastRules, arrived, served, serve, turned, rules, result, step, run}
-use Rattle.ledger.specs.Desk.{Desk, none, has, Call, setup, act, setupRules, onDesk, desk, after}
+use Rattle.ledger.specs.Calls.{Act, arrive, stitch, prefetch, credit, mapTo, turn, ready, whereIs, Reply, refused, done, entry, idle, word, isRefused, noPort, isEmpty, firstOf, arriving, lastRules, arrived, served, serve, rules, result, step}
+use Rattle.ledger.specs.Desk.{Desk, none, has, Call, setup, act, setupRules, desk, after}
 use Rattle.ledger.specs.Sound.{All, OwnPort, Proper, Orderly, Roomy, Sound}
 use Rattle.ledger.proofs.Tests.{true≢false, leb-no, leb-not, ltb-yes, eqb-yes, eqb-no, not-yes}
 use Rattle.ledger.proofs.Header.{price-pays}
-use Rattle.ledger.proofs.Places.{Place·In, place#-inj, place-number}
-use Rattle.ledger.proofs.Keep.{some-queue, len, first-fits, first-node, from-moved, to-moved, else-moved}
+use Rattle.ledger.proofs.Places.{Place·In, place-number}
+use Rattle.ledger.proofs.Keep.{some-queue, len, first-node, to-moved}
 use Rattle.ledger.proofs.Rows.{roomy}
 use Rattle.ledger.proofs.Ready.{count-is-ones}
 use Rattle.ledger.proofs.Find.{where-right, one-place}
 use Rattle.ledger.proofs.Start.{start-sound}
 use Rattle.ledger.proofs.Passes.{guard-after, Passes, passes, passes-clear, admits}
-use Rattle.ledger.proofs.Steps.{guarded, recorded-proper, picked-some, keep-step, keep-run}
+use Rattle.ledger.proofs.Steps.{guarded, recorded-proper, keep-step}
 
 -- ---- a refusal leaves the desk as it was
 

@@ -1,5 +1,5 @@
 -- Demand 3: nobody starves. Assumes nothing.
-use mathlib.Core.Path.{_≡_, refl, sym, ap, ap₂, _∙_, subst}
+use mathlib.Core.Path.{_≡_, refl, sym, ap, _∙_, subst}
 use mathlib.Core.Logic.{_≢_, _⊎_, inl, inr}
 use mathlib.Core.Bool.{Bool, true, false, cond, not, _&&_, _||_}
 use mathlib.Core.List.{List, [], _∷_, _++_, append-assoc, append-nil}
@@ -11,18 +11,16 @@ use lib.ListN.{length, getD, set, drop, take}
 use lib.Seq.{getD-set-same, getD-set-other}
 use lib.Dec.{eqb, leb}
 use Rattle.ledger.specs.Settings.{Settings}
-use Rattle.ledger.specs.Rules.{guard, Clear}
-use Rattle.ledger.specs.Header.{fieldsOf, leastLength}
-use Rattle.ledger.specs.Ledger.{owner, Packet, bare, recorded, Place, free, ingress, egress, prefetched, place#, Ledger, listAt, arrivalOf, outwardOf, lastOf, mapOf, creditAt, setCredit, cell, move, putArrival, putOutward, putLast, putMap}
-use Rattle.ledger.specs.Ready.{bit, covered, isReady, wordOf, readyWord, pick}
+use Rattle.ledger.specs.Rules.{Clear}
+use Rattle.ledger.specs.Ledger.{owner, Packet, bare, recorded, Place, free, ingress, egress, prefetched, place#, Ledger, listAt, outwardOf, lastOf, mapOf, creditAt, setCredit, cell, move, putArrival, putOutward, putLast, putMap}
+use Rattle.ledger.specs.Ready.{bit, covered, isReady, readyWord, pick}
 use Rattle.ledger.specs.Calls.{Act, arrive, stitch, prefetch, credit, mapTo, turn, ready, whereIs, Reply, refused, idle, leaves, isRefused, sideOf, isEmpty, firstOf, arriving, arrived, served, serve, turned, rules, result, step, run}
-use Rattle.ledger.specs.Sound.{sum, Proper, Orderly, Roomy, Sound}
+use Rattle.ledger.specs.Sound.{sum, Orderly, Roomy}
 use Rattle.ledger.specs.Demand.{isTurn, turnsOf, InHand, Stands, LeavesWithin, NobodyStarves}
-use Rattle.ledger.proofs.Tests.{true≢false, leb-is, leb-no, leb-not, eqb-is, eqb-yes, eqb-no, ltb-no, or-is, or-is-right}
-use Rattle.ledger.proofs.Places.{Place·In, place#-inj, bit-le, cell-lt, credit-same, credit-other}
+use Rattle.ledger.proofs.Tests.{true≢false, leb-is, leb-no, leb-not, eqb-is, eqb-yes, eqb-no, or-is, or-is-right}
+use Rattle.ledger.proofs.Places.{Place·In, bit-le, credit-same, credit-other}
 use Rattle.ledger.proofs.Keep.{some-queue, first-fits, first-node, from-moved, to-moved, else-moved}
-use Rattle.ledger.proofs.Ready.{gap, gap-pos, gap-le, picked-lt, word-some, picked-nearer}
-use Rattle.ledger.proofs.Rows.{roomy, this-build}
+use Rattle.ledger.proofs.Ready.{gap, gap-pos, gap-le, word-some, picked-nearer}
 use Rattle.ledger.proofs.Passes.{Admits, admits}
 use Rattle.ledger.proofs.Steps.{guarded, picked-some, keep-step}
 

@@ -1,15 +1,15 @@
 -- Demand 3, nobody starves, as a statement. Assumes nothing.
 use mathlib.Core.Path.{_≡_}
 use mathlib.Core.Logic.{_⊎_}
-use mathlib.Core.Bool.{Bool, true, false, not, _&&_}
+use mathlib.Core.Bool.{Bool, false, not, _&&_}
 use mathlib.Core.List.{List, [], _∷_, _++_}
-use Prim.Native.Nat.{ℕ, zero, suc, _+_, _*_, _≤_, _<_}
+use Prim.Native.Nat.{ℕ, _+_, _*_, _≤_, _<_}
 use lib.ListN.{length, getD, take}
 use lib.Dec.{eqb}
 use Rattle.ledger.specs.Settings.{Settings}
 use Rattle.ledger.specs.Ledger.{Packet, prefetched, Ledger, listAt, outwardOf}
 use Rattle.ledger.specs.Ready.{bit}
-use Rattle.ledger.specs.Calls.{Act, arrive, stitch, prefetch, credit, mapTo, turn, ready, whereIs, Reply, refused, done, entry, stitched, idle, leaves, word, found, isRefused, sideOf, step, run}
+use Rattle.ledger.specs.Calls.{Act, arrive, stitch, prefetch, credit, mapTo, turn, ready, whereIs, Reply, leaves, isRefused, sideOf, step, run}
 use Rattle.ledger.specs.Desk.{Desk, has, Call, setup, act, desk, afterCalls, SetupsRefused}
 use Rattle.ledger.specs.Sound.{sum, Roomy, Orderly, Sound}
 
@@ -65,11 +65,10 @@ abbrev pub isTurnCall : ℕ → Call → Bool
 isTurnCall p (setup N b s c) = false
 isTurnCall p (act a) = isTurn p a
 
-module _ {X : Type 0} (call : X → Call → Reply × X) where
-  -- how many turns port p has among the calls, refused ones not counted
-  abbrev pub turnsIn : ℕ → X → List Call → ℕ
-  turnsIn p x [] = 0
-  turnsIn p x (c ∷ cs) = bit (isTurnCall p c && not (isRefused (call x c .0))) + turnsIn p (call x c .1) cs
+-- how many turns of port p are among the calls
+abbrev pub turnsIn : ℕ → List Call → ℕ
+turnsIn p [] = 0
+turnsIn p (c ∷ cs) = bit (isTurnCall p c) + turnsIn p cs
 
 -- x shows packet k in the prefetch slots of port p and queue q
 pub record ShowsWaiting {X : Type 0} (shows : X → Desk) (S : Settings) (p q : ℕ) (k : Packet) (x : X) : Type 0 where
@@ -83,7 +82,7 @@ pub record ShowsWaiting {X : Type 0} (shows : X → Desk) (S : Settings) (p q : 
 pub record LeavesAmong {X : Type 0} (call : X → Call → Reply × X) (shows : X → Desk) (S : Settings) (p q : ℕ) (k : Packet) (n : ℕ) (x : X) (cs : List Call) : Type 0 where
   pub moment : ℕ
   pub among : moment < length cs
-  pub soon : turnsIn call p x (take moment cs) < n
+  pub soon : turnsIn p (take moment cs) < n
   pub a-turn : getD cs moment (act (ready 0)) ≡ act (turn p)
   pub it-leaves : call (afterCalls call x (take moment cs)) (act (turn p)) .0 ≡ leaves k (sideOf q)
   pub until-then : (i : ℕ) → i ≤ moment → ShowsWaiting shows S p q k (afterCalls call x (take i cs))
@@ -96,7 +95,7 @@ NobodyStarvesFrom call shows S L P Q x =
     (p q : ℕ) → p < P → q < Q
     → (ahead : List Packet) (k : Packet) → Stands S p q k ahead L
     → InHand S L p q (ahead ++ (k ∷ []))
-    → (cs : List Call) → SetupsRefused call x cs → Q * (length ahead + 1) ≤ turnsIn call p x cs
+    → (cs : List Call) → SetupsRefused call x cs → Q * (length ahead + 1) ≤ turnsIn p cs
     → LeavesAmong call shows S p q k (Q * (length ahead + 1)) x cs
 
 -- at the desk, whatever its memory's length n: for any number of ports and queues

@@ -1,5 +1,5 @@
 -- Paper 01, "The ledger": what is recorded, where nodes stand, the credits, and the setters by which calls change it. Assumes nothing.
-use mathlib.Core.Bool.{Bool, true, false, cond, _&&_}
+use mathlib.Core.Bool.{Bool, cond, _&&_}
 use mathlib.Core.List.{List, [], _∷_, _++_}
 use Prim.Native.Nat.{ℕ, zero, suc, _+_, _-_, _*_, _/_, _%_}
 use lib.ListN.{getD, set, drop, replicate}
@@ -128,8 +128,11 @@ oldest ks = getD ks 0 (bare 0)
 unfoldable pub pop : ℕ → List (List Packet) → List (List Packet)
 pop a ls = set ls a (drop 1 (getD ls a []))
 
+abbrev pub behind : Packet → List Packet → List Packet
+behind k ks = ks ++ (k ∷ [])
+
 unfoldable pub push : ℕ → Packet → List (List Packet) → List (List Packet)
-push b k ls = set ls b (getD ls b [] ++ (k ∷ []))
+push b k ls = set ls b (behind k (getD ls b []))
 
 -- ---- setters, one for each part of the ledger
 

@@ -2,19 +2,19 @@
 -- hurts only itself; pools neither leak nor mix. Assumes nothing.
 use mathlib.Core.Path.{_≡_}
 use mathlib.Core.Logic.{_≢_}
-use mathlib.Core.Bool.{Bool, not, _&&_}
+use mathlib.Core.Bool.{not, _&&_}
 use mathlib.Core.List.{List, [], _∷_, _++_}
 use Prim.Native.Nat.{ℕ, _+_, _<_}
 use lib.ListN.{length, getD}
 use lib.Dec.{eqb}
 use Rattle.ledger.specs.Settings.{Settings}
 use Rattle.ledger.specs.Header.{fieldsOf}
-use Rattle.ledger.specs.Ledger.{owner, Packet, recorded, Place, free, ingress, place#, placeOf, Ledger, listAt, arrivalOf}
+use Rattle.ledger.specs.Ledger.{owner, Packet, recorded, free, ingress, place#, placeOf, Ledger, listAt, arrivalOf}
 use Rattle.ledger.specs.Ready.{bit}
 use Rattle.ledger.specs.Calls.{Reply, refused, entry}
 use Rattle.ledger.specs.Desk.{Desk, has, Call, afterCalls, answersOf}
 use Rattle.ledger.specs.Sound.{All, weigh, owes}
-use Rattle.ledger.specs.Order.{kindIn, cameTo, leftFrom, idsAt, FirstInFirstOut}
+use Rattle.ledger.specs.Order.{isFree, cameTo, leftFrom, idsAt, FirstInFirstOut}
 
 -- ---- an arrival
 
@@ -43,9 +43,6 @@ pub data Arrival (S : Settings) (L : Ledger) (p : ℕ) (h : List ℕ) : Reply �
 -- ---- a pool
 
 -- port p's nodes that aren't free
-abbrev pub isFree : Place → Bool
-isFree v = eqb (kindIn v) 0
-
 abbrev pub away : Settings → ℕ → ℕ → Packet → ℕ
 away S p l k = bit (eqb (owner (k .node)) p && not (isFree (placeOf S l)))
 

@@ -1,16 +1,19 @@
 -- Demand 2, "queues keep order; nodes go home to their owner", as statements. What came to a list and what left it are read off the calls
 -- and their answers alone, by entry ids, as a caller can read them. Assumes nothing.
 use mathlib.Core.Path.{_≡_}
+use mathlib.Core.Logic.{_⊎_}
 use mathlib.Core.Bool.{Bool, cond, _&&_}
 use mathlib.Core.List.{List, [], _∷_, _++_, map}
-use Prim.Native.Nat.{ℕ}
+use Prim.Native.Nat.{ℕ, suc}
 use lib.ListN.{length, getD, take, drop}
 use lib.Dec.{eqb}
 use Rattle.numbers.specs.Bytes.{number}
 use Rattle.ledger.specs.Settings.{Settings}
-use Rattle.ledger.specs.Ledger.{owner, Packet, Place, free, ingress, egress, prefetched, portOf, Ledger, listAt}
+use Rattle.ledger.specs.Header.{fieldsOf}
+use Rattle.ledger.specs.Ledger.{owner, Packet, recorded, Place, free, ingress, egress, prefetched, portOf, placeOf, Ledger, listAt}
 use Rattle.ledger.specs.Calls.{Act, arrive, stitch, prefetch, credit, mapTo, turn, ready, whereIs, Reply, refused, done, entry, stitched, idle, leaves, word, found}
 use Rattle.ledger.specs.Desk.{Desk, has, Call, setup, act, afterCalls, answersOf}
+use Rattle.ledger.specs.Sound.{All}
 
 -- ---- are two places the same
 
@@ -36,26 +39,26 @@ pub data Movement : Type 0 where
   moves : ℕ → Place → Place → Movement
 
 -- by what an answer names: an entry id, a stitch's record, a packet that leaves; a refusal, and any other answer, names none
-abbrev pub named : (ℕ → Movement) → (List ℕ → Movement) → (Packet → Movement) → Reply → Movement
-named e s l (refused n) = stays
-named e s l done = stays
-named e s l (entry x) = e x
-named e s l (stitched b) = s b
-named e s l idle = stays
-named e s l (leaves k t) = l k
-named e s l (word w n) = stays
-named e s l (found v i) = stays
+abbrev pub named : {A : Type 0} → A → (ℕ → A) → (List ℕ → A) → (Packet → A) → Reply → A
+named no′ e s l (refused n) = no′
+named no′ e s l done = no′
+named no′ e s l (entry x) = e x
+named no′ e s l (stitched b) = s b
+named no′ e s l idle = no′
+named no′ e s l (leaves k t) = l k
+named no′ e s l (word w n) = no′
+named no′ e s l (found v i) = no′
 
 abbrev pub byEntry : Place → Place → Reply → Movement
-byEntry v w = named (λ x. moves x v w) (λ b. stays) (λ k. stays)
+byEntry v w = named stays (λ x. moves x v w) (λ b. stays) (λ k. stays)
 
 -- the record has the entry id in its first two bytes, then the length, then the queue and the mapped port
 abbrev pub byRecord : Place → Reply → Movement
-byRecord v = named (λ x. stays) (λ b. moves (number 2 b 0) v (egress (getD b 5 0) (getD b 4 0))) (λ k. stays)
+byRecord v = named stays (λ x. stays) (λ b. moves (number 2 b 0) v (egress (getD b 5 0) (getD b 4 0))) (λ k. stays)
 
 -- a packet leaves the slots of its queue, and its node goes to the port in its entry id
 abbrev pub byTurn : ℕ → Reply → Movement
-byTurn p = named (λ x. stays) (λ b. stays) (λ k. moves (k .node) (prefetched p (k .queue)) (free (owner (k .node))))
+byTurn p = named stays (λ x. stays) (λ b. stays) (λ k. moves (k .node) (prefetched p (k .queue)) (free (owner (k .node))))
 
 abbrev pub movement : Act → Reply → Movement
 movement (arrive p h) r = byEntry (free p) (ingress p) r
@@ -81,16 +84,17 @@ abbrev pub leftBy : Place → Movement → List ℕ
 leftBy u stays = []
 leftBy u (moves x v w) = cond (samePlace u v) (x ∷ []) []
 
-abbrev pub gathered : (Movement → List ℕ) → List Call → List Reply → List ℕ
+-- what f reads off each call and its answer
+abbrev pub gathered : {A : Type 0} → (Call → Reply → List A) → List Call → List Reply → List A
 gathered f [] rs = []
 gathered f (c ∷ cs) [] = []
-gathered f (c ∷ cs) (r ∷ rs) = f (movementOf c r) ++ gathered f cs rs
+gathered f (c ∷ cs) (r ∷ rs) = f c r ++ gathered f cs rs
 
 abbrev pub cameTo : Place → List Call → List Reply → List ℕ
-cameTo u = gathered (cameBy u)
+cameTo u = gathered (λ c r. cameBy u (movementOf c r))
 
 abbrev pub leftFrom : Place → List Call → List Reply → List ℕ
-leftFrom u = gathered (leftBy u)
+leftFrom u = gathered (λ c r. leftBy u (movementOf c r))
 
 -- ---- a list keeps its order
 
@@ -109,3 +113,48 @@ pub record KeepsOrder {X : Type 0} (call : X → Call → Reply × X) (shows : X
   pub ledger : Ledger
   pub shown : shows (afterCalls call x cs) ≡ has S ledger
   pub in-order : FirstInFirstOut (idsAt S L u) (cameTo u cs (answersOf call x cs)) (leftFrom u cs (answersOf call x cs)) (idsAt S ledger u)
+
+-- ---- what is recorded of a packet goes along with it
+
+-- the packets that the switch holds: those of every list that isn't a free list
+abbrev pub isFree : Place → Bool
+isFree v = eqb (kindIn v) 0
+
+abbrev pub heldFrom : Settings → ℕ → List (List Packet) → List Packet
+heldFrom S l [] = []
+heldFrom S l (ks ∷ ls) = cond (isFree (placeOf S l)) [] ks ++ heldFrom S (suc l) ls
+
+abbrev pub held : Settings → Ledger → List Packet
+held S L = heldFrom S 0 (L .lists)
+
+-- the packet that a call brought in: an arrival's header, recorded for the node that its answer names
+abbrev pub broughtBy : Settings → Act → Reply → List Packet
+broughtBy S (arrive p h) r = named [] (λ x. recorded S x (fieldsOf h) ∷ []) (λ b. []) (λ k. []) r
+broughtBy S (stitch p) r = []
+broughtBy S (prefetch p q) r = []
+broughtBy S (credit p q n) r = []
+broughtBy S (mapTo d p) r = []
+broughtBy S (turn p) r = []
+broughtBy S (ready p) r = []
+broughtBy S (whereIs y) r = []
+
+abbrev pub broughtIn : Settings → Call → Reply → List Packet
+broughtIn S (setup N b s c) r = []
+broughtIn S (act a) r = broughtBy S a r
+
+-- and the one that it sent out, as its answer names it
+abbrev pub sentOut : Call → Reply → List Packet
+sentOut (setup N b s c) r = []
+sentOut (act a) r = named [] (λ x. []) (λ b. []) (λ k. k ∷ []) r
+
+abbrev pub Among : Packet → List Packet → Type 0
+Among k [] = ⊥
+Among k (j ∷ js) = (j ≡ k) ⊎ Among k js
+
+-- every packet that the calls sent out, and every one that the switch holds after them, with all that is recorded of it, is one that it
+-- held before or that an arrival among them brought in; x showed the ledger L
+pub record GoesAlong {X : Type 0} (call : X → Call → Reply × X) (shows : X → Desk) (S : Settings) (L : Ledger) (x : X) (cs : List Call) : Type 0 where
+  pub ledger : Ledger
+  pub shown : shows (afterCalls call x cs) ≡ has S ledger
+  pub sent : All (λ k. Among k (held S L ++ gathered (broughtIn S) cs (answersOf call x cs))) (gathered sentOut cs (answersOf call x cs))
+  pub holds : All (λ k. Among k (held S L ++ gathered (broughtIn S) cs (answersOf call x cs))) (held S ledger)

@@ -5,7 +5,7 @@ use Prim.Native.Nat.{ℕ, zero, suc, _+_, _*_, _/_, _^_}
 use lib.Dec.{eqb, leb}
 use lib.Count.{trailingZeros}
 use Rattle.ledger.specs.Settings.{Settings}
-use Rattle.ledger.specs.Ledger.{Packet, prefetched, Ledger, listAt, outwardOf, lastOf}
+use Rattle.ledger.specs.Ledger.{Packet, prefetched, Ledger, listAt, outwardOf}
 
 -- "if its prefetch list isn't empty and it is queue 0 or its outward credit covers the oldest packet's price"
 abbrev pub covered : ℕ → ℕ → List Packet → Bool

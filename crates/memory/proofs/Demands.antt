@@ -1,17 +1,17 @@
 -- What is proved of the desk holds of memory, by the square. Assumes nothing.
 use mathlib.Core.Path.{_≡_, refl, sym, ap, _∙_, subst}
-use mathlib.Core.Bool.{Bool, true, false, not, _&&_}
-use mathlib.Core.List.{List, [], _∷_, _++_}
-use Prim.Native.Nat.{ℕ, zero, suc, _+_, _*_, _≤_, _<_}
+use mathlib.Core.Bool.{Bool, true, false}
+use mathlib.Core.List.{List}
+use Prim.Native.Nat.{ℕ, _*_, _<_}
 use native.Mathlib.Omega.{arith}
-use lib.ListN.{length, getD, take}
+use lib.ListN.{length}
 use Rattle.ledger.specs.Settings.{Settings}
 use Rattle.ledger.specs.Ledger.{isNode, Place, place#, Ledger}
 use Rattle.ledger.specs.Ready.{isReady, wordOf, countOf}
 use Rattle.ledger.specs.Calls.{Act, arrive, ready, whereIs, Reply, refused, entry, word, found, step}
 use Rattle.ledger.specs.Desk.{has, Call, act, SetupsRefused}
 use Rattle.ledger.specs.Sound.{Roomy, Sound}
-use Rattle.ledger.specs.Order.{KeepsOrder}
+use Rattle.ledger.specs.Order.{KeepsOrder, GoesAlong}
 use Rattle.ledger.specs.Night.{Arrival, PoolKept}
 use Rattle.ledger.proofs.Places.{Place·In, place#-lt}
 use Rattle.ledger.proofs.Rows.{roomy, this-build}
@@ -20,6 +20,7 @@ use Rattle.ledger.proofs.Passes.{Passes}
 use Rattle.ledger.proofs.Promises.{ready-counts, means-sound, Wanting, sound-arrival, OnePlace, each-in-one-place}
 use Rattle.ledger.proofs.Courses.{Faithful, act-answer, act-shows, nobody-starves-from, this-build-from}
 use Rattle.ledger.proofs.Order.{keeps-order}
+use Rattle.ledger.proofs.Records.{goes-along}
 use Rattle.ledger.proofs.Night.{whose-node, arrival-shows, pool-kept}
 use Rattle.layout.specs.Tables.{lists}
 use Rattle.layout.specs.Picture.{settingsIn, ledgerIn, State}
@@ -80,6 +81,10 @@ module _ (m : List ℕ) (S : Settings) (L : Ledger) (e : picture m ≡ has S L) 
   -- over any calls in which every setup is refused: queues keep their order
   pub memory-keeps-order : (u : Place) → Place·In S u → (cs : List Call) → SetupsRefused onMemory m cs → KeepsOrder onMemory picture S L u m cs
   memory-keeps-order u hu cs f = keeps-order onMemory picture length memory-faithful S ok u hu m L e (s .orderly) cs f
+
+  -- what is recorded of a packet goes along with it
+  pub memory-goes-along : (cs : List Call) → SetupsRefused onMemory m cs → GoesAlong onMemory picture S L m cs
+  memory-goes-along cs f = goes-along onMemory picture length memory-faithful S ok m L e (s .orderly) cs f
 
   -- and pools neither leak nor mix
   pub memory-pool-kept : (p : ℕ) → p < S .ports → (cs : List Call) → SetupsRefused onMemory m cs → PoolKept onMemory picture S L p m cs

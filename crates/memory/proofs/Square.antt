@@ -2,30 +2,30 @@
 -- Assumes nothing.
 use mathlib.Core.Path.{_≡_, refl, sym, ap, _∙_, subst}
 use mathlib.Core.Logic.{_≢_}
-use mathlib.Core.Bool.{Bool, true, false, cond, not}
+use mathlib.Core.Bool.{Bool, true, false, cond}
 use mathlib.Core.List.{List, [], _∷_}
-use Prim.Native.Nat.{ℕ, zero, suc, _+_, _-_, _*_, _%_, _≤_, _<_}
+use Prim.Native.Nat.{ℕ, zero, suc, _+_, _-_, _≤_, _<_}
 use native.Mathlib.Omega.{arith}
-use lib.ListN.{length, getD, drop}
+use lib.ListN.{length, drop}
 use lib.Dec.{eqb}
 use Rattle.ledger.specs.Settings.{Settings, settings, inRows, ids, row, size}
 use Rattle.ledger.specs.Rules.{Rule, refuse, guard, Clear}
 use Rattle.ledger.specs.Header.{fieldsOf, price}
-use Rattle.ledger.specs.Ledger.{owner, isNode, Packet, bare, recorded, Place, free, ingress, egress, prefetched, place#, column, portOf, Ledger, listAt, arrivalOf, outwardOf, lastOf, mapOf, creditAt, oldest, pop, push, move, putArrival, putOutward, putLast, putMap, start}
-use Rattle.ledger.specs.Ready.{bit, readyWord, pick}
-use Rattle.ledger.specs.Calls.{Act, arrive, stitch, prefetch, credit, mapTo, turn, ready, whereIs, Reply, refused, done, idle, isRefused, isEmpty, firstOf, arriving, arrived, served, serve, turned, rules, result, step}
-use Rattle.ledger.specs.Desk.{Desk, none, has, Call, setup, act, setupRules, onDesk, desk}
-use Rattle.ledger.specs.Sound.{weigh, one, Proper, Orderly, Roomy, Sound}
+use Rattle.ledger.specs.Ledger.{owner, isNode, Packet, bare, recorded, Place, free, ingress, egress, prefetched, place#, column, portOf, Ledger, listAt, arrivalOf, outwardOf, lastOf, mapOf, push, move, putArrival, putOutward, putLast, start}
+use Rattle.ledger.specs.Ready.{readyWord, pick}
+use Rattle.ledger.specs.Calls.{Act, arrive, stitch, prefetch, credit, mapTo, turn, ready, whereIs, Reply, refused, done, idle, isRefused, isEmpty, firstOf, arriving, arrived, served, serve, turned, rules, result}
+use Rattle.ledger.specs.Desk.{Desk, has, Call, setup, act, setupRules, onDesk, desk}
+use Rattle.ledger.specs.Sound.{weigh, one, Proper, Orderly, Roomy}
 use Rattle.ledger.proofs.Promises.{result-given}
-use Rattle.ledger.proofs.Tests.{true≢false, leb-no, ltb-no, eqb-is, eqb-not, or-left, not-yes}
-use Rattle.ledger.proofs.Places.{Place·In, place#-lt, row-mod, column-lt, Node, node-is, credit-none, credit-same}
+use Rattle.ledger.proofs.Tests.{true≢false, leb-no, ltb-no, eqb-not, or-left, not-yes}
+use Rattle.ledger.proofs.Places.{Place·In, place#-lt, row-mod, column-lt, credit-none, credit-same}
 use Rattle.ledger.proofs.Header.{price-free}
 use Rattle.ledger.proofs.Keep.{some-queue, first-fits, first-node}
 use Rattle.ledger.proofs.Rows.{roomy}
 use Rattle.ledger.proofs.Passes.{Admits, admits}
 use Rattle.ledger.proofs.Steps.{guarded, cleared, recorded-proper, picked-some, keep-served, keep-step}
-use Rattle.layout.specs.declared.Table.the-variants.{Mapped, Last, Arrival, Outward, Head}
-use Rattle.layout.specs.Tables.{lists, get, put}
+use Rattle.layout.specs.declared.Table.the-variants.{Arrival, Outward}
+use Rattle.layout.specs.Tables.{lists}
 use Rattle.layout.specs.Picture.{settingsIn, packetAt, nodeIn, ledgerIn, StateOf, State}
 use Rattle.memory.specs.Ends.{popMem, pushMem, Tidy, withLists}
 use Rattle.memory.specs.Writes.{headOf, moveMem, recordMem, creditMem, arriveMem, serveMem, turnMem, write}

@@ -1,0 +1,93 @@
+-- What the statements over many calls exclude: of each wrong desk here the statement is false. Assumes nothing.
+use mathlib.Core.Path.{_≡_, refl, sym, ap, _∙_}
+use mathlib.Core.Bool.{true, false, cond}
+use mathlib.Core.List.{List, [], _∷_, _++_, map, reverse}
+use Prim.Native.Nat.{ℕ, zero, suc, _+_, _*_, _<_}
+use native.Mathlib.Omega.{arith}
+use lib.ListN.{length, getD, replicate}
+use Rattle.ledger.specs.Settings.{Settings, settings, row}
+use Rattle.ledger.specs.Ledger.{owner, Packet, free, place#, placeOf, Ledger, pop, start}
+use Rattle.ledger.specs.Calls.{arrive, turn, ready, Side, outside, Reply, refused, entry, idle, leaves, isRefused, sideOf}
+use Rattle.ledger.specs.Desk.{Desk, none, has, Call, act, desk, SetupsRefused}
+use Rattle.ledger.specs.Demand.{turnsIn, Stands, InHand, NobodyStarvesFrom}
+use Rattle.ledger.specs.Order.{idsAt, KeepsOrder, GoesAlong}
+use Rattle.ledger.specs.Night.{Arrival, turned-away, taken, PoolKept}
+use Rattle.ledger.proofs.Tests.{true≢false, eqb-is}
+
+-- ---- demand 3: a desk that answers every call alike and changes nothing, be the answer idle or a refusal
+
+module _ (S : Settings) (L : Ledger) (p q : ℕ) (hp : p < S .ports) (hq : q < S .queues) (ahead : List Packet) (k : Packet)
+    (there : Stands S p q k ahead L) (hand : InHand S L p q (ahead ++ (k ∷ []))) where
+  only-turns : ℕ → List Call
+  only-turns n = replicate n (act (turn p))
+
+  only-refused : (call : Desk → Call → Reply × Desk) (n : ℕ) (D : Desk) → SetupsRefused call D (only-turns n)
+  unfolding only-turns
+  only-refused call zero D = tt
+  only-refused call (suc n) D = ((λ i. absurd (true≢false (sym i))), only-refused call n (call D (act (turn p)) .1))
+
+  all-count : (n : ℕ) → turnsIn p (only-turns n) ≡ n
+  unfolding only-turns
+  all-count zero = refl
+  all-count (suc n) = rw (eqb-is p p refl) (omega (arith, all-count n))
+
+  starves-alike : (r : Reply) → ((s : Side) → r ≡ leaves k s → ⊥) → NobodyStarvesFrom (λ D c. (r, D)) (λ D. D) S L (S .ports) (S .queues) (has S L) → ⊥
+  starves-alike r other f =
+      let n : ℕ = S .queues * (length ahead + 1) in
+      let o = f p q hp hq ahead k there hand (only-turns n) (only-refused (λ D c. (r, D)) n (has S L)) (omega (arith, all-count n)) in
+      other (sideOf q) (o .it-leaves)
+
+  pub starves-idle : NobodyStarvesFrom (λ D c. (idle, D)) (λ D. D) S L (S .ports) (S .queues) (has S L) → ⊥
+  starves-idle = starves-alike idle (λ s e. let z : _≡_ {A = ℕ} 0 1 = cc in omega arith)
+
+  pub starves-refused : (n : ℕ) → NobodyStarvesFrom (λ D c. (refused n, D)) (λ D. D) S L (S .ports) (S .queues) (has S L) → ⊥
+  starves-refused n = starves-alike (refused n) (λ s e. let z : _≡_ {A = ℕ} 0 1 = cc in omega arith)
+
+-- ---- queues keep their order: a desk that answers right and turns every list round at each call
+
+abbrev pub two : Settings
+two = settings 2 64 1 0
+
+abbrev pub withLists : (List (List Packet) → List (List Packet)) → Desk → Desk
+withLists f none = none
+withLists f (has S L) = has S (record { lists = f (L .lists); arrival = L .arrival; outward = L .outward; last = L .last; mapped = L .mapped })
+
+abbrev pub turnsRound : ℕ → Desk → Call → Reply × Desk
+turnsRound n D c = (desk n D c .0, withLists (map reverse) (desk n D c .1))
+
+-- the oldest free id of port 0
+oldestFree : Desk → ℕ
+oldestFree none = 0
+oldestFree (has S L) = getD (idsAt S L (free 0)) 0 0
+
+pub order-turned-round : (n : ℕ) → KeepsOrder (turnsRound n) (λ D. D) two (start two) (free 0) (has two (start two)) (act (ready 0) ∷ []) → ⊥
+unfolding oldestFree start row place#
+order-turned-round n k =
+    let e : _≡_ {A = ℕ} 1 0 = ap oldestFree (k .shown) ∙ ap (λ (xs : List ℕ). getD xs 0 0) (k .in-order .stays-behind) in
+    omega arith
+
+-- ---- what is recorded goes along: a desk that sends a packet which never came
+
+pub sent-from-nowhere : (k : Packet) → GoesAlong (λ D c. (leaves k outside, D)) (λ D. D) two (start two) (has two (start two)) (act (turn 0) ∷ []) → ⊥
+unfolding start row placeOf
+sent-from-nowhere k g = g .sent .0
+
+-- ---- pools: a desk that answers right, and whose refusals cost port 0 a node
+
+abbrev pub leaks : ℕ → Desk → Call → Reply × Desk
+leaks n D c = (desk n D c .0, withLists (cond (isRefused (desk n D c .0)) (pop 0) (λ ls. ls)) (desk n D c .1))
+
+pub pool-leaked : (n : ℕ) → PoolKept (leaks n) (λ D. D) two (start two) 0 (has two (start two)) (act (arrive 0 []) ∷ []) → ⊥
+unfolding oldestFree start row place# pop
+pool-leaked n k =
+    let e : _≡_ {A = ℕ} 1 0 = ap oldestFree (k .shown) ∙ ap (λ (xs : List ℕ). getD xs 0 0) (k .in-order .stays-behind) in
+    omega arith
+
+-- ---- an arrival: one that is refused and changes something, one that takes another port's node
+
+module _ (S : Settings) (L : Ledger) (p : ℕ) (h : List ℕ) where
+  pub refused-and-changed : (n : ℕ) (N : Ledger) → (N ≡ L → ⊥) → Arrival S L p h (refused n) N → ⊥
+  refused-and-changed n N other (turned-away m) = other refl
+
+  pub strangers-node : (x : ℕ) (N : Ledger) → (owner x ≡ p → ⊥) → Arrival S L p h (entry x) N → ⊥
+  strangers-node x N other (taken y M t) = other (t .own)
