@@ -1,0 +1,76 @@
+-- Each C function has one outcome: any two that its contract allows are identical, the number, the memory and the room. The contract is what
+-- the toolchain reads of the function's own `ensures`, so a change of it changes the theorem. Assumes nothing.
+use mathlib.Core.Path.{_≡_, refl, sym, ap, _∙_}
+use mathlib.Core.List.{List, []}
+use Prim.Native.Nat.{ℕ}
+use native.Mathlib.Omega.{arith}
+use denote.Ref.{RefT, now}
+use lib.ListN.{getD, replicate}
+use Rattle.ledger.specs.Calls.{Reply, refused, turn}
+use Rattle.ledger.specs.Desk.{act}
+use Rattle.memory.specs.Memory.{M}
+use Rattle.memory.proofs.Demands.{off-state}
+use Rattle.memory.proofs.Image.{zero-no-state}
+use Rattle.switch.specs.Outcome.{Contract, OneOutcome}
+use Rattle.switch.proofs.Outcomes.{parted}
+use Rattle.capi.specs.Rooms.{told}
+use Rattle.capi.proofs.vr_size
+use Rattle.capi.proofs.vr_setup
+use Rattle.capi.proofs.vr_arrive
+use Rattle.capi.proofs.vr_stitch
+use Rattle.capi.proofs.vr_prefetch
+use Rattle.capi.proofs.vr_credit
+use Rattle.capi.proofs.vr_map
+use Rattle.capi.proofs.vr_turn
+use Rattle.capi.proofs.vr_ready
+use Rattle.capi.proofs.vr_where
+
+-- an equation of number, memory and room; `at` puts the two where the function's own parameters have them
+roomed : {A B : Type 0} (at : List ℕ → A → B) {r r₂ : ℕ} {m m₂ : List ℕ} {x x₂ : A} {out : ℕ × List ℕ × A} → (r, m, x) ≡ out → (r₂, m₂, x₂) ≡ out → (r ≡ r₂) × (at m x ≡ at m₂ x₂)
+roomed {A} at p q = (ap (λ (o : ℕ × List ℕ × A). o .0) (p ∙ sym q), ap (λ (o : ℕ × List ℕ × A). at (o .1) (o .2)) (p ∙ sym q))
+
+-- the same of number and room alone: the memory is lent for reading only
+shown-one : {A B : Type 0} (at : A → B) {r r₂ : ℕ} {x x₂ : A} {out : ℕ × A} → (r, x) ≡ out → (r₂, x₂) ≡ out → (r ≡ r₂) × (at x ≡ at x₂)
+shown-one {A} at p q = (ap (λ (o : ℕ × A). o .0) (p ∙ sym q), ap (λ (o : ℕ × A). at (o .1)) (p ∙ sym q))
+
+pub size-one : OneOutcome vr_size.ended vr_size.Reads.Learnt
+size-one κs a r r₂ left left₂ p q = (p ∙ sym q, refl)
+
+pub setup-one : OneOutcome vr_setup.ended vr_setup.Reads.Learnt
+setup-one κs a r r₂ left left₂ p q = parted (left .1) p q
+
+pub arrive-one : OneOutcome vr_arrive.ended vr_arrive.Reads.Learnt
+arrive-one κs a r r₂ left left₂ p q = roomed (λ m x. (m, (tt, (tt, (x, tt))))) p q
+
+pub stitch-one : OneOutcome vr_stitch.ended vr_stitch.Reads.Learnt
+stitch-one κs a r r₂ left left₂ p q = roomed (λ m x. (m, (tt, (x, tt)))) p q
+
+pub prefetch-one : OneOutcome vr_prefetch.ended vr_prefetch.Reads.Learnt
+prefetch-one κs a r r₂ left left₂ p q = roomed (λ m x. (m, (tt, (tt, (x, tt))))) p q
+
+pub credit-one : OneOutcome vr_credit.ended vr_credit.Reads.Learnt
+credit-one κs a r r₂ left left₂ p q = parted (left .1) p q
+
+pub map-one : OneOutcome vr_map.ended vr_map.Reads.Learnt
+map-one κs a r r₂ left left₂ p q = parted (left .1) p q
+
+pub turn-one : OneOutcome vr_turn.ended vr_turn.Reads.Learnt
+turn-one κs a r r₂ left left₂ p q = roomed (λ m x. (m, (tt, (x, tt)))) p q
+
+pub ready-one : OneOutcome vr_ready.ended vr_ready.Reads.Learnt
+ready-one κs a r r₂ left left₂ p q = shown-one (λ x. (tt, (tt, (x .0, (x .1, tt))))) p q
+
+pub where-one : OneOutcome vr_where.ended vr_where.Reads.Learnt
+where-one κs a r r₂ left left₂ p q = shown-one (λ x. (tt, (tt, (x, tt)))) p q
+
+-- a contract of turn that says number and memory would not do: any sixteen bytes might stand in the room
+abbrev pub room-unsaid : Contract vr_turn.ended
+room-unsaid κs a r left = (r, now (left .0)) ≡ told (M (act (turn (a .1 .0))) (now (a .0)))
+
+pub room-needed : OneOutcome vr_turn.ended room-unsaid → ⊥
+room-needed one =
+    let e : (3, []) ≡ told (M (act (turn 0)) []) = ap told (sym (off-state [] (zero-no-state 0) (turn 0))) in
+    let m : RefT (List ℕ) = record { ptr = (0, 0); name = 0; now = [] } in
+    let t = one ([], ([], tt)) (m, (0, (m, tt))) 3 3 ([], (tt, (replicate 16 0, tt))) ([], (tt, (replicate 16 1, tt))) e e in
+    let z : _≡_ {A = ℕ} 0 1 = ap (λ (x : List ℕ × (Unit {0} × (List ℕ × Unit {0}))). getD (x .1 .1 .0) 0 0) (t .1) in
+    omega arith

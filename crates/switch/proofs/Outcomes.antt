@@ -1,0 +1,86 @@
+-- Each call has one outcome: any two that its contract allows are identical, the typed answer and the memory. The contract is what the
+-- toolchain reads of the function's own `ensures` (`Learnt`: what a caller learns), so a change of it changes the theorem. Assumes nothing.
+use mathlib.Core.Path.{_≡_, refl, sym, ap, _∙_}
+use mathlib.Core.List.{List, []}
+use Prim.Native.Nat.{ℕ}
+use native.Mathlib.Omega.{arith}
+use borrow.Fn.Claims.{AllOf}
+use denote.Ref.{RefT}
+use lib.ListN.{getD, replicate}
+use Rattle.ledger.specs.Answers.{plainReply, stitchReply, entryReply, turnReply, readyReply, whereReply}
+use Rattle.ledger.specs.Calls.{Reply, refused}
+use Rattle.ledger.specs.Calls as calls
+use Rattle.ledger.specs.declared.Plain.the-variants.{No}
+use Rattle.ledger.specs.declared.Refusal.the-variants.{NoState}
+use Rattle.ledger.proofs.Answers.{plain-inj, stitch-inj, entry-inj, turn-inj, ready-inj, where-inj}
+use Rattle.ledger.specs.Desk.{act}
+use Rattle.memory.specs.Memory.{M}
+use Rattle.memory.proofs.Demands.{off-state}
+use Rattle.memory.proofs.Image.{zero-no-state}
+use Rattle.moves.specs.declared.Stitched.{Stitched}
+use Rattle.switch.specs.Outcome.{Contract, OneOutcome}
+use Rattle.switch.proofs.set_up
+use Rattle.switch.proofs.arrive
+use Rattle.switch.proofs.stitch
+use Rattle.switch.proofs.prefetch
+use Rattle.switch.proofs.credit
+use Rattle.switch.proofs.map_to
+use Rattle.switch.proofs.turn
+use Rattle.switch.proofs.ready
+use Rattle.switch.proofs.where_is
+
+-- what equals the same pair has equal parts; `lent` is what was lent for reading, of which nothing is left
+pub parted : {B C : Type 0} (lent : C) {x y : B} {m n : List ℕ} {out : B × List ℕ} → (x, m) ≡ out → (y, n) ≡ out → (x ≡ y) × (_≡_ {A = List ℕ × C} (m, lent) (n, lent))
+parted {B} {C} lent p q = (ap (λ (o : B × List ℕ). o .0) (p ∙ sym q), ap {B = List ℕ × C} (λ (o : B × List ℕ). (o .1, lent)) (p ∙ sym q))
+
+-- so one equation of reply and memory fixes the answer too, where no two answers have the same reply
+fixed : {A : Type 0} {reply : A → Reply} → ((a b : A) → reply a ≡ reply b → a ≡ b) → {C : Type 0} (lent : C) {a b : A} {m n : List ℕ} {out : Reply × List ℕ}
+    → (reply a, m) ≡ out → (reply b, n) ≡ out → (a ≡ b) × (_≡_ {A = List ℕ × C} (m, lent) (n, lent))
+fixed inj lent {a} {b} p q = let t = parted lent p q in (inj a b (t .0), t .1)
+
+pub set-up-one : OneOutcome set_up.ended set_up.Reads.Learnt
+set-up-one κs a r r₂ left left₂ p q = fixed plain-inj (left .1) p q
+
+pub arrive-one : OneOutcome arrive.ended arrive.Reads.Learnt
+arrive-one κs a r r₂ left left₂ p q = fixed entry-inj (left .1) p q
+
+pub prefetch-one : OneOutcome prefetch.ended prefetch.Reads.Learnt
+prefetch-one κs a r r₂ left left₂ p q = fixed entry-inj (left .1) p q
+
+pub credit-one : OneOutcome credit.ended credit.Reads.Learnt
+credit-one κs a r r₂ left left₂ p q = fixed plain-inj (left .1) p q
+
+pub map-to-one : OneOutcome map_to.ended map_to.Reads.Learnt
+map-to-one κs a r r₂ left left₂ p q = fixed plain-inj (left .1) p q
+
+pub turn-one : OneOutcome turn.ended turn.Reads.Learnt
+turn-one κs a r r₂ left left₂ p q = fixed turn-inj (left .1) p q
+
+-- the memory of these two is lent for reading only: nothing is left that could differ
+pub ready-one : OneOutcome ready.ended ready.Reads.Learnt
+ready-one κs a r r₂ left left₂ p q = (ready-inj r r₂ (p ∙ sym q), refl)
+
+pub where-is-one : OneOutcome where_is.ended where_is.Reads.Learnt
+where-is-one κs a r r₂ left left₂ p q = (where-inj r r₂ (p ∙ sym q), refl)
+
+-- stitch's first equation fixes answer and memory, its second the ten bytes
+stitched-alike : (r r₂ : Stitched) → r .answer ≡ r₂ .answer → r .«record» ≡ r₂ .«record» → r ≡ r₂
+stitched-alike r r₂ p q i = record { answer = p i; «record» = q i }
+
+pub stitch-one : OneOutcome stitch.ended stitch.Reads.Learnt
+stitch-one κs a r r₂ left left₂ p q =
+    let t = parted (left .1) (p .0) (q .0) in
+    (stitched-alike r r₂ (stitch-inj (r .answer) (r₂ .answer) (r .«record») (r₂ .«record») (t .0) .0) (p .1 ∙ sym (q .1)), t .1)
+
+-- the first alone would not do: beside a refusal any ten bytes might stand
+abbrev pub first-alone : Contract stitch.ended
+first-alone κs a r left = AllOf (stitch.Reads.ensures-1·read κs a tt r left .tells)
+
+pub second-needed : OneOutcome stitch.ended first-alone → ⊥
+second-needed one =
+    let no : List ℕ → Stitched = λ b. record { answer = No NoState; «record» = b } in
+    let e : (refused 3, []) ≡ M (act (calls.stitch 0)) [] = sym (off-state [] (zero-no-state 0) (calls.stitch 0)) in
+    let m : RefT (List ℕ) = record { ptr = (0, 0); name = 0; now = [] } in
+    let t = one ([], tt) (m, (0, tt)) (no (replicate 10 0)) (no (replicate 10 1)) ([], (tt, tt)) ([], (tt, tt)) e e in
+    let z : _≡_ {A = ℕ} 0 1 = ap (λ (r : Stitched). getD (r .«record») 0 0) (t .0) in
+    omega arith
