@@ -29,39 +29,36 @@ use Rattle.capi.proofs.vr_where
 roomed : {A B : Type 0} (at : List ℕ → A → B) {r r₂ : ℕ} {m m₂ : List ℕ} {x x₂ : A} {out : ℕ × List ℕ × A} → (r, m, x) ≡ out → (r₂, m₂, x₂) ≡ out → (r ≡ r₂) × (at m x ≡ at m₂ x₂)
 roomed {A} at p q = (ap (λ (o : ℕ × List ℕ × A). o .0) (p ∙ sym q), ap (λ (o : ℕ × List ℕ × A). at (o .1) (o .2)) (p ∙ sym q))
 
--- the same of number and room alone: the memory is lent for reading only
-shown-one : {A B : Type 0} (at : A → B) {r r₂ : ℕ} {x x₂ : A} {out : ℕ × A} → (r, x) ≡ out → (r₂, x₂) ≡ out → (r ≡ r₂) × (at x ≡ at x₂)
-shown-one {A} at p q = (ap (λ (o : ℕ × A). o .0) (p ∙ sym q), ap (λ (o : ℕ × A). at (o .1)) (p ∙ sym q))
+pub vr-size-one : OneOutcome vr_size.ended vr_size.Reads.Learnt
+vr-size-one κs a r r₂ left left₂ p q = (p ∙ sym q, refl)
 
-pub size-one : OneOutcome vr_size.ended vr_size.Reads.Learnt
-size-one κs a r r₂ left left₂ p q = (p ∙ sym q, refl)
+pub vr-setup-one : OneOutcome vr_setup.ended vr_setup.Reads.Learnt
+vr-setup-one κs a r r₂ left left₂ p q = parted (λ m. (m, left .1)) p q
 
-pub setup-one : OneOutcome vr_setup.ended vr_setup.Reads.Learnt
-setup-one κs a r r₂ left left₂ p q = parted (left .1) p q
+pub vr-arrive-one : OneOutcome vr_arrive.ended vr_arrive.Reads.Learnt
+vr-arrive-one κs a r r₂ left left₂ p q = roomed (λ m x. (m, (tt, (tt, (x, tt))))) p q
 
-pub arrive-one : OneOutcome vr_arrive.ended vr_arrive.Reads.Learnt
-arrive-one κs a r r₂ left left₂ p q = roomed (λ m x. (m, (tt, (tt, (x, tt))))) p q
+pub vr-stitch-one : OneOutcome vr_stitch.ended vr_stitch.Reads.Learnt
+vr-stitch-one κs a r r₂ left left₂ p q = roomed (λ m x. (m, (tt, (x, tt)))) p q
 
-pub stitch-one : OneOutcome vr_stitch.ended vr_stitch.Reads.Learnt
-stitch-one κs a r r₂ left left₂ p q = roomed (λ m x. (m, (tt, (x, tt)))) p q
+pub vr-prefetch-one : OneOutcome vr_prefetch.ended vr_prefetch.Reads.Learnt
+vr-prefetch-one κs a r r₂ left left₂ p q = roomed (λ m x. (m, (tt, (tt, (x, tt))))) p q
 
-pub prefetch-one : OneOutcome vr_prefetch.ended vr_prefetch.Reads.Learnt
-prefetch-one κs a r r₂ left left₂ p q = roomed (λ m x. (m, (tt, (tt, (x, tt))))) p q
+pub vr-credit-one : OneOutcome vr_credit.ended vr_credit.Reads.Learnt
+vr-credit-one κs a r r₂ left left₂ p q = parted (λ m. (m, left .1)) p q
 
-pub credit-one : OneOutcome vr_credit.ended vr_credit.Reads.Learnt
-credit-one κs a r r₂ left left₂ p q = parted (left .1) p q
+pub vr-map-one : OneOutcome vr_map.ended vr_map.Reads.Learnt
+vr-map-one κs a r r₂ left left₂ p q = parted (λ m. (m, left .1)) p q
 
-pub map-one : OneOutcome vr_map.ended vr_map.Reads.Learnt
-map-one κs a r r₂ left left₂ p q = parted (left .1) p q
+pub vr-turn-one : OneOutcome vr_turn.ended vr_turn.Reads.Learnt
+vr-turn-one κs a r r₂ left left₂ p q = roomed (λ m x. (m, (tt, (x, tt)))) p q
 
-pub turn-one : OneOutcome vr_turn.ended vr_turn.Reads.Learnt
-turn-one κs a r r₂ left left₂ p q = roomed (λ m x. (m, (tt, (x, tt)))) p q
+-- the memory of these two is lent for reading only
+pub vr-ready-one : OneOutcome vr_ready.ended vr_ready.Reads.Learnt
+vr-ready-one κs a r r₂ left left₂ p q = parted (λ x. (tt, (tt, (x .0, (x .1, tt))))) p q
 
-pub ready-one : OneOutcome vr_ready.ended vr_ready.Reads.Learnt
-ready-one κs a r r₂ left left₂ p q = shown-one (λ x. (tt, (tt, (x .0, (x .1, tt))))) p q
-
-pub where-one : OneOutcome vr_where.ended vr_where.Reads.Learnt
-where-one κs a r r₂ left left₂ p q = shown-one (λ x. (tt, (tt, (x, tt)))) p q
+pub vr-where-one : OneOutcome vr_where.ended vr_where.Reads.Learnt
+vr-where-one κs a r r₂ left left₂ p q = parted (λ x. (tt, (tt, (x, tt)))) p q
 
 -- a contract of turn that says number and memory would not do: any sixteen bytes might stand in the room
 abbrev pub room-unsaid : Contract vr_turn.ended

@@ -7,7 +7,7 @@ use native.Mathlib.Omega.{arith}
 use borrow.Fn.Claims.{AllOf}
 use denote.Ref.{RefT}
 use lib.ListN.{getD, replicate}
-use Rattle.ledger.specs.Answers.{plainReply, stitchReply, entryReply, turnReply, readyReply, whereReply}
+use Rattle.ledger.specs.Answers.{stitchReply}
 use Rattle.ledger.specs.Calls.{Reply, refused}
 use Rattle.ledger.specs.Calls as calls
 use Rattle.ledger.specs.declared.Plain.the-variants.{No}
@@ -17,6 +17,7 @@ use Rattle.ledger.specs.Desk.{act}
 use Rattle.memory.specs.Memory.{M}
 use Rattle.memory.proofs.Demands.{off-state}
 use Rattle.memory.proofs.Image.{zero-no-state}
+use Rattle.moves.specs.Stitched.{recordIn}
 use Rattle.moves.specs.declared.Stitched.{Stitched}
 use Rattle.switch.specs.Outcome.{Contract, OneOutcome}
 use Rattle.switch.proofs.set_up
@@ -29,14 +30,14 @@ use Rattle.switch.proofs.turn
 use Rattle.switch.proofs.ready
 use Rattle.switch.proofs.where_is
 
--- what equals the same pair has equal parts; `lent` is what was lent for reading, of which nothing is left
-pub parted : {B C : Type 0} (lent : C) {x y : B} {m n : List ℕ} {out : B × List ℕ} → (x, m) ≡ out → (y, n) ≡ out → (x ≡ y) × (_≡_ {A = List ℕ × C} (m, lent) (n, lent))
-parted {B} {C} lent p q = (ap (λ (o : B × List ℕ). o .0) (p ∙ sym q), ap {B = List ℕ × C} (λ (o : B × List ℕ). (o .1, lent)) (p ∙ sym q))
+-- what equals the same pair has equal parts; `at` puts the second where the function's parameters have it
+pub parted : {A B C : Type 0} (at : B → C) {x y : A} {m n : B} {out : A × B} → (x, m) ≡ out → (y, n) ≡ out → (x ≡ y) × (at m ≡ at n)
+parted {A} {B} at p q = (ap (λ (o : A × B). o .0) (p ∙ sym q), ap (λ (o : A × B). at (o .1)) (p ∙ sym q))
 
--- so one equation of reply and memory fixes the answer too, where no two answers have the same reply
-fixed : {A : Type 0} {reply : A → Reply} → ((a b : A) → reply a ≡ reply b → a ≡ b) → {C : Type 0} (lent : C) {a b : A} {m n : List ℕ} {out : Reply × List ℕ}
-    → (reply a, m) ≡ out → (reply b, n) ≡ out → (a ≡ b) × (_≡_ {A = List ℕ × C} (m, lent) (n, lent))
-fixed inj lent {a} {b} p q = let t = parted lent p q in (inj a b (t .0), t .1)
+-- so one equation of reply and memory fixes answer and memory, where no two answers have the same reply; beside the memory nothing is lent for writing
+module _ {A : Type 0} {reply : A → Reply} (inj : (a b : A) → reply a ≡ reply b → a ≡ b) {C : Type 0} (others : C) where
+  fixed : {a b : A} {m n : List ℕ} {out : Reply × List ℕ} → (reply a, m) ≡ out → (reply b, n) ≡ out → (a ≡ b) × (_≡_ {A = List ℕ × C} (m, others) (n, others))
+  fixed {a} {b} p q = let t = parted (λ m. m) p q in (inj a b (t .0), ap (λ (m : List ℕ). (m, others)) (t .1))
 
 pub set-up-one : OneOutcome set_up.ended set_up.Reads.Learnt
 set-up-one κs a r r₂ left left₂ p q = fixed plain-inj (left .1) p q
@@ -69,8 +70,27 @@ stitched-alike r r₂ p q i = record { answer = p i; «record» = q i }
 
 pub stitch-one : OneOutcome stitch.ended stitch.Reads.Learnt
 stitch-one κs a r r₂ left left₂ p q =
-    let t = parted (left .1) (p .0) (q .0) in
-    (stitched-alike r r₂ (stitch-inj (r .answer) (r₂ .answer) (r .«record») (r₂ .«record») (t .0) .0) (p .1 ∙ sym (q .1)), t .1)
+    let t = parted (λ m. m) (p .0) (q .0) in
+    (stitched-alike r r₂ (stitch-inj (r .answer) (r₂ .answer) (r .«record») (r₂ .«record») (t .0) .0) (p .1 ∙ sym (q .1)), ap (λ (m : List ℕ). (m, left .1)) (t .1))
+
+-- the same in the contract's own words
+abbrev lent : List ℕ → RefT (List ℕ)
+lent m = record { ptr = (0, 0); name = 0; now = m }
+
+module _ (m : List ℕ) (port : ℕ) where
+  abbrev out : Reply × List ℕ
+  out = M (act (calls.stitch port)) m
+
+  pub stitch-in-words :
+      (r r₂ : Stitched) (left left₂ : List ℕ)
+      → (stitchReply (r .answer) (r .«record»), left) ≡ out
+      → r .«record» ≡ recordIn (out .0)
+      → (stitchReply (r₂ .answer) (r₂ .«record»), left₂) ≡ out
+      → r₂ .«record» ≡ recordIn (out .0)
+      → (r ≡ r₂) × (left ≡ left₂)
+  stitch-in-words r r₂ left left₂ p s q t =
+      let u = stitch-one ([], tt) (lent m, (port, tt)) r r₂ (left, (tt, tt)) (left₂, (tt, tt)) (p, s) (q, t) in
+      (u .0, ap (λ (x : List ℕ × (Unit {0} × Unit {0})). x .0) (u .1))
 
 -- the first alone would not do: beside a refusal any ten bytes might stand
 abbrev pub first-alone : Contract stitch.ended
@@ -80,7 +100,6 @@ pub second-needed : OneOutcome stitch.ended first-alone → ⊥
 second-needed one =
     let no : List ℕ → Stitched = λ b. record { answer = No NoState; «record» = b } in
     let e : (refused 3, []) ≡ M (act (calls.stitch 0)) [] = sym (off-state [] (zero-no-state 0) (calls.stitch 0)) in
-    let m : RefT (List ℕ) = record { ptr = (0, 0); name = 0; now = [] } in
-    let t = one ([], tt) (m, (0, tt)) (no (replicate 10 0)) (no (replicate 10 1)) ([], (tt, tt)) ([], (tt, tt)) e e in
+    let t = one ([], tt) (lent [], (0, tt)) (no (replicate 10 0)) (no (replicate 10 1)) ([], (tt, tt)) ([], (tt, tt)) e e in
     let z : _≡_ {A = ℕ} 0 1 = ap (λ (r : Stitched). getD (r .«record») 0 0) (t .0) in
     omega arith
