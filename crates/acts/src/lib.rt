@@ -14,6 +14,7 @@ ghost use Rattle.ledger.specs.Calls.{Reply, arrive, stitch, prefetch, credit, t
 ghost use Rattle.ledger.specs.Desk.{act};
 ghost use Rattle.layout.specs.Picture.{State};
 ghost use Rattle.memory.specs.Memory.{M};
+ghost use Rattle.moves.specs.Stitched.{recordIn};
 ghost use Rattle.capi.specs.Rooms.{told, toldIn, entryRoom, recordRoom, sentRoom};
 
 pub fn arrive(m: &mut [u8], port: u32, header: &[u8]) -> Entry
@@ -30,6 +31,7 @@ pub fn arrive(m: &mut [u8], port: u32, header: &[u8]) -> Entry
 pub fn stitch(m: &mut [u8], port: u32) -> Stitched
     requires { ⌜ State (now m) ⌝ }
     ensures { λ r. ⌜ _≡_ {A = Reply × List ℕ} (stitchReply (r .answer) (r .record), now (m .exit)) (M (act (stitch port)) (now (m .entry))) ⌝ }
+    ensures { λ r. ⌜ r .record ≡ recordIn (M (act (stitch port)) (now (m .entry)) .0) ⌝ }
 {
     let opened = ranges::open(m);
     match opened {

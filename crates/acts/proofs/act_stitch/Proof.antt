@@ -17,7 +17,7 @@ same-length c = search needs
 returns : tie.Need-returns
 returns c =
     let w = c .put-record .ensures in
-    tells-in _ _ _ _ (c .before .before .before .before .before .stitch .ensures) (w .0) recordRoom _ _ (w .1)
+    tells-in _ _ _ _ (c .before .before .before .before .before .stitch .ensures .0) (w .0) recordRoom _ _ (w .1)
 
 pub act-stitch-spec : {M : Type 1} → statement M
 act-stitch-spec = tie.close (tie.spec stitch-requires put-record-requires same-length returns)

@@ -1,7 +1,10 @@
 -- `acts::stitch` meets its contract: a state is opened with its shape, and the act on that is the call. Assumes nothing.
 use mathlib.Core.Path.{_≡_, sym, ap, _∙_}
+use mathlib.Core.List.{List}
+use Prim.Native.Nat.{ℕ}
 use borrow.Author.Needs.{needs}
-use Rattle.ledger.specs.Calls.{stitch}
+use Rattle.ledger.specs.Calls.{Reply, stitch}
+use Rattle.moves.specs.Stitched.{recordIn}
 use Rattle.acts.proofs.Laws.{works, on-open, not-wrong}
 use Rattle.acts.proofs.stitch.Statement.{statement}
 use Rattle.acts.proofs.stitch.Tie as tie
@@ -31,7 +34,8 @@ returns c =
     let t = p .before .before .before in
     let n = t .before .before .before .before .before in
     let a = n .args in
-    p .stitch .ensures .0 ∙ on-open (a .m .now) (n .pre) _ (sym (t .before .before .open .ensures) ∙ t .opened .given .1) (stitch (a .port))
+    let e = on-open (a .m .now) (n .pre) _ (sym (t .before .before .open .ensures) ∙ t .opened .given .1) (stitch (a .port)) in
+    (p .stitch .ensures .0 ∙ e, p .stitch .ensures .1 ∙ ap (λ (out : Reply × List ℕ). recordIn (out .0)) e)
 
 same-length-2 : tie.Need-same-length-2
 same-length-2 c = search needs
