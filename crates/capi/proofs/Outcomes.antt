@@ -4,15 +4,15 @@ use mathlib.Core.Path.{_≡_, refl, sym, ap, _∙_}
 use mathlib.Core.List.{List, []}
 use Prim.Native.Nat.{ℕ}
 use native.Mathlib.Omega.{arith}
-use denote.Ref.{RefT, now}
+use denote.Ref.{now}
 use lib.ListN.{getD, replicate}
-use Rattle.ledger.specs.Calls.{Reply, refused, turn}
+use Rattle.ledger.specs.Calls.{turn}
 use Rattle.ledger.specs.Desk.{act}
 use Rattle.memory.specs.Memory.{M}
 use Rattle.memory.proofs.Demands.{off-state}
 use Rattle.memory.proofs.Image.{zero-no-state}
 use Rattle.switch.specs.Outcome.{Contract, OneOutcome}
-use Rattle.switch.proofs.Outcomes.{parted}
+use Rattle.switch.proofs.Outcomes.{parted, lent}
 use Rattle.capi.specs.Rooms.{told}
 use Rattle.capi.proofs.vr_size
 use Rattle.capi.proofs.vr_setup
@@ -26,7 +26,8 @@ use Rattle.capi.proofs.vr_ready
 use Rattle.capi.proofs.vr_where
 
 -- an equation of number, memory and room; `at` puts the two where the function's own parameters have them
-roomed : {A B : Type 0} (at : List ℕ → A → B) {r r₂ : ℕ} {m m₂ : List ℕ} {x x₂ : A} {out : ℕ × List ℕ × A} → (r, m, x) ≡ out → (r₂, m₂, x₂) ≡ out → (r ≡ r₂) × (at m x ≡ at m₂ x₂)
+roomed : {A B : Type 0} (at : List ℕ → A → B) {r r₂ : ℕ} {m m₂ : List ℕ} {x x₂ : A} {out : ℕ × List ℕ × A}
+    → (r, m, x) ≡ out → (r₂, m₂, x₂) ≡ out → (r ≡ r₂) × (at m x ≡ at m₂ x₂)
 roomed {A} at p q = (ap (λ (o : ℕ × List ℕ × A). o .0) (p ∙ sym q), ap (λ (o : ℕ × List ℕ × A). at (o .1) (o .2)) (p ∙ sym q))
 
 pub vr-size-one : OneOutcome vr_size.ended vr_size.Reads.Learnt
@@ -53,21 +54,20 @@ vr-map-one κs a r r₂ left left₂ p q = parted (λ m. (m, left .1)) p q
 pub vr-turn-one : OneOutcome vr_turn.ended vr_turn.Reads.Learnt
 vr-turn-one κs a r r₂ left left₂ p q = roomed (λ m x. (m, (tt, (x, tt)))) p q
 
--- the memory of these two is lent for reading only
+-- the memory of these two is lent for reading only: what is left is the rooms
 pub vr-ready-one : OneOutcome vr_ready.ended vr_ready.Reads.Learnt
 vr-ready-one κs a r r₂ left left₂ p q = parted (λ x. (tt, (tt, (x .0, (x .1, tt))))) p q
 
 pub vr-where-one : OneOutcome vr_where.ended vr_where.Reads.Learnt
 vr-where-one κs a r r₂ left left₂ p q = parted (λ x. (tt, (tt, (x, tt)))) p q
 
--- a contract of turn that says number and memory would not do: any sixteen bytes might stand in the room
+-- a contract of turn that says the number and the memory alone would not do: any sixteen bytes might stand in the room
 abbrev pub room-unsaid : Contract vr_turn.ended
 room-unsaid κs a r left = (r, now (left .0)) ≡ told (M (act (turn (a .1 .0))) (now (a .0)))
 
 pub room-needed : OneOutcome vr_turn.ended room-unsaid → ⊥
 room-needed one =
     let e : (3, []) ≡ told (M (act (turn 0)) []) = ap told (sym (off-state [] (zero-no-state 0) (turn 0))) in
-    let m : RefT (List ℕ) = record { ptr = (0, 0); name = 0; now = [] } in
-    let t = one ([], ([], tt)) (m, (0, (m, tt))) 3 3 ([], (tt, (replicate 16 0, tt))) ([], (tt, (replicate 16 1, tt))) e e in
+    let t = one ([], ([], tt)) (lent [], (0, (lent (replicate 16 0), tt))) 3 3 ([], (tt, (replicate 16 0, tt))) ([], (tt, (replicate 16 1, tt))) e e in
     let z : _≡_ {A = ℕ} 0 1 = ap (λ (x : List ℕ × (Unit {0} × (List ℕ × Unit {0}))). getD (x .1 .1 .0) 0 0) (t .1) in
     omega arith

@@ -10,10 +10,10 @@ use lib.ListN.{getD, replicate}
 use Rattle.ledger.specs.Answers.{stitchReply}
 use Rattle.ledger.specs.Calls.{Reply, refused}
 use Rattle.ledger.specs.Calls as calls
+use Rattle.ledger.specs.Desk.{act}
 use Rattle.ledger.specs.declared.Plain.the-variants.{No}
 use Rattle.ledger.specs.declared.Refusal.the-variants.{NoState}
 use Rattle.ledger.proofs.Answers.{plain-inj, stitch-inj, entry-inj, turn-inj, ready-inj, where-inj}
-use Rattle.ledger.specs.Desk.{act}
 use Rattle.memory.specs.Memory.{M}
 use Rattle.memory.proofs.Demands.{off-state}
 use Rattle.memory.proofs.Image.{zero-no-state}
@@ -34,9 +34,10 @@ use Rattle.switch.proofs.where_is
 pub parted : {A B C : Type 0} (at : B → C) {x y : A} {m n : B} {out : A × B} → (x, m) ≡ out → (y, n) ≡ out → (x ≡ y) × (at m ≡ at n)
 parted {A} {B} at p q = (ap (λ (o : A × B). o .0) (p ∙ sym q), ap (λ (o : A × B). at (o .1)) (p ∙ sym q))
 
--- so one equation of reply and memory fixes answer and memory, where no two answers have the same reply; beside the memory nothing is lent for writing
+-- so an equation of reply and memory fixes answer and memory, where no two answers have the same reply; `others` are lent for reading only
 module _ {A : Type 0} {reply : A → Reply} (inj : (a b : A) → reply a ≡ reply b → a ≡ b) {C : Type 0} (others : C) where
-  fixed : {a b : A} {m n : List ℕ} {out : Reply × List ℕ} → (reply a, m) ≡ out → (reply b, n) ≡ out → (a ≡ b) × (_≡_ {A = List ℕ × C} (m, others) (n, others))
+  fixed : {a b : A} {m n : List ℕ} {out : Reply × List ℕ} → (reply a, m) ≡ out → (reply b, n) ≡ out
+      → (a ≡ b) × (_≡_ {A = List ℕ × C} (m, others) (n, others))
   fixed {a} {b} p q = let t = parted (λ m. m) p q in (inj a b (t .0), ap (λ (m : List ℕ). (m, others)) (t .1))
 
 pub set-up-one : OneOutcome set_up.ended set_up.Reads.Learnt
@@ -71,10 +72,11 @@ stitched-alike r r₂ p q i = record { answer = p i; «record» = q i }
 pub stitch-one : OneOutcome stitch.ended stitch.Reads.Learnt
 stitch-one κs a r r₂ left left₂ p q =
     let t = parted (λ m. m) (p .0) (q .0) in
-    (stitched-alike r r₂ (stitch-inj (r .answer) (r₂ .answer) (r .«record») (r₂ .«record») (t .0) .0) (p .1 ∙ sym (q .1)), ap (λ (m : List ℕ). (m, left .1)) (t .1))
+    let answer = stitch-inj (r .answer) (r₂ .answer) (r .«record») (r₂ .«record») (t .0) .0 in
+    (stitched-alike r r₂ answer (p .1 ∙ sym (q .1)), ap (λ (m : List ℕ). (m, left .1)) (t .1))
 
--- the same in the contract's own words
-abbrev lent : List ℕ → RefT (List ℕ)
+-- the same in the contract's own words: a memory is its bytes, wherever it lies
+abbrev pub lent : List ℕ → RefT (List ℕ)
 lent m = record { ptr = (0, 0); name = 0; now = m }
 
 module _ (m : List ℕ) (port : ℕ) where
