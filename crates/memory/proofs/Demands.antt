@@ -162,12 +162,6 @@ module _ (m : List ℕ) (y : ℕ) (v : Place) (i : ℕ) where
     pub where-reach : Below 8192
     where-reach = rw (this-build (settingsIn m) (found-state .sound .rows) .0) at where-below
 
--- ---- the statements of the calls fix their outcome
-
--- any two outcomes that a contract allows are identical
-pub one-outcome : (c : Call) (m : List ℕ) (out out′ : Reply × List ℕ) → out ≡ M c m → out′ ≡ M c m → out ≡ out′
-one-outcome c m out out′ a b = a ∙ sym b
-
 -- after any call a memory that was a state is one again, and a memory that is one pictures a sound ledger
 pub still-a-state : (a : Act) (m : List ℕ) → State m → State (M (act a) m .1)
 still-a-state a m t =
