@@ -6,7 +6,10 @@ mod output;
 use fields::Read;
 use input::Input;
 use orders::Said;
+ghost use mathlib.Core.Path.{_≡_};
 ghost use Prim.Native.Nat.{_≤_};
+ghost use lib.ListN.{take};
+ghost use Rattle.bench.specs.Lines.{lastText, queued};
 
 // How a run stands: what is read of the input, how many bytes wait to be written, and whether the run goes on.
 struct Progress {
@@ -18,7 +21,7 @@ struct Progress {
 // The line for what is no call: a bad field has one, and the end has none.
 fn last_line(out: &mut [u8; 4096], waiting: usize, n: u64, read: Read) -> usize
     requires { ⌜ waiting ≤ 4096 ⌝ }
-    ensures { λ r. ⌜ r ≤ 4096 ⌝ }
+    ensures { λ r. ⌜ (r ≤ 4096) × (take r (now (out .exit)) ≡ queued (take waiting (now (out .entry))) (lastText n read)) ⌝ }
 {
     if let Read::Bad = read {
         return output::line(out, waiting, n, Said::Bad);

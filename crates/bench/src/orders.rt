@@ -6,8 +6,13 @@ use ledger::Turned;
 use moves::Stitched;
 use setup::Settings;
 ghost use mathlib.Core.Path.{_≡_};
+ghost use mathlib.Core.List.{List};
 ghost use Prim.Native.Nat.{ℕ, _+_, _≤_};
 ghost use lib.ListN.{length};
+ghost use Rattle.numbers.specs.Bytes.{number};
+ghost use Rattle.ledger.specs.Answers.{plainReply, stitchReply, entryReply, turnReply};
+ghost use Rattle.memory.specs.Memory.{M};
+ghost use Rattle.bench.specs.Orders.{headerIn, callIn, saidOf, carried};
 
 // What a line says after its number.
 pub enum Said {
@@ -18,14 +23,18 @@ pub enum Said {
     Bad,
 }
 
-fn plain(p: Plain) -> Said {
+fn plain(p: Plain) -> Said
+    ensures { λ r. ⌜ r ≡ saidOf (plainReply p) ⌝ }
+{
     match p {
         Plain::Done => Said::Done,
         Plain::No(r) => Said::No(r.number()),
     }
 }
 
-fn entry(e: Entry) -> Said {
+fn entry(e: Entry) -> Said
+    ensures { λ r. ⌜ r ≡ saidOf (entryReply e) ⌝ }
+{
     match e {
         Entry::Node(id) => Said::Node(id.0),
         Entry::No(r) => Said::No(r.number()),
@@ -33,11 +42,15 @@ fn entry(e: Entry) -> Said {
 }
 
 // The entry id of a stitch's record: its first two bytes.
-fn entry_in(record: &[u8; 10]) -> u16 {
-    numbers::read2(record, 0)
+fn entry_in(bytes: &[u8; 10]) -> u16
+    ensures { λ r. ⌜ r ≡ number 2 (now (bytes .entry)) 0 ⌝ }
+{
+    numbers::read2(bytes, 0)
 }
 
-fn stitched(s: Stitched) -> Said {
+fn stitched(s: Stitched) -> Said
+    ensures { λ r. ⌜ r ≡ saidOf (stitchReply (s .answer) (s .record)) ⌝ }
+{
     let p = s.answer;
     let record = s.record;
     match p {
@@ -46,7 +59,9 @@ fn stitched(s: Stitched) -> Said {
     }
 }
 
-fn turned(t: Turned) -> Said {
+fn turned(t: Turned) -> Said
+    ensures { λ r. ⌜ r ≡ saidOf (turnReply t) ⌝ }
+{
     match t {
         Turned::Idle => Said::Idle,
         Turned::Leaves(k, _) => {
@@ -60,6 +75,7 @@ fn turned(t: Turned) -> Said {
 // The header of an arrival, which stands in s; of another order nothing.
 pub fn header(s: &[u8], order: Order) -> &[u8]
     requires { ⌜ ((port h : ℕ) → order ≡ Order.Arrive port h → h + 10 ≤ length (now s)) ⌝ }
+    ensures { λ r. ⌜ now r ≡ headerIn (now (s .entry)) order ⌝ }
 {
     let Order::Arrive { port: _, at } = order else {
         return &s[..0];
@@ -69,7 +85,9 @@ pub fn header(s: &[u8], order: Order) -> &[u8]
 }
 
 // The order's call on the memory m.
-pub fn carry_out(m: &mut [u8], order: Order, header: &[u8]) -> Said {
+pub fn carry_out(m: &mut [u8], order: Order, header: &[u8]) -> Said
+    ensures { λ r. ⌜ _≡_ {A = Said × List ℕ} (r, now (m .exit)) (carried (M (callIn order (now (header .entry))) (now (m .entry)))) ⌝ }
+{
     match order {
         Order::Setup {
             nodes,

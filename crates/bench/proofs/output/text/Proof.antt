@@ -1,12 +1,15 @@
--- `bench::output::text` is safe and ends: what is left of the text falls. Assumes nothing.
+-- `bench::output::text` meets its contract. The loop's invariant: what waits, with what is left of the text, is what will wait in the end. Assumes nothing.
+use mathlib.Core.Path.{_≡_, sym, _∙_}
 use Prim.Native.Nat.{_≤_, _-_}
-use lib.ListN.{length}
+use lib.ListN.{length, take, drop}
 use borrow.Author.Needs.{needs}
+use Rattle.bench.specs.Lines.{queued}
+use Rattle.bench.proofs.Laws.{text-step, text-end}
 use Rattle.bench.proofs.output.text.Statement.{statement}
 use Rattle.bench.proofs.output.text.Tie as tie
 
 abbrev Inv-loop : tie.InvT-loop
-Inv-loop out₀ waiting s at₀ i₀ out at i = (i ≤ length s) × (at ≤ 4096)
+Inv-loop out₀ waiting s at₀ i₀ out at i = (i ≤ length s) × (at ≤ 4096) × (queued (take at out) (drop i s) ≡ queued (take waiting out₀) s)
 
 abbrev μ-loop : tie.MeasureT-loop
 μ-loop out₀ waiting s at₀ i₀ out at i = length s - i
@@ -27,10 +30,10 @@ loop-less : tie.Need-loop-less Inv-loop μ-loop
 loop-less c = search needs
 
 loop-again : tie.Need-loop-again Inv-loop μ-loop
-loop-again c = search needs
+loop-again c = let lp = c .before .before .before .before .loop in (search needs, search needs, text-step _ _ _ (lp .i) (search needs) (c .byte .ensures .1) ∙ lp .inv .2)
 
 returns : tie.Need-returns Inv-loop μ-loop
-returns c = search needs
+returns c = let lp = c .before .loop in (search needs, sym (text-end _ _ (lp .i) (search needs)) ∙ lp .inv .2)
 
 pub text-spec : {M : Type 1} → statement M
 text-spec =

@@ -1,0 +1,206 @@
+-- `bench::orders::carry_out` meets its contract: each order by its call, and what is said follows the reply. Assumes nothing.
+use Rattle.bench.proofs.Laws.{carries}
+use borrow.Author.Needs.{needs}
+use Rattle.bench.proofs.orders.carry_out.Statement.{statement}
+use Rattle.bench.proofs.orders.carry_out.Tie as tie
+
+enum-known-order : tie.Need-enum-known-order
+enum-known-order c = search needs
+
+cast-t20 : tie.Need-cast-t20
+cast-t20 c = search needs
+
+cast-t21 : tie.Need-cast-t21
+cast-t21 c = search needs
+
+cast-t22 : tie.Need-cast-t22
+cast-t22 c = search needs
+
+cast-t23 : tie.Need-cast-t23
+cast-t23 c = search needs
+
+set-up-requires : tie.Need-set-up-requires
+set-up-requires c κs = search needs
+
+plain-requires : tie.Need-plain-requires
+plain-requires c κs = search needs
+
+enum-known-order-2 : tie.Need-enum-known-order-2
+enum-known-order-2 c = search needs
+
+cast-arrive : tie.Need-cast-arrive
+cast-arrive c = search needs
+
+arrive-requires : tie.Need-arrive-requires
+arrive-requires c κs = search needs
+
+entry-requires : tie.Need-entry-requires
+entry-requires c κs = search needs
+
+enum-known-order-3 : tie.Need-enum-known-order-3
+enum-known-order-3 c = search needs
+
+cast-stitch : tie.Need-cast-stitch
+cast-stitch c = search needs
+
+stitch-requires : tie.Need-stitch-requires
+stitch-requires c κs = search needs
+
+stitched-requires : tie.Need-stitched-requires
+stitched-requires c κs = search needs
+
+enum-known-order-4 : tie.Need-enum-known-order-4
+enum-known-order-4 c = search needs
+
+cast-prefetch : tie.Need-cast-prefetch
+cast-prefetch c = search needs
+
+cast-prefetch-2 : tie.Need-cast-prefetch-2
+cast-prefetch-2 c = search needs
+
+prefetch-requires : tie.Need-prefetch-requires
+prefetch-requires c κs = search needs
+
+entry-requires-2 : tie.Need-entry-requires-2
+entry-requires-2 c κs = search needs
+
+enum-known-order-5 : tie.Need-enum-known-order-5
+enum-known-order-5 c = search needs
+
+cast-turn : tie.Need-cast-turn
+cast-turn c = search needs
+
+turn-requires : tie.Need-turn-requires
+turn-requires c κs = search needs
+
+turned-requires : tie.Need-turned-requires
+turned-requires c κs = search needs
+
+enum-known-order-6 : tie.Need-enum-known-order-6
+enum-known-order-6 c = search needs
+
+cast-credit : tie.Need-cast-credit
+cast-credit c = search needs
+
+cast-credit-2 : tie.Need-cast-credit-2
+cast-credit-2 c = search needs
+
+cast-credit-3 : tie.Need-cast-credit-3
+cast-credit-3 c = search needs
+
+credit-requires : tie.Need-credit-requires
+credit-requires c κs = search needs
+
+plain-requires-2 : tie.Need-plain-requires-2
+plain-requires-2 c κs = search needs
+
+enum-known-order-7 : tie.Need-enum-known-order-7
+enum-known-order-7 c = search needs
+
+cast-map-to : tie.Need-cast-map-to
+cast-map-to c = search needs
+
+cast-map-to-2 : tie.Need-cast-map-to-2
+cast-map-to-2 c = search needs
+
+map-to-requires : tie.Need-map-to-requires
+map-to-requires c κs = search needs
+
+plain-requires-3 : tie.Need-plain-requires-3
+plain-requires-3 c κs = search needs
+
+same-length : tie.Need-same-length
+same-length c = search needs
+
+returns : tie.Need-returns
+returns c = let call = c .before .before .before in carries _ _ _ _ _ _ _ (call .before .before .before .order .given .1) (call .set-up .ensures) (c .plain .ensures)
+
+same-length-2 : tie.Need-same-length-2
+same-length-2 c = search needs
+
+returns-2 : tie.Need-returns-2
+returns-2 c = let call = c .before .before .before in carries _ _ _ _ _ _ _ (call .before .before .before .order2 .given .1) (call .arrive .ensures) (c .entry .ensures)
+
+same-length-3 : tie.Need-same-length-3
+same-length-3 c = search needs
+
+returns-3 : tie.Need-returns-3
+returns-3 c = let call = c .before .before .before in carries _ _ _ _ _ _ _ (call .before .before .before .order3 .given .1) (call .stitch .ensures .0) (c .stitched .ensures)
+
+same-length-4 : tie.Need-same-length-4
+same-length-4 c = search needs
+
+returns-4 : tie.Need-returns-4
+returns-4 c = let call = c .before .before .before in carries _ _ _ _ _ _ _ (call .before .before .before .order4 .given .1) (call .prefetch .ensures) (c .entry2 .ensures)
+
+same-length-5 : tie.Need-same-length-5
+same-length-5 c = search needs
+
+returns-5 : tie.Need-returns-5
+returns-5 c = let call = c .before .before .before in carries _ _ _ _ _ _ _ (call .before .before .before .order5 .given .1) (call .turn .ensures) (c .turned .ensures)
+
+same-length-6 : tie.Need-same-length-6
+same-length-6 c = search needs
+
+returns-6 : tie.Need-returns-6
+returns-6 c = let call = c .before .before .before in carries _ _ _ _ _ _ _ (call .before .before .before .order6 .given .1) (call .credit .ensures) (c .plain2 .ensures)
+
+same-length-7 : tie.Need-same-length-7
+same-length-7 c = search needs
+
+returns-7 : tie.Need-returns-7
+returns-7 c = let call = c .before .before .before in carries _ _ _ _ _ _ _ (call .before .before .before .order7 .given .1) (call .map-to .ensures) (c .plain3 .ensures)
+
+pub carry-out-spec : {M : Type 1} → statement M
+carry-out-spec =
+    tie.close
+    (tie.spec
+    enum-known-order
+    cast-t20
+    cast-t21
+    cast-t22
+    cast-t23
+    set-up-requires
+    plain-requires
+    enum-known-order-2
+    cast-arrive
+    arrive-requires
+    entry-requires
+    enum-known-order-3
+    cast-stitch
+    stitch-requires
+    stitched-requires
+    enum-known-order-4
+    cast-prefetch
+    cast-prefetch-2
+    prefetch-requires
+    entry-requires-2
+    enum-known-order-5
+    cast-turn
+    turn-requires
+    turned-requires
+    enum-known-order-6
+    cast-credit
+    cast-credit-2
+    cast-credit-3
+    credit-requires
+    plain-requires-2
+    enum-known-order-7
+    cast-map-to
+    cast-map-to-2
+    map-to-requires
+    plain-requires-3
+    same-length
+    returns
+    same-length-2
+    returns-2
+    same-length-3
+    returns-3
+    same-length-4
+    returns-4
+    same-length-5
+    returns-5
+    same-length-6
+    returns-6
+    same-length-7
+    returns-7)

@@ -1,0 +1,20 @@
+-- `bench::output::byte` meets its contract: the byte stands where room was made. Assumes nothing.
+use Rattle.bench.proofs.Laws.{byte-put}
+use borrow.Author.Needs.{needs}
+use Rattle.bench.proofs.output.byte.Statement.{statement}
+use Rattle.bench.proofs.output.byte.Tie as tie
+
+room-requires : tie.Need-room-requires
+room-requires c κs = search needs
+
+slice-write-bytes : tie.Need-slice-write-bytes
+slice-write-bytes c = search needs
+
+add-result : tie.Need-add-result
+add-result c = search needs
+
+returns : tie.Need-returns
+returns c = let a = c .before .before .before .args in (search needs, byte-put (a .out .now) (a .waiting) _ (a .b) (search needs) (search needs) (c .before .room .ensures .0) (c .before .room .ensures .1))
+
+pub byte-spec : {M : Type 1} → statement M
+byte-spec = tie.close (tie.spec room-requires slice-write-bytes add-result returns)

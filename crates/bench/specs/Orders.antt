@@ -1,0 +1,47 @@
+-- The call that an order of a field is, and what the line for it says of the reply. Assumes nothing.
+use mathlib.Core.List.{List, []}
+use Prim.Native.Nat.{ℕ}
+use lib.ListN.{take, drop}
+use Rattle.numbers.specs.Bytes.{number}
+use Rattle.ledger.specs.Calls as act
+use Rattle.ledger.specs.Calls.{Reply, refused, done, entry, stitched, idle, leaves, word, found}
+use Rattle.ledger.specs.Desk as desk
+use Rattle.fields.specs.declared.Order.{Order}
+use Rattle.fields.specs.declared.Order.the-variants.{Setup, Arrive, Stitch, Prefetch, Turn, Credit, Map}
+use Rattle.bench.specs.declared.orders.Said.{Said}
+use Rattle.bench.specs.declared.orders.Said.the-variants.{Done, Node, Idle, No, Bad}
+
+-- the header that an order's call is handed, from the bytes that the order was read in: an arrival has one
+abbrev pub headerIn : List ℕ → Order → List ℕ
+headerIn s (Setup nodes beat slots credit) = []
+headerIn s (Arrive port at) = take 10 (drop at s)
+headerIn s (Stitch port) = []
+headerIn s (Prefetch port queue) = []
+headerIn s (Turn port) = []
+headerIn s (Credit port queue amount) = []
+headerIn s (Map id port) = []
+
+-- the call of an order, h being its header
+abbrev pub callIn : Order → List ℕ → desk.Call
+callIn (Setup nodes beat slots credit) h = desk.setup nodes beat slots credit
+callIn (Arrive port at) h = desk.act (act.arrive port h)
+callIn (Stitch port) h = desk.act (act.stitch port)
+callIn (Prefetch port queue) h = desk.act (act.prefetch port queue)
+callIn (Turn port) h = desk.act (act.turn port)
+callIn (Credit port queue amount) h = desk.act (act.credit port queue amount)
+callIn (Map id port) h = desk.act (act.mapTo id port)
+
+-- what a line says of a reply. A stitch's record begins with the entry id; no order asks for a word or for where a node is
+abbrev pub saidOf : Reply → Said
+saidOf (refused n) = No n
+saidOf done = Done
+saidOf (entry x) = Node x
+saidOf (stitched b) = Node (number 2 b 0)
+saidOf idle = Idle
+saidOf (leaves k s) = Node (k .node)
+saidOf (word w n) = Done
+saidOf (found v i) = Done
+
+-- the line and the memory after a call
+abbrev pub carried : Reply × List ℕ → Said × List ℕ
+carried out = (saidOf (out .0), out .1)
