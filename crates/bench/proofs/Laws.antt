@@ -18,7 +18,8 @@ use Rattle.fields.specs.declared.Order.the-variants.{Setup, Arrive, Stitch, Pre
 use Rattle.fields.specs.declared.Read.{Read}
 use Rattle.fields.specs.declared.Read.the-variants as reads
 use Rattle.bench.specs.Orders.{headerIn, callIn, saidOf, carried}
-use Rattle.bench.specs.Lines.{places, decimal, lastText, queuedByte, queued}
+use Rattle.bench.specs.Lines.{places, decimal, lineText, lastText, queuedByte, queued}
+use Rattle.bench.specs.Steps.{stepped}
 use Rattle.bench.specs.declared.orders.Said.{Said}
 
 -- ---- orders
@@ -35,9 +36,29 @@ no-header s (Map id port) other = refl
 -- an order that is told to be o is carried out by the call of o
 
 pub carries :
-    (order o : Order) (h m m′ : List ℕ) (x : Reply) (said : Said)
+    (h m : List ℕ) {order o : Order} {x : Reply} {m′ : List ℕ} {said : Said}
     → order ≡ o → (x, m′) ≡ M (callIn o h) m → said ≡ saidOf x → (said, m′) ≡ carried (M (callIn order h) m)
-carries order o h m m′ x said e call line = rw (line, e) (ap carried call)
+carries h m e call line = rw (line, e) (ap carried call)
+
+-- what is no call ends the run
+pub ends :
+    (s : List ℕ) (from n : ℕ) (m w : List ℕ) {read found : Read} {w′ : List ℕ}
+    → read ≡ found → w′ ≡ queued w (lastText n read) → ((order : Order) (next : ℕ) → read ≡ reads.Call order next → ⊥)
+    → (m, w′, false, from) ≡ stepped s from n m w found
+ends s from n m w {read} e line other = rw (line, ← e) (go read other)
+  where
+    go : (read : Read) → ((order : Order) (next : ℕ) → read ≡ reads.Call order next → ⊥) → (m, queued w (lastText n read), false, from) ≡ stepped s from n m w read
+    go (reads.Call order next) other = absurd (other order next refl)
+    go reads.Bad other = refl
+    go reads.End other = refl
+
+-- a call is carried out, and the run goes on after its field
+pub goes :
+    (s : List ℕ) (from n : ℕ) (m w : List ℕ) {read : Read} {order : Order} {next : ℕ} {h m′ w′ : List ℕ} {said : Said}
+    → read ≡ reads.Call order next → h ≡ headerIn s order → (said, m′) ≡ carried (M (callIn order h) m) → w′ ≡ queued w (lineText n said)
+    → (m′, w′, true, next) ≡ stepped s from n m w read
+goes s from n m w {next = next} e header call line =
+    rw (e, line) (ap (λ (out : Said × List ℕ). (out .1, queued w (lineText n (out .0)), true, next)) (rw header at call))
 
 -- ---- decimals
 
@@ -80,10 +101,10 @@ pub byte-put :
     (out : List ℕ) (waiting at b : ℕ) → length out ≡ 4096 → waiting ≤ 4096 → at < 4096 → at ≡ cond (ltb waiting 4096) waiting 0
     → take (at + 1) (set out at b) ≡ queued (take waiting out) (b ∷ [])
 byte-put out waiting at b full low fits e =
-    rw add-one (take-suc-set out at b (omega arith) ∙ ap (λ (l : List ℕ). l ++ (b ∷ []))
-    (ap (λ (n : ℕ). take n out) e ∙ front (ltb waiting 4096) ∙ ap (λ (n : ℕ). cond (ltb n 4096) (take waiting out) []) (sym (length-take-le waiting out (omega arith)))))
+    rw (add-one, length-take-le waiting out (omega arith))
+    (take-suc-set out at b (omega arith) ∙ ap (λ (n : ℕ). take n out ++ (b ∷ [])) e ∙ front (ltb waiting 4096))
   where
-    front : (t : Bool) → take (cond t waiting 0) out ≡ cond t (take waiting out) []
+    front : (t : Bool) → take (cond t waiting 0) out ++ (b ∷ []) ≡ cond t (take waiting out) [] ++ (b ∷ [])
     front true = refl
     front false = refl
 

@@ -1,2 +1,3 @@
 pub mod Orders
 pub mod Lines
+pub mod Steps

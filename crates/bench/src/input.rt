@@ -1,4 +1,5 @@
 // Standard input by way of a buffer, in which a field of the right length always stands whole.
+ghost use mathlib.Core.Path.{_≡_};
 ghost use Prim.Native.Nat.{_≤_};
 ghost use lib.ListN.{length};
 
@@ -26,7 +27,7 @@ pub fn start() -> Input
 // The bytes before place next are used.
 pub fn passed(input: Input, next: usize) -> Input
     requires { ⌜ (next ≤ input .to) × (input .to ≤ 4096) ⌝ }
-    ensures { λ r. ⌜ (r .from ≤ r .to) × (r .to ≤ 4096) ⌝ }
+    ensures { λ r. ⌜ (r .from ≤ r .to) × (r .to ≤ 4096) × (r .from ≡ next) × (r .to ≡ input .to) ⌝ }
 {
     Input {
         from: next,

@@ -17,7 +17,10 @@ returns : tie.Need-returns
 returns c = let e = c .before .before .enum-told .given .1 in (search needs, rw e (c .line .ensures .1))
 
 returns-2 : tie.Need-returns-2
-returns-2 c = let a = c .before .args in (search needs, no-line (take (a .waiting) (a .out .now)) (a .n) (a .read) (λ e. miss (0 ∷ 2 ∷ []) 1 tt (rw e at (c .match .keys2))))
+returns-2 c =
+    let a = c .before .args in
+    let w = take (a .waiting) (a .out .now) in
+    (search needs, no-line w (a .n) (a .read) (λ e. miss (0 ∷ 2 ∷ []) 1 tt (rw e at (c .match .keys2))))
 
 pub last-line-spec : {M : Type 1} → statement M
 last-line-spec = tie.close (tie.spec enum-told line-requires returns returns-2)

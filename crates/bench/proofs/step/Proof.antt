@@ -1,25 +1,26 @@
 -- `bench::step` is safe: a call's field and its header stand within the bytes that are read. Assumes nothing.
 use mathlib.Core.Path.{sym, ap, _∙_}
 use native.Mathlib.Omega.{arith}
-use lib.ListN.{length-take, length-drop}
+use types.Run.{miss}
+use mathlib.Core.List.{[], _∷_}
+use lib.ListN.{take, length-take, length-drop}
 use Rattle.fields.proofs.Orders.{next-larger, header-within}
 use Rattle.fields.specs.declared.Order.{Order}
 use Rattle.fields.specs.declared.Read.the-variants.{Call}
 use borrow.Author.Needs.{needs}
+use Rattle.bench.proofs.Laws.{ends, goes}
 use Rattle.bench.proofs.step.Statement.{statement}
 use Rattle.bench.proofs.step.Tie as tie
+
+-- where the input was filled, from where a field was read
+abbrev filled : tie.After-order-at → tie.After-filled
+filled c = c .before .before .before .before
 
 filled-requires : tie.Need-filled-requires
 filled-requires c κs = search needs
 
-sub-part : tie.Need-sub-part
-sub-part c = search needs
-
-part-part-start : tie.Need-part-part-start
-part-part-start c = search needs
-
-part-part-end : tie.Need-part-part-end
-part-part-end c = search needs
+slice-aggregate-part : tie.Need-slice-aggregate-part
+slice-aggregate-part c = simp length-take (omega arith)
 
 order-at-requires : tie.Need-order-at-requires
 order-at-requires c κs = search needs
@@ -31,7 +32,14 @@ last-line-requires : tie.Need-last-line-requires
 last-line-requires c κs = search needs
 
 returns : tie.Need-returns
-returns c = search needs
+returns c =
+    let none = c .before .before in
+    let read = none .before in
+    let part = filled read in
+    let a = part .before .before .args in
+    let s = take (part .filled .result .to) (part .filled .last .0) in
+    let w = take (a .p .waiting) (a .out .now) in
+    (search needs, (part .filled .result .from, ends s _ _ (a .m .now) w (read .order-at .ensures) (c .last-line .ensures .1) (λ o next e. miss (1 ∷ 2 ∷ []) 0 tt (rw e at (none .match .keys2)))))
 
 header-requires : tie.Need-header-requires
 header-requires c κs =
@@ -53,16 +61,24 @@ passed-requires c κs =
     (omega (arith, simp (length-take, length-drop) at (inside .1)), search needs)
 
 returns-2 : tie.Need-returns-2
-returns-2 c = search needs
+returns-2 c =
+    let line = c .before in
+    let call = line .before .before in
+    let header = call .before .before in
+    let field = header .before .before in
+    let part = filled (field .before .before) in
+    let a = part .before .before .args in
+    let s = take (part .filled .result .to) (part .filled .last .0) in
+    let w = take (a .p .waiting) (a .out .now) in
+    let read = sym (field .before .before .order-at .ensures) ∙ field .read .given .1 in
+    (search needs, (part .filled .result .from, rw (c .passed .ensures .2, c .passed .ensures .3) (goes s _ _ (a .m .now) w read (header .header .ensures) (call .carry-out .ensures) (line .line .ensures .1))))
 
 pub step-spec : {M : Type 1} → statement M
 step-spec =
     tie.close
     (tie.spec
     filled-requires
-    sub-part
-    part-part-start
-    part-part-end
+    slice-aggregate-part
     order-at-requires
     enum-known-read
     last-line-requires

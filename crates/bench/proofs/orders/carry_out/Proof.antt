@@ -113,43 +113,57 @@ same-length : tie.Need-same-length
 same-length c = search needs
 
 returns : tie.Need-returns
-returns c = let call = c .before .before .before in carries _ _ _ _ _ _ _ (call .before .before .before .order .given .1) (call .set-up .ensures) (c .plain .ensures)
+returns c =
+    let call = c .before .before .before in
+    carries _ _ (call .before .before .before .order .given .1) (call .set-up .ensures) (c .plain .ensures)
 
 same-length-2 : tie.Need-same-length-2
 same-length-2 c = search needs
 
 returns-2 : tie.Need-returns-2
-returns-2 c = let call = c .before .before .before in carries _ _ _ _ _ _ _ (call .before .before .before .order2 .given .1) (call .arrive .ensures) (c .entry .ensures)
+returns-2 c =
+    let call = c .before .before .before in
+    carries _ _ (call .before .before .before .order2 .given .1) (call .arrive .ensures) (c .entry .ensures)
 
 same-length-3 : tie.Need-same-length-3
 same-length-3 c = search needs
 
 returns-3 : tie.Need-returns-3
-returns-3 c = let call = c .before .before .before in carries _ _ _ _ _ _ _ (call .before .before .before .order3 .given .1) (call .stitch .ensures .0) (c .stitched .ensures)
+returns-3 c =
+    let call = c .before .before .before in
+    carries _ _ (call .before .before .before .order3 .given .1) (call .stitch .ensures .0) (c .stitched .ensures)
 
 same-length-4 : tie.Need-same-length-4
 same-length-4 c = search needs
 
 returns-4 : tie.Need-returns-4
-returns-4 c = let call = c .before .before .before in carries _ _ _ _ _ _ _ (call .before .before .before .order4 .given .1) (call .prefetch .ensures) (c .entry2 .ensures)
+returns-4 c =
+    let call = c .before .before .before in
+    carries _ _ (call .before .before .before .order4 .given .1) (call .prefetch .ensures) (c .entry2 .ensures)
 
 same-length-5 : tie.Need-same-length-5
 same-length-5 c = search needs
 
 returns-5 : tie.Need-returns-5
-returns-5 c = let call = c .before .before .before in carries _ _ _ _ _ _ _ (call .before .before .before .order5 .given .1) (call .turn .ensures) (c .turned .ensures)
+returns-5 c =
+    let call = c .before .before .before in
+    carries _ _ (call .before .before .before .order5 .given .1) (call .turn .ensures) (c .turned .ensures)
 
 same-length-6 : tie.Need-same-length-6
 same-length-6 c = search needs
 
 returns-6 : tie.Need-returns-6
-returns-6 c = let call = c .before .before .before in carries _ _ _ _ _ _ _ (call .before .before .before .order6 .given .1) (call .credit .ensures) (c .plain2 .ensures)
+returns-6 c =
+    let call = c .before .before .before in
+    carries _ _ (call .before .before .before .order6 .given .1) (call .credit .ensures) (c .plain2 .ensures)
 
 same-length-7 : tie.Need-same-length-7
 same-length-7 c = search needs
 
 returns-7 : tie.Need-returns-7
-returns-7 c = let call = c .before .before .before in carries _ _ _ _ _ _ _ (call .before .before .before .order7 .given .1) (call .map-to .ensures) (c .plain3 .ensures)
+returns-7 c =
+    let call = c .before .before .before in
+    carries _ _ (call .before .before .before .order7 .given .1) (call .map-to .ensures) (c .plain3 .ensures)
 
 pub carry-out-spec : {M : Type 1} → statement M
 carry-out-spec =

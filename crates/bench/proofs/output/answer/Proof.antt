@@ -68,7 +68,9 @@ returns-2 c =
     let zero = c .before .before in
     let told = zero .before .before .before .before in
     let a = told .before .before .args in
-    (search needs, rw (told .said .given .1) (then-queued (take (a .waiting) (a .out .now)) (48 ∷ 32 ∷ []) (decimal (told .said .given .0 .0)) (zero .text2 .ensures .1) (c .number .ensures .1)))
+    let w = take (a .waiting) (a .out .now) in
+    let said = told .said .given in
+    (search needs, rw (said .1) (then-queued w (48 ∷ 32 ∷ []) (decimal (said .0 .0)) (zero .text2 .ensures .1) (c .number .ensures .1)))
 
 returns-3 : tie.Need-returns-3
 unfolding answerText

@@ -14,7 +14,10 @@ add-result : tie.Need-add-result
 add-result c = search needs
 
 returns : tie.Need-returns
-returns c = let a = c .before .before .before .args in (search needs, byte-put (a .out .now) (a .waiting) _ (a .b) (search needs) (search needs) (c .before .room .ensures .0) (c .before .room .ensures .1))
+returns c =
+    let a = c .before .before .before .args in
+    let place = c .before .room .ensures in
+    (search needs, byte-put (a .out .now) (a .waiting) _ (a .b) (search needs) (search needs) (place .0) (place .1))
 
 pub byte-spec : {M : Type 1} → statement M
 byte-spec = tie.close (tie.spec room-requires slice-write-bytes add-result returns)

@@ -23,7 +23,7 @@ byte-requires-2 c κs = search needs
 
 returns : tie.Need-returns
 unfolding lineText
-returns c = 
+returns c =
     let spoken = c .before .before in
     let space = spoken .before .before in
     let number = space .before .before in
@@ -31,7 +31,8 @@ returns c =
     let w = take (a .waiting) (a .out .now) in
     let end : List ℕ = 32 ∷ answerText (a .said) in
     let ended = spoken .answer .ensures .1 ∙ ap (λ (l : List ℕ). queued l (answerText (a .said))) (space .byte .ensures .1) in
-    (search needs, then-queued w (decimal (a .n) ++ end) (10 ∷ []) (then-queued w (decimal (a .n)) end (number .number .ensures .1) ended) (c .byte2 .ensures .1))
+    let front = then-queued w (decimal (a .n)) end (number .number .ensures .1) ended in
+    (search needs, then-queued w (decimal (a .n) ++ end) (10 ∷ []) front (c .byte2 .ensures .1))
 
 pub line-spec : {M : Type 1} → statement M
 line-spec =

@@ -19,7 +19,9 @@ text-requires : tie.Need-text-requires
 text-requires c κs = search needs
 
 returns : tie.Need-returns
-returns c = let spelt = c .before .before .before .decimal .ensures in (search needs, c .text .ensures .1 ∙ ap (queued _) (spelt .1 .1 ∙ decimal-is _ _ (spelt .1 .0)))
+returns c =
+    let spelt = c .before .before .before .decimal .ensures in
+    (search needs, c .text .ensures .1 ∙ ap (queued _) (spelt .1 .1 ∙ decimal-is _ _ (spelt .1 .0)))
 
 pub number-spec : {M : Type 1} → statement M
 number-spec =

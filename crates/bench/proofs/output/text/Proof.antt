@@ -1,4 +1,5 @@
--- `bench::output::text` meets its contract. The loop's invariant: what waits, with what is left of the text, is what will wait in the end. Assumes nothing.
+-- `bench::output::text` meets its contract. The loop's invariant: what waits, with what is left of the text put after it, is what waits in the
+-- end. The measure is what is left. Assumes nothing.
 use mathlib.Core.Path.{_≡_, sym, _∙_}
 use Prim.Native.Nat.{_≤_, _-_}
 use lib.ListN.{length, take, drop}
@@ -30,10 +31,14 @@ loop-less : tie.Need-loop-less Inv-loop μ-loop
 loop-less c = search needs
 
 loop-again : tie.Need-loop-again Inv-loop μ-loop
-loop-again c = let lp = c .before .before .before .before .loop in (search needs, search needs, text-step _ _ _ (lp .i) (search needs) (c .byte .ensures .1) ∙ lp .inv .2)
+loop-again c =
+    let lp = c .before .before .before .before .loop in
+    (search needs, search needs, text-step _ _ _ (lp .i) (search needs) (c .byte .ensures .1) ∙ lp .inv .2)
 
 returns : tie.Need-returns Inv-loop μ-loop
-returns c = let lp = c .before .loop in (search needs, sym (text-end _ _ (lp .i) (search needs)) ∙ lp .inv .2)
+returns c =
+    let lp = c .before .loop in
+    (search needs, sym (text-end _ _ (lp .i) (search needs)) ∙ lp .inv .2)
 
 pub text-spec : {M : Type 1} → statement M
 text-spec =
