@@ -1,3 +1,4 @@
+pub mod Inputs
 pub mod Orders
 pub mod Lines
 pub mod Steps

@@ -5,7 +5,6 @@ use Prim.Native.Nat.{ℕ, zero, suc, _/_}
 use lib.Dec.{ltb}
 use lib.ListN.{length}
 use Rattle.io.specs.Digits.{digits}
-use Rattle.fields.specs.declared.Order.{Order}
 use Rattle.fields.specs.declared.Read.{Read}
 use Rattle.fields.specs.declared.Read.the-variants as read
 use Rattle.bench.specs.declared.orders.Said.{Said}
@@ -13,12 +12,12 @@ use Rattle.bench.specs.declared.orders.Said.the-variants.{Done, Node, Id
 
 -- ---- text
 
--- how many digits n has in decimal; a digit for each step at most
+-- how many digits n has in decimal, if there are steps enough: one for each digit
 abbrev pub places : ℕ → ℕ → ℕ
 places zero n = 0
 places (suc steps) n = cond (ltb n 10) 1 (suc (places steps (n / 10)))
 
--- n in decimal, with no zero in front: no number has more digits than itself and one
+-- n in decimal, with no zero in front; n + 1 steps are always enough
 unfoldable pub decimal : ℕ → List ℕ
 decimal n = digits 10 (places (suc n) n) n
 
@@ -42,7 +41,7 @@ lastText n read.End = []
 
 -- ---- the buffer
 
--- what waits after one byte more: where 4,096 wait, they're written first
+-- what waits after one byte more: where 4,096 wait, they're written first, and none is left
 abbrev pub queuedByte : List ℕ → ℕ → List ℕ
 queuedByte waiting b = cond (ltb (length waiting) 4096) waiting [] ++ (b ∷ [])
 

@@ -9,7 +9,7 @@ use Rattle.ledger.specs.Desk as desk
 use Rattle.fields.specs.declared.Order.{Order}
 use Rattle.fields.specs.declared.Order.the-variants.{Setup, Arrive, Stitch, Prefetch, Turn, Credit, Map}
 use Rattle.bench.specs.declared.orders.Said.{Said}
-use Rattle.bench.specs.declared.orders.Said.the-variants.{Done, Node, Idle, No, Bad}
+use Rattle.bench.specs.declared.orders.Said.the-variants.{Done, Node, Idle, No}
 
 -- the header that an order's call is handed, from the bytes that the order was read in: an arrival has one
 abbrev pub headerIn : List ℕ → Order → List ℕ

@@ -1,7 +1,8 @@
 // Standard input by way of a buffer, in which a field of the right length always stands whole.
 ghost use mathlib.Core.Path.{_≡_};
-ghost use Prim.Native.Nat.{_≤_};
-ghost use lib.ListN.{length};
+ghost use Prim.Native.Nat.{_-_, _≤_};
+ghost use lib.ListN.{length, take};
+ghost use Rattle.bench.specs.Inputs.{unread, Kept};
 
 // The longest field is an arrival: a tag, a length of two bytes, a port, and a header of ten.
 const LONGEST: usize = 14;
@@ -37,9 +38,9 @@ pub fn passed(input: Input, next: usize) -> Input
 }
 
 // The bytes from place from up to place to, moved to the front: how many they are.
-fn moved(bytes: &mut [u8; 4096], from: usize, to: usize) -> usize
-    requires { ⌜ (from ≤ to) × (to ≤ 4096) ⌝ }
-    ensures { λ r. ⌜ r ≤ 4096 ⌝ }
+fn moved(bytes: &mut [u8], from: usize, to: usize) -> usize
+    requires { ⌜ (from ≤ to) × (to ≤ length (now bytes)) ⌝ }
+    ensures { λ r. ⌜ (r ≡ to - from) × (take (to - from) (now (bytes .exit)) ≡ unread (now (bytes .entry)) from to) ⌝ }
 {
     let mut i = 0;
     while i < to - from {
@@ -52,7 +53,7 @@ fn moved(bytes: &mut [u8; 4096], from: usize, to: usize) -> usize
 // One read, to place to: up to where the buffer is filled then. The same place where nothing came.
 fn read_to(bytes: &mut [u8], to: usize) -> usize
     requires { ⌜ to ≤ length (now bytes) ⌝ }
-    ensures { λ r. ⌜ (to ≤ r) × (r ≤ length (now (bytes .entry))) ⌝ }
+    ensures { λ r. ⌜ (to ≤ r) × (r ≤ length (now (bytes .entry))) × (take to (now (bytes .exit)) ≡ take to (now (bytes .entry))) ⌝ }
 {
     let got = libc::read(0, &mut bytes[to..]);
     to + io::count(got, &bytes[to..])
@@ -61,7 +62,7 @@ fn read_to(bytes: &mut [u8], to: usize) -> usize
 // Reads on from place from, until the longest field would stand at the front or the input ends.
 fn read_on(bytes: &mut [u8; 4096], from: usize) -> Input
     requires { ⌜ from ≤ 4096 ⌝ }
-    ensures { λ r. ⌜ (r .from ≤ r .to) × (r .to ≤ 4096) ⌝ }
+    ensures { λ r. ⌜ (r .from ≡ 0) × (from ≤ r .to) × (r .to ≤ 4096) × (take from (now (bytes .exit)) ≡ take from (now (bytes .entry))) ⌝ }
 {
     let mut to = from;
     while to < LONGEST {
@@ -86,6 +87,7 @@ fn read_on(bytes: &mut [u8; 4096], from: usize) -> Input
 pub fn filled(bytes: &mut [u8; 4096], input: Input) -> Input
     requires { ⌜ (input .from ≤ input .to) × (input .to ≤ 4096) ⌝ }
     ensures { λ r. ⌜ (r .from ≤ r .to) × (r .to ≤ 4096) ⌝ }
+    ensures { λ r. ⌜ Kept (now (bytes .entry)) (input .from) (input .to) (now (bytes .exit)) (r .from) (r .to) ⌝ }
 {
     if input.ended || LONGEST <= input.to - input.from {
         return input;

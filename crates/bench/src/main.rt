@@ -7,13 +7,10 @@ use fields::Read;
 use input::Input;
 use orders::Said;
 ghost use mathlib.Core.Path.{_≡_};
-ghost use mathlib.Core.Bool.{Bool};
-ghost use mathlib.Core.List.{List};
-ghost use Prim.Native.Nat.{ℕ, _≤_};
+ghost use Prim.Native.Nat.{_≤_};
 ghost use lib.ListN.{take};
-ghost use Rattle.fields.specs.Calls.{orderAt};
 ghost use Rattle.bench.specs.Lines.{lastText, queued};
-ghost use Rattle.bench.specs.Steps.{stepped};
+ghost use Rattle.bench.specs.Steps.{Stepped};
 
 // How a run stands: what is read of the input, how many bytes wait to be written, and whether the run goes on.
 struct Progress {
@@ -43,7 +40,7 @@ fn step(
 ) -> Progress
     requires { ⌜ (p .input .from ≤ p .input .to) × (p .input .to ≤ 4096) × (p .waiting ≤ 4096) ⌝ }
     ensures { λ r. ⌜ (r .input .from ≤ r .input .to) × (r .input .to ≤ 4096) × (r .waiting ≤ 4096) ⌝ }
-    ensures { λ r. ⌜ ((from : ℕ) × (_≡_ {A = List ℕ × List ℕ × Bool × ℕ} (now (m .exit), take (r .waiting) (now (out .exit)), r .going, r .input .from) (stepped (take (r .input .to) (now (bytes .exit))) from n (now (m .entry)) (take (p .waiting) (now (out .entry))) (orderAt (take (r .input .to) (now (bytes .exit))) from)))) ⌝ }
+    ensures { λ r. ⌜ Stepped n p (now (m .entry)) (now (bytes .entry)) (now (out .entry)) r (now (m .exit)) (now (bytes .exit)) (now (out .exit)) ⌝ }
 {
     let input = input::filled(bytes, p.input);
     let from = input.from;

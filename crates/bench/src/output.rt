@@ -32,6 +32,7 @@ fn byte(out: &mut [u8; 4096], waiting: usize, b: u8) -> usize
     ensures { λ r. ⌜ (r ≤ 4096) × (take r (now (out .exit)) ≡ queued (take waiting (now (out .entry))) (b ∷ [])) ⌝ }
 {
     let at = room(out, waiting);
+    // As a slice: an array's length is not told to a proof.
     let bytes: &mut [u8] = out;
     bytes[at] = b;
     at + 1

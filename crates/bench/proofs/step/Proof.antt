@@ -1,10 +1,12 @@
--- `bench::step` is safe: a call's field and its header stand within the bytes that are read. Assumes nothing.
-use mathlib.Core.Path.{sym, ap, _∙_}
+-- `bench::step` meets its contract: the field is a call and is carried out, or ends the run. Assumes nothing.
+use mathlib.Core.Path.{_≡_, sym, ap, _∙_}
+use mathlib.Core.List.{List, [], _∷_}
+use Prim.Native.Nat.{ℕ}
 use native.Mathlib.Omega.{arith}
 use types.Run.{miss}
-use mathlib.Core.List.{[], _∷_}
-use lib.ListN.{take, length-take, length-drop}
+use lib.ListN.{take, length-take}
 use Rattle.fields.proofs.Orders.{next-larger, header-within}
+use Rattle.fields.specs.Calls.{orderAt}
 use Rattle.fields.specs.declared.Order.{Order}
 use Rattle.fields.specs.declared.Read.the-variants.{Call}
 use borrow.Author.Needs.{needs}
@@ -15,6 +17,21 @@ use Rattle.bench.proofs.step.Tie as tie
 -- where the input was filled, from where a field was read
 abbrev filled : tie.After-order-at → tie.After-filled
 filled c = c .before .before .before .before
+
+-- the bytes that were read by then, and those that wait to be written
+abbrev bytes : tie.After-order-at → List ℕ
+bytes c = take (filled c .filled .result .to) (filled c .filled .last .0)
+
+abbrev waiting : tie.After-order-at → List ℕ
+waiting c = let a = filled c .before .before .args in take (a .p .waiting) (a .out .now)
+
+-- a call was read there, or none was
+found : (c : tie.After-read) →
+    orderAt (bytes (c .before .before)) (filled (c .before .before) .filled .result .from) ≡ Call (c .read .given .0 .0) (c .read .given .0 .1 .0)
+found c = sym (c .before .before .order-at .ensures) ∙ c .read .given .1
+
+none : (c : tie.At-match-keys2) (order : Order) (next : ℕ) → c .before .order-at .result ≡ Call order next → ⊥
+none c order next e = miss (1 ∷ 2 ∷ []) 0 tt (rw e at (c .match .keys2))
 
 filled-requires : tie.Need-filled-requires
 filled-requires c κs = search needs
@@ -33,19 +50,22 @@ last-line-requires c κs = search needs
 
 returns : tie.Need-returns
 returns c =
-    let none = c .before .before in
-    let read = none .before in
-    let part = filled read in
-    let a = part .before .before .args in
-    let s = take (part .filled .result .to) (part .filled .last .0) in
-    let w = take (a .p .waiting) (a .out .now) in
-    (search needs, (part .filled .result .from, ends s _ _ (a .m .now) w (read .order-at .ensures) (c .last-line .ensures .1) (λ o next e. miss (1 ∷ 2 ∷ []) 0 tt (rw e at (none .match .keys2)))))
+    let other = c .before .before in
+    let read = other .before in
+    let start = filled read in
+    let a = start .before .before .args in (
+      search needs,
+      record {
+        from = start .filled .result .from;
+        kept = start .filled .ensures .1;
+        left = ends (bytes read) _ (a .n) (a .m .now) (waiting read) (read .order-at .ensures) (c .last-line .ensures .1) (none other);
+      },
+    )
 
 header-requires : tie.Need-header-requires
 header-requires c κs =
-    let read = c .before in
-    let found = sym (read .before .before .order-at .ensures) ∙ read .read .given .1 in
-    λ port h e. header-within _ _ port h _ (found ∙ ap (λ (o : Order). Call o (read .read .given .0 .1 .0)) e)
+    let field = c .before in
+    λ port h e. header-within _ _ port h _ (found field ∙ ap (λ (o : Order). Call o (field .read .given .0 .1 .0)) e)
 
 carry-out-requires : tie.Need-carry-out-requires
 carry-out-requires c κs = search needs
@@ -55,23 +75,25 @@ line-requires c κs = search needs
 
 passed-requires : tie.Need-passed-requires
 passed-requires c κs =
-    let read = c .before .before .before .before .before .before in
-    let found = sym (read .before .before .order-at .ensures) ∙ read .read .given .1 in
-    let inside = next-larger _ _ _ _ found in
-    (omega (arith, simp (length-take, length-drop) at (inside .1)), search needs)
+    let inside = next-larger _ _ _ _ (found (c .before .before .before .before .before .before)) in
+    (omega (arith, simp length-take at (inside .1)), search needs)
 
 returns-2 : tie.Need-returns-2
 returns-2 c =
     let line = c .before in
     let call = line .before .before in
-    let header = call .before .before in
-    let field = header .before .before in
-    let part = filled (field .before .before) in
-    let a = part .before .before .args in
-    let s = take (part .filled .result .to) (part .filled .last .0) in
-    let w = take (a .p .waiting) (a .out .now) in
-    let read = sym (field .before .before .order-at .ensures) ∙ field .read .given .1 in
-    (search needs, (part .filled .result .from, rw (c .passed .ensures .2, c .passed .ensures .3) (goes s _ _ (a .m .now) w read (header .header .ensures) (call .carry-out .ensures) (line .line .ensures .1))))
+    let head = call .before .before in
+    let field = head .before .before in
+    let read = field .before .before in
+    let start = filled read in
+    let a = start .before .before .args in (
+      search needs,
+      rw (c .passed .ensures .2, c .passed .ensures .3) record {
+        from = start .filled .result .from;
+        kept = start .filled .ensures .1;
+        left = goes (bytes read) _ (a .n) (a .m .now) (waiting read) (found field) (head .header .ensures) (call .carry-out .ensures) (line .line .ensures .1);
+      },
+    )
 
 pub step-spec : {M : Type 1} → statement M
 step-spec =
