@@ -34,6 +34,8 @@
  * A call takes up to 9,072 bytes of stack, whatever the nodes (measured on x86-64, not proved): the test for a state keeps a mark for
  * each of up to 8,192 nodes there.
  *
+ * Numbers that are lent for an answer (uint16_t *, uint32_t *, uint64_t *) are the machine's own; the rooms of bytes are big-endian.
+ *
  * Numbers are wide on purpose: port 70,000 is refused 4, an amount above 65,535 is a sum above 65,535, an entry above 65,535 is no node.
  */
 #ifndef VENTORUPO_H

@@ -74,12 +74,14 @@ module _ (S : Settings) (ok : Roomy S) (L : Ledger) (s : Orderly S L) (p : ℕ) 
       (λ c. taken (firstOf S L (free p) .node) (arrived S L p (arriving S L p h)) (taken-in (admits S L p h c)))
 
 -- no field of a header decides whose node is taken: any two headers that are taken in here take the same node
-pub whose-node : (S : Settings) (L : Ledger) (p : ℕ) (h h′ : List ℕ) (x y : ℕ) → step S L (arrive p h) .0 ≡ entry x → step S L (arrive p h′) .0 ≡ entry y → x ≡ y
+pub whose-node : (S : Settings) (L : Ledger) (p : ℕ) (h h′ : List ℕ) (x y : ℕ)
+    → step S L (arrive p h) .0 ≡ entry x → step S L (arrive p h′) .0 ≡ entry y → x ≡ y
 whose-node S L p h h′ x y d e = first h x d ∙ sym (first h′ y e)
   where
     first : (g : List ℕ) (z : ℕ) → step S L (arrive p g) .0 ≡ entry z → z ≡ firstOf S L (free p) .node
     first g z =
-        guarded {X = Reply × Ledger} (λ out. out .0 ≡ entry z → z ≡ firstOf S L (free p) .node) (rules S L (arrive p g)) (λ n. (refused n, L)) (result S L (arrive p g))
+        guarded {X = Reply × Ledger} (λ out. out .0 ≡ entry z → z ≡ firstOf S L (free p) .node)
+        (rules S L (arrive p g)) (λ n. (refused n, L)) (result S L (arrive p g))
         (λ n i. absurd (let o : _≡_ {A = ℕ} 0 1 = cc in omega arith))
         (λ c i. cc)
 
@@ -99,7 +101,8 @@ weigh-only f [] a n = refl
 weigh-only f (xs ∷ ls) zero n =
     omega (arith, weigh-cong (λ i. f (suc i)) (λ i k. 0) ls (record { holds = λ l h. n (suc l) (omega arith) (suc-le-suc h) }), weigh-none ls)
 weigh-only f (xs ∷ ls) (suc a) n =
-    omega (arith, sum-none (f 0) xs (n 0 (omega arith) (suc-le-suc zero-le)), weigh-only (λ i. f (suc i)) ls a (λ l d h. n (suc l) (λ e. d (omega arith)) (suc-le-suc h)))
+    let rest = weigh-only (λ i. f (suc i)) ls a (λ l d h. n (suc l) (λ e. d (omega arith)) (suc-le-suc h)) in
+    omega (arith, sum-none (f 0) xs (n 0 (omega arith) (suc-le-suc zero-le)), rest)
 
 sum-plus : (f g : Packet → ℕ) (xs : List Packet) → sum (λ k. f k + g k) xs ≡ sum f xs + sum g xs
 sum-plus f g [] = refl
@@ -123,15 +126,16 @@ module _ (S : Settings) (ok : Roomy S) (L : Ledger) (s : Orderly S L) (p : ℕ) 
       y : ℕ
       y = k .node
 
+      other : index y ≢ n → eqb y (entryId p n) ≡ false
+      other i = eqb-not y (entryId p n) (λ z. i (ap index z ∙ row-mod 2048 p n h))
+
       go : Dec (owner y ≡ p) → Dec (index y ≡ n) → Dec (index y < n)
           → bit (eqb (owner y) p && ltb (index y) (suc n)) ≡ bit (eqb (owner y) p && ltb (index y) n) + bit (eqb y (entryId p n))
       go (no d) i j = rw (eqb-not (owner y) p d, eqb-not y (entryId p n) (λ e. d (ap owner e ∙ row-div 2048 p n h)))
       go (yes e) (yes i) j =
           rw (eqb-is (owner y) p e, ltb-is (index y) (suc n) (omega arith), ltb-not (index y) n (omega arith), eqb-is y (entryId p n) (omega arith))
-      go (yes e) (no i) (yes j) =
-          rw (eqb-is (owner y) p e, ltb-is (index y) (suc n) (omega arith), ltb-is (index y) n j, eqb-not y (entryId p n) (λ z. i (ap index z ∙ row-mod 2048 p n h)))
-      go (yes e) (no i) (no j) =
-          rw (eqb-is (owner y) p e, ltb-not (index y) (suc n) (omega arith), ltb-not (index y) n (omega arith), eqb-not y (entryId p n) (λ z. i (ap index z ∙ row-mod 2048 p n h)))
+      go (yes e) (no i) (yes j) = rw (eqb-is (owner y) p e, ltb-is (index y) (suc n) (omega arith), ltb-is (index y) n j, other i)
+      go (yes e) (no i) (no j) = rw (eqb-is (owner y) p e, ltb-not (index y) (suc n) (omega arith), ltb-not (index y) n (omega arith), other i)
 
   none-below : (l : ℕ) (k : Packet) → mine 0 l k ≡ 0
   unfolding mine
@@ -183,8 +187,12 @@ module _ (S : Settings) (ok : Roomy S) (L : Ledger) (s : Orderly S L) (p : ℕ) 
       none true = refl
       none false = refl
 
-      go : (v : Place) → place# S v ≡ l → All (λ k. OwnPort v k) (getD (L .lists) l []) → All (λ k. bit (eqb (owner (k .node)) p && isFree v) ≡ 0) (getD (L .lists) l [])
-      go (free r) e a = All-map (getD (L .lists) l []) (λ k o. rw (eqb-not (owner (k .node)) p (λ i. n (sym e ∙ ap (λ (j : ℕ). place# S (free j)) (sym o ∙ i))))) a
+      go : (v : Place) → place# S v ≡ l → All (λ k. OwnPort v k) (getD (L .lists) l [])
+          → All (λ k. bit (eqb (owner (k .node)) p && isFree v) ≡ 0) (getD (L .lists) l [])
+      go (free r) e a =
+          All-map (getD (L .lists) l [])
+          (λ k o. rw (eqb-not (owner (k .node)) p (λ i. n (sym e ∙ ap (λ (j : ℕ). place# S (free j)) (sym o ∙ i)))))
+          a
       go (ingress r) e a = All-of (getD (L .lists) l []) (λ k. none (eqb (owner (k .node)) p))
       go (egress r t) e a = All-of (getD (L .lists) l []) (λ k. none (eqb (owner (k .node)) p))
       go (prefetched r t) e a = All-of (getD (L .lists) l []) (λ k. none (eqb (owner (k .node)) p))

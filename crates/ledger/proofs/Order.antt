@@ -194,9 +194,9 @@ module _ {X : Type 0} (call : X → Call → Reply × X) (shows : X → Desk) (l
   in-line u hu x L e s (act a ∷ cs) f =
       let r : Reply = call x (act a) .0 in
       let N : Ledger = step S L a .1 in
+      let same : step S L a .0 ≡ r = sym (act-answer call shows long faithful S x L e a) in
       let one : Line (idsAt S L u) (cameBy u (movement a r)) (leftBy u (movement a r)) (idsAt S N u) =
-      subst (λ (t : Reply). Line (idsAt S L u) (cameBy u (movement a t)) (leftBy u (movement a t)) (idsAt S N u)) (sym (act-answer call shows long faithful S x L e a))
-      (act-moved S ok L s a u hu) in
+      subst (λ (t : Reply). Line (idsAt S L u) (cameBy u (movement a t)) (leftBy u (movement a t)) (idsAt S N u)) same (act-moved S ok L s a u hu) in
       line-then (idsAt S L u) (idsAt S N u) (idsAt S (run S N (actsIn cs)) u) (cameBy u (movement a r)) (cameTo u cs (answersOf call (call x (act a) .1) cs))
       (leftBy u (movement a r)) (leftFrom u cs (answersOf call (call x (act a) .1) cs))
       one
@@ -205,11 +205,13 @@ module _ {X : Type 0} (call : X → Call → Reply × X) (shows : X → Desk) (l
   -- every list keeps its order
   pub keeps-order : (u : Place) → Place·In S u → (x : X) (L : Ledger) → shows x ≡ has S L → Orderly S L → (cs : List Call) → SetupsRefused call x cs
       → KeepsOrder call shows S L u x cs
-  keeps-order u hu x L e s cs f = record {
-    ledger = run S L (actsIn cs);
-    shown = calls-show call shows long faithful S x L e cs f;
-    in-order = line-means (idsAt S L u) (idsAt S (run S L (actsIn cs)) u) (cameTo u cs (answersOf call x cs)) (leftFrom u cs (answersOf call x cs)) (in-line u hu x L e s cs f);
-  }
+  keeps-order u hu x L e s cs f =
+      let rs : List Reply = answersOf call x cs in
+      record {
+        ledger = run S L (actsIn cs);
+        shown = calls-show call shows long faithful S x L e cs f;
+        in-order = line-means (idsAt S L u) (idsAt S (run S L (actsIn cs)) u) (cameTo u cs rs) (leftFrom u cs rs) (in-line u hu x L e s cs f);
+      }
 
 pub desk-keeps-order : (n : ℕ) (S : Settings) → Roomy S → (L : Ledger) → Orderly S L → (u : Place) → Place·In S u
     → (cs : List Call) → SetupsRefused (desk n) (has S L) cs → KeepsOrder (desk n) (λ D. D) S L u (has S L) cs

@@ -1,181 +1,260 @@
 -- Demand 2: what is recorded of a packet goes along with it, from its arrival to its turn, over any calls in which every setup is refused.
 -- Assumes nothing.
 use mathlib.Core.Path.{_≡_, refl, sym, ap, _∙_, subst}
-use mathlib.Core.Logic.{inl, inr}
+use mathlib.Core.Logic.{_≢_, inl, inr}
 use mathlib.Core.Bool.{Bool, true, false, cond}
-use mathlib.Core.List.{List, [], _∷_, _++_}
-use Prim.Native.Nat.{ℕ, zero, suc, _+_, _<_, zero-le, suc-le-suc}
+use mathlib.Core.List.{List, [], _∷_, _++_, append-nil, append-assoc}
+use Prim.Native.Nat.{ℕ, zero, suc, _+_, _≤_, _<_, zero-le, suc-le-suc}
 use native.Mathlib.Nat.{add-zero, zero-add, not-suc-le-zero, le-of-suc-le-suc}
+use native.Mathlib.Decide.{decLe}
 use native.Mathlib.Omega.{arith}
 use lib.ListN.{length, getD}
 use lib.Dec.{eqb}
 use Rattle.ledger.specs.Settings.{Settings}
 use Rattle.ledger.specs.Rules.{Clear}
-use Rattle.ledger.specs.Ledger.{owner, Packet, bare, Place, free, ingress, egress, prefetched, place#, placeOf, Ledger, listAt, lastOf, mapOf, pop, move, putArrival, putOutward, putLast, putMap}
-use Rattle.ledger.specs.Ready.{readyWord, pick}
-use Rattle.ledger.specs.Calls.{Act, arrive, stitch, prefetch, credit, mapTo, turn, ready, whereIs, Reply, refused, idle, isEmpty, firstOf, arriving, arrived, served, serve, rules, result, step, run}
-use Rattle.ledger.specs.Desk.{Desk, has, Call, setup, act, desk, answersOf, SetupsRefused}
-use Rattle.ledger.specs.Sound.{All, Everywhere, Orderly, Roomy}
-use Rattle.ledger.specs.Order.{isFree, gathered, heldFrom, held, broughtBy, broughtIn, sentOut, Among, GoesAlong}
-use Rattle.ledger.proofs.Tests.{true≢false, leb-no}
-use Rattle.ledger.proofs.Lists.{length-pop, All-map, All-append, All-front, everywhere-pop, everywhere-push}
-use Rattle.ledger.proofs.Places.{Place·In, place-number}
+use Rattle.ledger.specs.Ledger.{owner, isNode, Packet, bare, recorded, Place, free, ingress, egress, prefetched, place#, placeOf, Ledger, listAt}
+use Rattle.ledger.specs.Ledger.{lastOf, mapOf, pop, move, putArrival, putOutward, putLast, putMap}
+use Rattle.ledger.specs.Ready.{bit, readyWord, pick}
+use Rattle.ledger.specs.Calls.{Act, arrive, stitch, prefetch, credit, mapTo, turn, ready, whereIs, Side, Reply, refused, idle, leaves}
+use Rattle.ledger.specs.Calls.{isEmpty, firstOf, arriving, arrived, served, serve, rules, result, step, run}
+use Rattle.ledger.specs.Desk.{Desk, has, Call, setup, act, desk, afterCalls, answersOf, SetupsRefused}
+use Rattle.ledger.specs.Sound.{All, Everywhere, sum, weigh, one, Orderly, Roomy}
+use Rattle.ledger.specs.Order.{isFree, gathered, heldFrom, held, broughtBy, broughtIn, Latest, GoesAlong}
+use Rattle.ledger.proofs.Tests.{true≢false, leb-is, leb-no, leb-not, eqb-is}
+use Rattle.ledger.proofs.Lists.{sum-append, weigh-pop, length-pop, nowhere, All-map, All-of, All-append, All-front, everywhere-both, everywhere-pop, everywhere-push}
+use Rattle.ledger.proofs.Places.{Place·In, place-number, bit-le}
 use Rattle.ledger.proofs.Keep.{some-queue, len, first-fits, first-node}
 use Rattle.ledger.proofs.Passes.{admits}
-use Rattle.ledger.proofs.Steps.{guarded, picked-some, keep-step}
+use Rattle.ledger.proofs.Steps.{guarded, picked-some, keep-step, keep-run}
 use Rattle.ledger.proofs.Courses.{actsIn, Faithful, act-answer, act-shows, refused-shows, calls-show, desk-faithful}
-
--- ---- among the packets of a list
-
-among-left : (k : Packet) (xs ys : List Packet) → Among k xs → Among k (xs ++ ys)
-among-left k [] ys a = absurd a
-among-left k (x ∷ xs) ys (inl e) = inl e
-among-left k (x ∷ xs) ys (inr a) = inr (among-left k xs ys a)
-
-among-right : (k : Packet) (xs ys : List Packet) → Among k ys → Among k (xs ++ ys)
-among-right k [] ys a = a
-among-right k (x ∷ xs) ys a = inr (among-right k xs ys a)
-
-all-among : (xs : List Packet) → All (λ k. Among k xs) xs
-all-among [] = tt
-all-among (x ∷ xs) = (inl refl, All-map xs (λ k a. inr a) (all-among xs))
-
-module _ (S : Settings) where
-  -- a fact about every packet of the lists, the first of which has number l, where the list isn't a free list
-  abbrev Busy : (Packet → Type 0) → ℕ → List (List Packet) → Type 0
-  Busy P l ls = (i : ℕ) → i < length ls → All (λ k. isFree (placeOf S (l + i)) ≡ false → P k) (getD ls i [])
-
-  later : (P : Packet → Type 0) (l : ℕ) (ks : List Packet) (ls : List (List Packet)) → Busy P l (ks ∷ ls) → Busy P (suc l) ls
-  later P l ks ls f i h =
-      let e : l + suc i ≡ suc l + i = omega arith in
-      subst (λ (n : ℕ). All (λ k. isFree (placeOf S n) ≡ false → P k) (getD ls i [])) e (f (suc i) (suc-le-suc h))
-
-  held-all : (P : Packet → Type 0) (l : ℕ) (ls : List (List Packet)) → Busy P l ls → All P (heldFrom S l ls)
-  held-all P l [] f = tt
-  held-all P l (ks ∷ ls) f =
-      let here : All (λ k. isFree (placeOf S l) ≡ false → P k) ks = rw (add-zero l) at (f 0 (suc-le-suc zero-le)) in
-      All-append P (cond (isFree (placeOf S l)) [] ks) (heldFrom S (suc l) ls) (go (isFree (placeOf S l)) here) (held-all P (suc l) ls (later P l ks ls f))
-    where
-      go : (b : Bool) → All (λ k. b ≡ false → P k) ks → All P (cond b [] ks)
-      go true a = tt
-      go false a = All-map ks (λ k g. g refl) a
-
-  all-held : (l : ℕ) (ls : List (List Packet)) → Busy (λ k. Among k (heldFrom S l ls)) l ls
-  all-held l [] i h = absurd (not-suc-le-zero h)
-  all-held l (ks ∷ ls) zero h = rw (add-zero l) (go (isFree (placeOf S l)))
-    where
-      go : (b : Bool) → All (λ k. b ≡ false → Among k (cond b [] ks ++ heldFrom S (suc l) ls)) ks
-      go true = All-map ks (λ k a e. absurd (true≢false e)) (all-among ks)
-      go false = All-map ks (λ k a e. among-left k ks (heldFrom S (suc l) ls) a) (all-among ks)
-  all-held l (ks ∷ ls) (suc i) h =
-      let e : suc l + i ≡ l + suc i = omega arith in
-      subst (λ (n : ℕ). All (λ k. isFree (placeOf S n) ≡ false → Among k (heldFrom S l (ks ∷ ls))) (getD ls i [])) e
-      (All-map (getD ls i []) (λ k a b. among-right k (cond (isFree (placeOf S l)) [] ks) (heldFrom S (suc l) ls) (a b)) (all-held (suc l) ls i (le-of-suc-le-suc h)))
-
--- ---- one act: what it holds of every packet that is held, and of one that is brought in, holds of every packet that is held after it
-
-module _ (S : Settings) (ok : Roomy S) (P : Packet → Type 0) where
-  abbrev Holds : Ledger → Type 0
-  Holds L = Everywhere (λ l k. isFree (placeOf S l) ≡ false → P k) (L .lists)
-
-  module _ (L : Ledger) (s : Orderly S L) (e : Holds L) where
-    first : (v : Place) → Place·In S v → isEmpty (listAt S L v) ≡ false → isFree v ≡ false → P (firstOf S L v)
-    first v hv some busy =
-        All-front (λ k. isFree (placeOf S (place# S v)) ≡ false → P k) (listAt S L v) some (e .holds (place# S v) (len S ok L s v hv))
-        (ap isFree (place-number S v hv) ∙ busy)
-
-    moved : (v w : Place) → Place·In S v → Place·In S w → (k : Packet) → (isFree w ≡ false → P k) → Holds (move S v w k L)
-    unfolding move
-    moved v w hv hw k good =
-        everywhere-push (place# S w) k (pop (place# S v) (L .lists)) (omega (arith, length-pop (place# S v) (L .lists), len S ok L s w hw))
-        (everywhere-pop (place# S v) (L .lists) (len S ok L s v hv) e) (λ b. good (ap isFree (sym (place-number S w hw)) ∙ b))
-
-    record Goes (a : Act) (out : Reply × Ledger) : Type 0 where
-      still : Holds (out .1)
-      sent : All P (sentOut (act a) (out .0))
-
-    served-goes : (p q : ℕ) → p < S .ports → q < S .queues → isEmpty (listAt S L (prefetched p q)) ≡ false → Goes (turn p) (serve S L p q)
-    unfolding served putLast putOutward putArrival
-    served-goes p q hp hq some =
-        let k : Packet = firstOf S L (prefetched p q) in
-        record {
-          still = moved (prefetched p q) (free (owner (k .node))) (hp, hq) (first-node S ok L s (prefetched p q) (hp, hq) some .home, some-queue S ok L s)
-              (bare (k .node)) (λ b. absurd (true≢false b));
-          sent = (first (prefetched p q) (hp, hq) some refl, tt);
-        }
-
-    result-goes : (a : Act) → Clear (rules S L a) → All P (broughtBy S a (result S L a .0)) → Goes a (result S L a)
-    result-goes (arrive p h) c b =
-        let a = admits S L p h c in
-        let v-in : Place·In S (free p) = (a .port, some-queue S ok L s) in
-        record { still = unfold arrived putArrival in moved (free p) (ingress p) v-in v-in (arriving S L p h) (λ z. b .0); sent = tt }
-    result-goes (stitch p) c b =
-        let v-in : Place·In S (ingress p) = (leb-no (S .ports) p (c .0), some-queue S ok L s) in
-        let k : Packet = firstOf S L (ingress p) in
-        let f = first-fits S ok L s (ingress p) v-in (c .1 .0) in
-        record {
-          still = moved (ingress p) (egress (mapOf L (k .dest)) (k .queue)) v-in (s .ranges .map-in (k .dest) (f .2 .dest-in), f .2 .queue-in) k
-              (λ z. first (ingress p) v-in (c .1 .0) refl);
-          sent = tt;
-        }
-    result-goes (prefetch p q) c b =
-        let v-in : Place·In S (egress p q) = (leb-no (S .ports) p (c .0), leb-no (S .queues) q (c .1 .0)) in
-        record {
-          still = moved (egress p q) (prefetched p q) v-in v-in (firstOf S L (egress p q)) (λ z. first (egress p q) v-in (c .1 .1 .0) refl);
-          sent = tt;
-        }
-    result-goes (credit p q n) c b = record { still = unfold putOutward in e; sent = tt }
-    result-goes (mapTo d p) c b = record { still = unfold putMap in e; sent = tt }
-    result-goes (turn p) c b = go (eqb (readyWord S L p) 0) (picked-some S ok L s p (leb-no (S .ports) p (c .0)))
-      where
-        t : ℕ
-        t = pick (lastOf L p) (readyWord S L p)
-
-        go : (z : Bool) → (z ≡ false → (t < S .queues) × (isEmpty (listAt S L (prefetched p t)) ≡ false)) → Goes (turn p) (cond z (idle, L) (serve S L p t))
-        go true f = record { still = e; sent = tt }
-        go false f = served-goes p t (leb-no (S .ports) p (c .0)) (f refl .0) (f refl .1)
-    result-goes (ready p) c b = record { still = e; sent = tt }
-    result-goes (whereIs y) c b = record { still = e; sent = tt }
-
-    act-goes : (a : Act) → All P (broughtBy S a (step S L a .0)) → Goes a (step S L a)
-    act-goes a =
-        guarded (λ out. All P (broughtBy S a (out .0)) → Goes a out) (rules S L a) (λ n. (refused n, L)) (result S L a)
-        (λ n b. record { still = e; sent = tt }) (result-goes a)
-
--- ---- any calls
 
 All-split : (P : Packet → Type 0) (xs ys : List Packet) → All P (xs ++ ys) → All P xs × All P ys
 All-split P [] ys a = (tt, a)
 All-split P (x ∷ xs) ys a = let r = All-split P xs ys (a .1) in ((a .0, r .0), r .1)
 
+-- ---- the latest of its node
+
+latest-more : (k : Packet) (xs ys : List Packet) → All (λ i. i .node ≢ k .node) ys → Latest k xs → Latest k (xs ++ ys)
+latest-more k [] ys n a = absurd a
+latest-more k (x ∷ xs) ys n (inl a) = inl (a .0, All-append (λ i. i .node ≢ k .node) xs ys (a .1) n)
+latest-more k (x ∷ xs) ys n (inr a) = inr (latest-more k xs ys n a)
+
+latest-last : (k : Packet) (xs : List Packet) → Latest k (xs ++ (k ∷ []))
+latest-last k [] = inl (refl, tt)
+latest-last k (x ∷ xs) = inr (latest-last k xs)
+
+none-of : (y : ℕ) (xs : List Packet) → sum (one y 0) xs ≡ 0 → All (λ i. i .node ≢ y) xs
+none-of y [] h = tt
+none-of y (x ∷ xs) h = ((λ e. let o = ap bit (eqb-is (x .node) y e) in omega arith), none-of y xs (omega arith))
+
+-- where no node is counted twice, each packet is the latest of its node
+all-latest : (xs : List Packet) → ((y : ℕ) → sum (one y 0) xs ≤ 1) → All (λ k. Latest k xs) xs
+all-latest [] f = tt
+all-latest (x ∷ xs) f =
+    let here = ap bit (eqb-is (x .node) (x .node) refl) in (
+      inl (refl, none-of (x .node) xs (omega (arith, f (x .node)))),
+      All-map xs (λ k a. inr a) (all-latest xs (λ y. omega (arith, f y))),
+    )
+
+-- ---- what is held, list by list
+
+module _ (S : Settings) where
+  held-once : (y l : ℕ) (ls : List (List Packet)) → sum (one y 0) (heldFrom S l ls) ≤ weigh (one y) ls
+  held-once y l [] = zero-le
+  held-once y l (ks ∷ ls) = go (isFree (placeOf S l)) (held-once y (suc l) ls)
+    where
+      go : (b : Bool) → sum (one y 0) (heldFrom S (suc l) ls) ≤ weigh (one y) ls
+          → sum (one y 0) (cond b [] ks ++ heldFrom S (suc l) ls) ≤ weigh (one y) (ks ∷ ls)
+      go true h = omega arith
+      go false h = omega (arith, sum-append (one y 0) ks (heldFrom S (suc l) ls))
+
+  -- a fact about every packet of the lists, the first of which has number l, where the list isn't a free list
+  abbrev Busy : (Packet → Type 0) → ℕ → List (List Packet) → Type 0
+  Busy P l ls = (i : ℕ) → i < length ls → All (λ k. isFree (placeOf S (l + i)) ≡ false → P k) (getD ls i [])
+
+  held-all : (P : Packet → Type 0) (l : ℕ) (ls : List (List Packet)) → Busy P l ls → All P (heldFrom S l ls)
+  held-all P l [] f = tt
+  held-all P l (ks ∷ ls) f =
+      let here : All (λ k. isFree (placeOf S l) ≡ false → P k) ks = rw (add-zero l) at (f 0 (suc-le-suc zero-le)) in
+      All-append P (cond (isFree (placeOf S l)) [] ks) (heldFrom S (suc l) ls) (go (isFree (placeOf S l)) here) (held-all P (suc l) ls later)
+    where
+      later : Busy P (suc l) ls
+      later i h =
+          let e : l + suc i ≡ suc l + i = omega arith in
+          subst (λ (n : ℕ). All (λ k. isFree (placeOf S n) ≡ false → P k) (getD ls i [])) e (f (suc i) (suc-le-suc h))
+
+      go : (b : Bool) → All (λ k. b ≡ false → P k) ks → All P (cond b [] ks)
+      go true a = tt
+      go false a = All-map ks (λ k g. g refl) a
+
+  all-held : (P : Packet → Type 0) (l : ℕ) (ls : List (List Packet)) → All P (heldFrom S l ls) → Busy P l ls
+  all-held P l [] a i h = absurd (not-suc-le-zero h)
+  all-held P l (ks ∷ ls) a zero h =
+      rw (add-zero l) (go (isFree (placeOf S l)) (All-split P (cond (isFree (placeOf S l)) [] ks) (heldFrom S (suc l) ls) a .0))
+    where
+      go : (b : Bool) → All P (cond b [] ks) → All (λ k. b ≡ false → P k) ks
+      go true c = All-of ks (λ k e. absurd (true≢false e))
+      go false c = All-map ks (λ k p e. p) c
+  all-held P l (ks ∷ ls) a (suc i) h =
+      let e : suc l + i ≡ l + suc i = omega arith in
+      subst (λ (n : ℕ). All (λ k. isFree (placeOf S n) ≡ false → P k) (getD ls i [])) e
+      (all-held P (suc l) ls (All-split P (cond (isFree (placeOf S l)) [] ks) (heldFrom S (suc l) ls) a .1) i (le-of-suc-le-suc h))
+
+-- ---- one act: where every packet that is held is the latest of its node in a list, it is so after the act, in that list and what was brought in
+
+module _ (S : Settings) (ok : Roomy S) where
+  abbrev Holds : List Packet → Ledger → Type 0
+  Holds known L = Everywhere (λ l k. isFree (placeOf S l) ≡ false → Latest k known) (L .lists)
+
+  module _ (known : List Packet) (L : Ledger) (s : Orderly S L) (e : Holds known L) where
+    pub first-latest : (v : Place) → Place·In S v → isEmpty (listAt S L v) ≡ false → isFree v ≡ false → Latest (firstOf S L v) known
+    first-latest v hv some busy =
+        All-front (λ k. isFree (placeOf S (place# S v)) ≡ false → Latest k known) (listAt S L v) some (e .holds (place# S v) (len S ok L s v hv))
+        (ap isFree (place-number S v hv) ∙ busy)
+
+    module _ (v w : Place) (hv : Place·In S v) (hw : Place·In S w) (k : Packet) where
+      abbrev taken : List (List Packet)
+      taken = pop (place# S v) (L .lists)
+
+      put-on : (more : List Packet) → Everywhere (λ l j. isFree (placeOf S l) ≡ false → Latest j more) taken → (isFree w ≡ false → Latest k more)
+          → Holds more (move S v w k L)
+      unfolding move
+      put-on more f good =
+          everywhere-push (place# S w) k taken (omega (arith, length-pop (place# S v) (L .lists), len S ok L s w hw)) f
+          (λ b. good (ap isFree (sym (place-number S w hw)) ∙ b))
+
+      -- a packet goes on
+      moved : (isFree w ≡ false → Latest k known) → Holds known (move S v w k L)
+      moved good = put-on known (everywhere-pop (place# S v) (L .lists) (len S ok L s v hv) e) good
+
+      -- a packet comes in, for a node that stands nowhere else
+      brought : isEmpty (listAt S L v) ≡ false → k .node ≡ firstOf S L v .node → Holds (known ++ (k ∷ [])) (move S v w k L)
+      brought some same =
+          let gone : weigh (one (k .node)) taken ≡ 0 =
+          omega (
+            arith,
+            weigh-pop (one (k .node)) (place# S v) (L .lists) (len S ok L s v hv) some,
+            ap bit (eqb-is (firstOf S L v .node) (k .node) (sym same)),
+            s .once (k .node),
+            bit-le (isNode S (k .node)),
+          ) in
+          put-on (known ++ (k ∷ []))
+          (everywhere-both taken (λ l j n g b. latest-more j known (k ∷ []) ((λ i. n (sym i)), tt) (g b)) (nowhere (k .node) taken gone)
+          (everywhere-pop (place# S v) (L .lists) (len S ok L s v hv) e))
+          (λ b. latest-last k known)
+
+    -- the same with nothing brought in
+    nothing-in : (N : Ledger) → Holds known N → Holds (known ++ []) N
+    nothing-in N h = rw (append-nil known) h
+
+    served-holds : (p q : ℕ) → p < S .ports → q < S .queues → isEmpty (listAt S L (prefetched p q)) ≡ false → Holds known (serve S L p q .1)
+    unfolding served putLast putOutward putArrival
+    served-holds p q hp hq some =
+        let k : Packet = firstOf S L (prefetched p q) in
+        moved (prefetched p q) (free (owner (k .node))) (hp, hq) (first-node S ok L s (prefetched p q) (hp, hq) some .home, some-queue S ok L s)
+        (bare (k .node)) (λ b. absurd (true≢false b))
+
+    result-holds : (a : Act) → Clear (rules S L a) → Holds (known ++ broughtBy S a (result S L a .0)) (result S L a .1)
+    result-holds (arrive p h) c =
+        let a = admits S L p h c in
+        let v-in : Place·In S (free p) = (a .port, some-queue S ok L s) in
+        unfold arrived putArrival in brought (free p) (ingress p) v-in v-in (arriving S L p h) (a .some) (unfold recorded in refl)
+    result-holds (stitch p) c =
+        let v-in : Place·In S (ingress p) = (leb-no (S .ports) p (c .0), some-queue S ok L s) in
+        let k : Packet = firstOf S L (ingress p) in
+        let f = first-fits S ok L s (ingress p) v-in (c .1 .0) in
+        nothing-in (result S L (stitch p) .1)
+        (moved (ingress p) (egress (mapOf L (k .dest)) (k .queue)) v-in (s .ranges .map-in (k .dest) (f .2 .dest-in), f .2 .queue-in) k
+        (λ z. first-latest (ingress p) v-in (c .1 .0) refl))
+    result-holds (prefetch p q) c =
+        let v-in : Place·In S (egress p q) = (leb-no (S .ports) p (c .0), leb-no (S .queues) q (c .1 .0)) in
+        nothing-in (result S L (prefetch p q) .1)
+        (moved (egress p q) (prefetched p q) v-in v-in (firstOf S L (egress p q)) (λ z. first-latest (egress p q) v-in (c .1 .1 .0) refl))
+    result-holds (credit p q n) c = nothing-in (result S L (credit p q n) .1) (unfold putOutward in e)
+    result-holds (mapTo d p) c = nothing-in (result S L (mapTo d p) .1) (unfold putMap in e)
+    result-holds (turn p) c = go (eqb (readyWord S L p) 0) (picked-some S ok L s p (leb-no (S .ports) p (c .0)))
+      where
+        t : ℕ
+        t = pick (lastOf L p) (readyWord S L p)
+
+        go : (z : Bool) → (z ≡ false → (t < S .queues) × (isEmpty (listAt S L (prefetched p t)) ≡ false))
+            → Holds (known ++ []) (cond z (idle, L) (serve S L p t) .1)
+        go true f = nothing-in L e
+        go false f = nothing-in (serve S L p t .1) (served-holds p t (leb-no (S .ports) p (c .0)) (f refl .0) (f refl .1))
+    result-holds (ready p) c = nothing-in L e
+    result-holds (whereIs y) c = nothing-in L e
+
+    -- a refusal brings nothing in
+    refused-holds : (a : Act) (n : ℕ) → Holds (known ++ broughtBy S a (refused n)) L
+    refused-holds (arrive p h) n = nothing-in L e
+    refused-holds (stitch p) n = nothing-in L e
+    refused-holds (prefetch p q) n = nothing-in L e
+    refused-holds (credit p q m) n = nothing-in L e
+    refused-holds (mapTo d p) n = nothing-in L e
+    refused-holds (turn p) n = nothing-in L e
+    refused-holds (ready p) n = nothing-in L e
+    refused-holds (whereIs y) n = nothing-in L e
+
+    pub act-holds : (a : Act) → Holds (known ++ broughtBy S a (step S L a .0)) (step S L a .1)
+    act-holds a =
+        guarded (λ out. Holds (known ++ broughtBy S a (out .0)) (out .1)) (rules S L a) (λ n. (refused n, L)) (result S L a)
+        (refused-holds a) (result-holds a)
+
+    -- what a turn sends is the oldest of some slots, so the latest of its node
+    turn-sends : (p : ℕ) (k : Packet) (t : Side) → step S L (turn p) .0 ≡ leaves k t → Latest k known
+    turn-sends p k t = go (decLe (suc p) (S .ports))
+      where
+        q : ℕ
+        q = pick (lastOf L p) (readyWord S L p)
+
+        sent : (z : Bool) → (z ≡ false → (q < S .queues) × (isEmpty (listAt S L (prefetched p q)) ≡ false)) → p < S .ports
+            → cond z (idle, L) (serve S L p q) .0 ≡ leaves k t → Latest k known
+        sent true f hp i = absurd (let o : _≡_ {A = ℕ} 0 1 = cc in omega arith)
+        sent false f hp i =
+            let same : firstOf S L (prefetched p q) ≡ k = cc in
+            subst (λ (j : Packet). Latest j known) same (first-latest (prefetched p q) (hp, f refl .0) (f refl .1) refl)
+
+        go : Dec (p < S .ports) → step S L (turn p) .0 ≡ leaves k t → Latest k known
+        go (yes hp) = rw (leb-not (S .ports) p hp) (sent (eqb (readyWord S L p) 0) (picked-some S ok L s p hp) hp)
+        go (no n) = rw (leb-is (S .ports) p (omega arith)) (λ i. absurd (let o : _≡_ {A = ℕ} 0 1 = cc in omega arith))
+
+-- ---- any calls
+
 module _ {X : Type 0} (call : X → Call → Reply × X) (shows : X → Desk) (long : X → ℕ) (faithful : Faithful call shows long) (S : Settings) (ok : Roomy S) where
-  module _ (P : Packet → Type 0) where
-    along : (x : X) (L : Ledger) → shows x ≡ has S L → Orderly S L → Holds S ok P L → (cs : List Call) → SetupsRefused call x cs
-        → All P (gathered (broughtIn S) cs (answersOf call x cs)) → All P (gathered sentOut cs (answersOf call x cs)) × Holds S ok P (run S L (actsIn cs))
-    unfolding actsIn
-    along x L e s h [] f b = (tt, h)
-    along x L e s h (setup N t d c ∷ cs) f b =
-        along (call x (setup N t d c) .1) L (refused-shows call shows long faithful S x (setup N t d c) (f .0 refl) ∙ e) s h cs (f .1) b
-    along x L e s h (act a ∷ cs) f b =
-        let r : Reply = call x (act a) .0 in
-        let same : step S L a .0 ≡ r = sym (act-answer call shows long faithful S x L e a) in
-        let rest : List Reply = answersOf call (call x (act a) .1) cs in
-        let both = All-split P (broughtBy S a r) (gathered (broughtIn S) cs rest) b in
-        let g = act-goes S ok P L s h a (subst (λ (t : Reply). All P (broughtBy S a t)) (sym same) (both .0)) in
-        let o = along (call x (act a) .1) (step S L a .1) (act-shows call shows long faithful S x L e a) (keep-step S ok L s a) (g .still) cs (f .1) (both .1) in
-        (All-append P (sentOut (act a) r) (gathered sentOut cs rest) (subst (λ (t : Reply). All P (sentOut (act a) t)) same (g .sent)) (o .0), o .1)
+  still-latest : (known : List Packet) (x : X) (L : Ledger) → shows x ≡ has S L → Orderly S L → Holds S ok known L → (cs : List Call) → SetupsRefused call x cs
+      → Holds S ok (known ++ gathered (broughtIn S) cs (answersOf call x cs)) (run S L (actsIn cs))
+  unfolding actsIn
+  still-latest known x L e s h [] f = rw (append-nil known) h
+  still-latest known x L e s h (setup N t d c ∷ cs) f =
+      still-latest known (call x (setup N t d c) .1) L (refused-shows call shows long faithful S x (setup N t d c) (f .0 refl) ∙ e) s h cs (f .1)
+  still-latest known x L e s h (act a ∷ cs) f =
+      let r : Reply = call x (act a) .0 in
+      let N : Ledger = step S L a .1 in
+      let same : step S L a .0 ≡ r = sym (act-answer call shows long faithful S x L e a) in
+      let here : Holds S ok (known ++ broughtBy S a r) N =
+      subst (λ (t : Reply). Holds S ok (known ++ broughtBy S a t) N) same (act-holds S ok known L s h a) in
+      let next = act-shows call shows long faithful S x L e a in
+      rw (← append-assoc known (broughtBy S a r) (gathered (broughtIn S) cs (answersOf call (call x (act a) .1) cs)))
+      (still-latest (known ++ broughtBy S a r) (call x (act a) .1) N next (keep-step S ok L s a) here cs (f .1))
 
   pub goes-along : (x : X) (L : Ledger) → shows x ≡ has S L → Orderly S L → (cs : List Call) → SetupsRefused call x cs → GoesAlong call shows S L x cs
   goes-along x L e s cs f =
-      let came : List Packet = gathered (broughtIn S) cs (answersOf call x cs) in
-      let o = along (λ k. Among k (held S L ++ came)) x L e s
-      (record { holds = λ l h. All-map (getD (L .lists) l []) (λ k g b. among-left k (held S L) came (g b)) (rw (zero-add l) at (all-held S 0 (L .lists) l h)) })
-      cs f (All-map came (λ k a. among-right k (held S L) came a) (all-among came)) in
+      let known : List Packet = held S L ++ gathered (broughtIn S) cs (answersOf call x cs) in
+      let N : Ledger = run S L (actsIn cs) in
+      let once : All (λ k. Latest k (held S L)) (held S L) =
+      all-latest (held S L) (λ y. omega (arith, held-once S y 0 (L .lists), s .once y, bit-le (isNode S y))) in
+      let before : Holds S ok (held S L) L = record {
+        holds = λ l h. rw (zero-add l) at (all-held S (λ k. Latest k (held S L)) 0 (L .lists) once l h);
+      } in
+      let later : Holds S ok known N = still-latest (held S L) x L e s before cs f in
+      let shown = calls-show call shows long faithful S x L e cs f in
       record {
-        ledger = run S L (actsIn cs);
-        shown = calls-show call shows long faithful S x L e cs f;
-        sent = o .0;
-        holds = held-all S (λ k. Among k (held S L ++ came)) 0 (run S L (actsIn cs) .lists) (λ i h. rw (zero-add i) (o .1 .holds i h));
+        ledger = N;
+        shown = shown;
+        holds = held-all S (λ k. Latest k known) 0 (N .lists) (λ i h. rw (zero-add i) (later .holds i h));
+        sends = λ p k t i.
+            turn-sends S ok known N (keep-run S ok L s (actsIn cs)) later p k t
+            (sym (act-answer call shows long faithful S (afterCalls call x cs) N shown (turn p)) ∙ i);
       }
 
 pub desk-goes-along : (n : ℕ) (S : Settings) → Roomy S → (L : Ledger) → Orderly S L → (cs : List Call) → SetupsRefused (desk n) (has S L) cs

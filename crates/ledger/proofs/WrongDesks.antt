@@ -68,9 +68,9 @@ order-turned-round n k =
 
 -- ---- what is recorded goes along: a desk that sends a packet which never came
 
-pub sent-from-nowhere : (k : Packet) → GoesAlong (λ D c. (leaves k outside, D)) (λ D. D) two (start two) (has two (start two)) (act (turn 0) ∷ []) → ⊥
+pub sent-from-nowhere : (k : Packet) → GoesAlong (λ D c. (leaves k outside, D)) (λ D. D) two (start two) (has two (start two)) [] → ⊥
 unfolding start row placeOf
-sent-from-nowhere k g = g .sent .0
+sent-from-nowhere k g = g .sends 0 k outside refl
 
 -- ---- pools: a desk that answers right, and whose refusals cost port 0 a node
 

@@ -79,7 +79,8 @@ pub record ShowsWaiting {X : Type 0} (shows : X → Desk) (S : Settings) (p q : 
 
 -- among the calls there is a turn of port p, before which it had fewer than n turns, at which packet k leaves by queue q;
 -- and at every moment up to then x shows k in its prefetch list
-pub record LeavesAmong {X : Type 0} (call : X → Call → Reply × X) (shows : X → Desk) (S : Settings) (p q : ℕ) (k : Packet) (n : ℕ) (x : X) (cs : List Call) : Type 0 where
+pub record LeavesAmong {X : Type 0} (call : X → Call → Reply × X) (shows : X → Desk) (S : Settings) (p q : ℕ) (k : Packet) (n : ℕ)
+    (x : X) (cs : List Call) : Type 0 where
   pub moment : ℕ
   pub among : moment < length cs
   pub soon : turnsIn p (take moment cs) < n

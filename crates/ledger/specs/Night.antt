@@ -52,9 +52,11 @@ awayFrom S L p = weigh (away S p) (L .lists)
 -- After calls in which every setup is refused, where x showed the ledger L: port p's free list is what was free and what came home, in
 -- that order, less as many of the oldest as arrivals at p took, both read off the answers; it holds p's own nodes alone; and free and not
 -- free together are N.
-pub record PoolKept {X : Type 0} (call : X → Call → Reply × X) (shows : X → Desk) (S : Settings) (L : Ledger) (p : ℕ) (x : X) (cs : List Call) : Type 0 where
+pub record PoolKept {X : Type 0} (call : X → Call → Reply × X) (shows : X → Desk) (S : Settings) (L : Ledger) (p : ℕ)
+    (x : X) (cs : List Call) : Type 0 where
   pub ledger : Ledger
   pub shown : shows (afterCalls call x cs) ≡ has S ledger
-  pub in-order : FirstInFirstOut (idsAt S L (free p)) (cameTo (free p) cs (answersOf call x cs)) (leftFrom (free p) cs (answersOf call x cs)) (idsAt S ledger (free p))
+  pub in-order : FirstInFirstOut (idsAt S L (free p)) (cameTo (free p) cs (answersOf call x cs)) (leftFrom (free p) cs (answersOf call x cs))
+      (idsAt S ledger (free p))
   pub own : All (λ y. owner y ≡ p) (idsAt S ledger (free p))
   pub whole : length (idsAt S ledger (free p)) + awayFrom S ledger p ≡ S .nodes

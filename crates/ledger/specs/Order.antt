@@ -1,7 +1,7 @@
 -- Demand 2, "queues keep order; nodes go home to their owner", as statements. What came to a list and what left it are read off the calls
 -- and their answers alone, by entry ids, as a caller can read them. Assumes nothing.
 use mathlib.Core.Path.{_≡_}
-use mathlib.Core.Logic.{_⊎_}
+use mathlib.Core.Logic.{_≢_, _⊎_}
 use mathlib.Core.Bool.{Bool, cond, _&&_}
 use mathlib.Core.List.{List, [], _∷_, _++_, map}
 use Prim.Native.Nat.{ℕ, suc}
@@ -11,7 +11,7 @@ use Rattle.numbers.specs.Bytes.{number}
 use Rattle.ledger.specs.Settings.{Settings}
 use Rattle.ledger.specs.Header.{fieldsOf}
 use Rattle.ledger.specs.Ledger.{owner, Packet, recorded, Place, free, ingress, egress, prefetched, portOf, placeOf, Ledger, listAt}
-use Rattle.ledger.specs.Calls.{Act, arrive, stitch, prefetch, credit, mapTo, turn, ready, whereIs, Reply, refused, done, entry, stitched, idle, leaves, word, found}
+use Rattle.ledger.specs.Calls.{Act, arrive, stitch, prefetch, credit, mapTo, turn, ready, whereIs, Side, Reply, refused, done, entry, stitched, idle, leaves, word, found}
 use Rattle.ledger.specs.Desk.{Desk, has, Call, setup, act, afterCalls, answersOf}
 use Rattle.ledger.specs.Sound.{All}
 
@@ -109,7 +109,8 @@ pub record FirstInFirstOut (stood came left stands : List ℕ) : Type 0 where
   pub oldest-left : left ≡ take (length left) (stood ++ came)
 
 -- after calls in which every setup is refused, on whatever takes calls and shows a desk, place u has kept its order; x showed the ledger L
-pub record KeepsOrder {X : Type 0} (call : X → Call → Reply × X) (shows : X → Desk) (S : Settings) (L : Ledger) (u : Place) (x : X) (cs : List Call) : Type 0 where
+pub record KeepsOrder {X : Type 0} (call : X → Call → Reply × X) (shows : X → Desk) (S : Settings) (L : Ledger) (u : Place)
+    (x : X) (cs : List Call) : Type 0 where
   pub ledger : Ledger
   pub shown : shows (afterCalls call x cs) ≡ has S ledger
   pub in-order : FirstInFirstOut (idsAt S L u) (cameTo u cs (answersOf call x cs)) (leftFrom u cs (answersOf call x cs)) (idsAt S ledger u)
@@ -142,19 +143,18 @@ abbrev pub broughtIn : Settings → Call → Reply → List Packet
 broughtIn S (setup N b s c) r = []
 broughtIn S (act a) r = broughtBy S a r
 
--- and the one that it sent out, as its answer names it
-abbrev pub sentOut : Call → Reply → List Packet
-sentOut (setup N b s c) r = []
-sentOut (act a) r = named [] (λ x. []) (λ b. []) (λ k. k ∷ []) r
+-- packet k is in the list, and behind it there is no other of its node
+abbrev pub Latest : Packet → List Packet → Type 0
+Latest k [] = ⊥
+Latest k (j ∷ js) = ((j ≡ k) × All (λ i. i .node ≢ k .node) js) ⊎ Latest k js
 
-abbrev pub Among : Packet → List Packet → Type 0
-Among k [] = ⊥
-Among k (j ∷ js) = (j ≡ k) ⊎ Among k js
-
--- every packet that the calls sent out, and every one that the switch holds after them, with all that is recorded of it, is one that it
--- held before or that an arrival among them brought in; x showed the ledger L
-pub record GoesAlong {X : Type 0} (call : X → Call → Reply × X) (shows : X → Desk) (S : Settings) (L : Ledger) (x : X) (cs : List Call) : Type 0 where
+-- Of what the switch held, where x showed the ledger L, and of what arrivals among the calls brought in, after it: every packet that it
+-- holds after them is the latest of its node, with all that is recorded of it; and so is one that a turn sends then. (The calls are any,
+-- so this is said of every turn among calls.)
+pub record GoesAlong {X : Type 0} (call : X → Call → Reply × X) (shows : X → Desk) (S : Settings) (L : Ledger)
+    (x : X) (cs : List Call) : Type 0 where
   pub ledger : Ledger
   pub shown : shows (afterCalls call x cs) ≡ has S ledger
-  pub sent : All (λ k. Among k (held S L ++ gathered (broughtIn S) cs (answersOf call x cs))) (gathered sentOut cs (answersOf call x cs))
-  pub holds : All (λ k. Among k (held S L ++ gathered (broughtIn S) cs (answersOf call x cs))) (held S ledger)
+  pub holds : All (λ k. Latest k (held S L ++ gathered (broughtIn S) cs (answersOf call x cs))) (held S ledger)
+  pub sends : (p : ℕ) (k : Packet) (t : Side) → call (afterCalls call x cs) (act (turn p)) .0 ≡ leaves k t
+      → Latest k (held S L ++ gathered (broughtIn S) cs (answersOf call x cs))

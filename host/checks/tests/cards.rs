@@ -279,6 +279,64 @@ fn a_turn_answers_every_recorded_field() {
     );
 }
 
+/// Packets that come in at port 1 and leave by port 2: no port, queue,
+/// position, count or field of an answer is 0 where another number is right.
+#[test]
+fn packets_that_cross_from_port_to_port() {
+    let mut switch = switch(Settings {
+        nodes: 4,
+        beat: 64,
+        slots: 2,
+        credit: 200,
+    });
+    let across = header(3, 1, 5, 100, true, false, 0x0102_0304, 9, 171);
+    let place = |switch: &Switch<Vec<u8>>, entry| {
+        let place = switch.place_of(EntryId(entry)).unwrap();
+        (place.list, place.position)
+    };
+    let ready = |switch: &Switch<Vec<u8>>, port| {
+        let ready = switch.ready(port).unwrap();
+        (ready.word, ready.count)
+    };
+    switch.map(3, 2).unwrap();
+    assert_eq!(switch.arrive(1, &across), Ok(EntryId(2048)));
+    assert_eq!(switch.arrive(1, &across), Ok(EntryId(2049)));
+    assert_eq!(place(&switch, 2049), (ListKind::Ingress { port: 1 }, 1));
+    assert_eq!(place(&switch, 2051), (ListKind::Free { port: 1 }, 1));
+    for entry in [2048, 2049] {
+        let record = ventorupo::Record {
+            entry: EntryId(entry),
+            length: 100,
+            queue: 5,
+            port: 2,
+            timestamp: 0x0102_0304,
+        };
+        assert_eq!(switch.stitch(1), Ok(record));
+    }
+    let egress = ListKind::Egress { port: 2, queue: 5 };
+    assert_eq!(place(&switch, 2049), (egress, 1));
+    assert_eq!(switch.prefetch(2, 5), Ok(EntryId(2048)));
+    assert_eq!(switch.prefetch(2, 5), Ok(EntryId(2049)));
+    let slots = ListKind::Prefetch { port: 2, queue: 5 };
+    assert_eq!(place(&switch, 2049), (slots, 1));
+    assert_eq!(ready(&switch, 2), (0, 0));
+    assert_eq!(switch.arrive(1, &plain(3, 1, 0, 12)), Ok(EntryId(2050)));
+    switch.stitch(1).unwrap();
+    assert_eq!(switch.prefetch(2, 0), Ok(EntryId(2050)));
+    switch.credit(2, 5, 3).unwrap();
+    assert_eq!(ready(&switch, 2), (1 << 5 | 1, 2));
+    assert_eq!(ready(&switch, 1), (0, 0));
+    for (entry, queue) in [(2050, 0), (2048, 5)] {
+        match switch.turn(2).unwrap() {
+            Turn::Sent(sent) => assert_eq!((sent.entry, sent.queue), (EntryId(entry), queue)),
+            Turn::Idle => panic!("idle before {entry}"),
+        }
+    }
+    assert_eq!(ready(&switch, 2), (0, 0));
+    assert_eq!(switch.turn(2), Ok(Turn::Idle));
+    assert_eq!(place(&switch, 2048), (ListKind::Free { port: 1 }, 2));
+}
+
 /// Every fault at once, then one less each time: the first that is left
 /// decides. The only node is taken, and K is 0.
 #[test]
