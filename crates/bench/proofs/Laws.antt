@@ -1,5 +1,6 @@
 -- What a call's line says and leaves; a number in decimal as io spells it; and what waits in the buffer, byte by byte; with no code.
 -- Assumes nothing.
+use mathlib.Core.Logic.{inl, inr}
 use mathlib.Core.Path.{_≡_, refl, sym, ap, _∙_}
 use mathlib.Core.Bool.{Bool, true, false, cond}
 use mathlib.Core.List.{List, [], _∷_, _++_}
@@ -167,9 +168,13 @@ pub still-front :
     → take from bytes′ ≡ take from old
 still-front from to old bytes bytes′ h front e = sym (take-take from to bytes′ h) ∙ ap (take from) e ∙ take-take from to bytes h ∙ front
 
+-- what is left is enough
+pub kept-there : (bytes : List ℕ) (from to : ℕ) → from ≤ to → Kept bytes from to bytes from to
+kept-there bytes from to h = record { place = inl (refl, refl); more = omega arith; front = refl }
+
 -- what is left is moved to the front, and read on from
 pub kept-moved :
     (bytes : List ℕ) (from to : ℕ) (between : List ℕ) {rest from′ to′ : ℕ} {bytes′ : List ℕ}
     → rest ≡ to - from → take (to - from) between ≡ unread bytes from to → from′ ≡ 0 → rest ≤ to′ → take rest bytes′ ≡ take rest between
     → Kept bytes from to bytes′ from′ to′
-kept-moved bytes from to between all front start more on = record { more = omega arith; front = rw start (rw all at on ∙ front) }
+kept-moved bytes from to between all front start more on = record { place = inr start; more = omega arith; front = rw start (rw all at on ∙ front) }

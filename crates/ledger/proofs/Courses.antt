@@ -13,10 +13,10 @@ use Rattle.ledger.specs.Ready.{bit}
 use Rattle.ledger.specs.Calls.{Act, arrive, stitch, prefetch, credit, mapTo, turn, ready, whereIs, Reply, isRefused, step, run}
 use Rattle.ledger.specs.Desk.{Desk, has, Call, setup, act, desk, afterCalls, SetupsRefused}
 use Rattle.ledger.specs.Sound.{Orderly, Roomy, Sound}
-use Rattle.ledger.specs.Demand.{isTurn, turnsOf, Stands, NobodyStarves, turnsIn, NobodyStarvesFrom, NobodyStarvesAtDesk, NobodyStarvesAtDesk24}
+use Rattle.ledger.specs.Demand.{isTurn, Stands, turnsIn, NobodyStarvesFrom, NobodyStarvesAtDesk, NobodyStarvesAtDesk24}
 use Rattle.ledger.proofs.Tests.{true≢false, leb-not, eqb-yes}
 use Rattle.ledger.proofs.Rows.{roomy, this-build}
-use Rattle.ledger.proofs.Waits.{nobody-starves}
+use Rattle.ledger.proofs.Waits.{turnsOf, NobodyStarves, nobody-starves}
 use Rattle.ledger.proofs.Promises.{result-given, refusal-keeps-desk}
 
 -- ---- the acts among calls

@@ -93,6 +93,10 @@ pub All-append : {A : Type 0} (P : A → Type 0) (xs ys : List A) → All P xs �
 All-append P [] ys a b = b
 All-append P (x ∷ xs) ys a b = (a .0, All-append P xs ys (a .1) b)
 
+pub All-split : {A : Type 0} (P : A → Type 0) (xs ys : List A) → All P (xs ++ ys) → All P xs × All P ys
+All-split P [] ys a = (tt, a)
+All-split P (x ∷ xs) ys a = let r = All-split P xs ys (a .1) in ((a .0, r .0), r .1)
+
 pub All-behind : (P : Packet → Type 0) (k : Packet) (ks : List Packet) → All P ks → P k → All P (behind k ks)
 All-behind P k ks a p = search All-append
 
@@ -167,6 +171,35 @@ weigh-none (l ∷ ls) = omega (arith, none l, weigh-none ls)
     none : (xs : List Packet) → sum (λ x. 0) xs ≡ 0
     none [] = refl
     none (x ∷ xs) = omega (arith, none xs)
+
+-- ---- sums part by part; and where only one list has a part
+
+pub sum-zeros : (f : Packet → ℕ) (xs : List Packet) → All (λ k. f k ≡ 0) xs → sum f xs ≡ 0
+sum-zeros f [] a = refl
+sum-zeros f (x ∷ xs) a = omega (arith, a .0, sum-zeros f xs (a .1))
+
+pub sum-ones : (f : Packet → ℕ) (xs : List Packet) → All (λ k. f k ≡ 1) xs → sum f xs ≡ length xs
+sum-ones f [] a = refl
+sum-ones f (x ∷ xs) a = omega (arith, a .0, sum-ones f xs (a .1))
+
+pub weigh-only : (f : ℕ → Packet → ℕ) (ls : List (List Packet)) (a : ℕ) → ((l : ℕ) → l ≢ a → l < length ls → All (λ k. f l k ≡ 0) (getD ls l []))
+    → weigh f ls ≡ sum (f a) (getD ls a [])
+weigh-only f [] a n = refl
+weigh-only f (xs ∷ ls) zero n =
+    omega (arith, weigh-cong (λ i. f (suc i)) (λ i k. 0) ls (record { holds = λ l h. n (suc l) (omega arith) (suc-le-suc h) }), weigh-none ls)
+weigh-only f (xs ∷ ls) (suc a) n =
+    let rest = weigh-only (λ i. f (suc i)) ls a (λ l d h. n (suc l) (λ e. d (omega arith)) (suc-le-suc h)) in
+    omega (arith, sum-zeros (f 0) xs (n 0 (omega arith) (suc-le-suc zero-le)), rest)
+
+pub sum-plus : (f g : Packet → ℕ) (xs : List Packet) → sum (λ k. f k + g k) xs ≡ sum f xs + sum g xs
+sum-plus f g [] = refl
+sum-plus f g (x ∷ xs) = omega (arith, sum-plus f g xs)
+
+pub weigh-plus : (f g : ℕ → Packet → ℕ) (ls : List (List Packet)) → weigh (λ l k. f l k + g l k) ls ≡ weigh f ls + weigh g ls
+weigh-plus f g [] = refl
+weigh-plus f g (xs ∷ ls) = omega (arith, sum-plus (f 0) (g 0) xs, weigh-plus (λ i. f (suc i)) (λ i. g (suc i)) ls)
+
+-- ---- how often a node is counted
 
 one-self : (x : ℕ) → bit (eqb x x) ≡ 1
 one-self x = ap bit (eqb-is x x refl)

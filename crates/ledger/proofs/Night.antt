@@ -3,7 +3,7 @@ use mathlib.Core.Path.{_≡_, refl, sym, ap, _∙_, subst}
 use mathlib.Core.Logic.{_≢_}
 use mathlib.Core.Bool.{Bool, true, false, not, _&&_}
 use mathlib.Core.List.{List, [], _∷_, map}
-use Prim.Native.Nat.{ℕ, zero, suc, _+_, _-_, _≤_, _<_, zero-le, suc-le-suc}
+use Prim.Native.Nat.{ℕ, zero, suc, _+_, _-_, _≤_, _<_, zero-le}
 use native.Mathlib.Omega.{arith}
 use native.Mathlib.Decide.{ℕ-discrete, decLe}
 use lib.ListN.{length, getD, length-map}
@@ -13,11 +13,11 @@ use Rattle.ledger.specs.Ledger.{owner, index, entryId, isNode, Packet, r
 use Rattle.ledger.specs.Ready.{bit}
 use Rattle.ledger.specs.Calls.{arrive, Reply, refused, entry, firstOf, arriving, arrived, rules, result, step, run}
 use Rattle.ledger.specs.Desk.{Desk, has, Call, act, desk, SetupsRefused}
-use Rattle.ledger.specs.Sound.{All, Everywhere, sum, weigh, one, OwnPort, Proper, owes, Orderly, Roomy}
+use Rattle.ledger.specs.Sound.{All, Everywhere, weigh, one, OwnPort, Proper, owes, Orderly, Roomy}
 use Rattle.ledger.specs.Order.{isFree}
 use Rattle.ledger.specs.Night.{TakenIn, Arrival, turned-away, taken, away, awayFrom, PoolKept}
 use Rattle.ledger.proofs.Tests.{ltb-is, ltb-not, eqb-is, eqb-not}
-use Rattle.ledger.proofs.Lists.{cons-form, weigh-cong, weigh-none, All-map, All-of, everywhere-map, at-push-other, at-pop-other}
+use Rattle.ledger.proofs.Lists.{cons-form, sum-ones, weigh-only, weigh-plus, weigh-cong, weigh-none, All-map, All-of, everywhere-map, at-push-other, at-pop-other}
 use Rattle.ledger.proofs.Places.{Place·In, place-of, place-number, row-div, row-mod, Node, node-is}
 use Rattle.ledger.proofs.Keep.{some-queue, nodes, first-fits, from-moved, to-moved, lowered}
 use Rattle.ledger.proofs.Passes.{Admits, admits}
@@ -84,33 +84,6 @@ whose-node S L p h h′ x y d e = first h x d ∙ sym (first h′ y e)
         (rules S L (arrive p g)) (λ n. (refused n, L)) (result S L (arrive p g))
         (λ n i. absurd (let o : _≡_ {A = ℕ} 0 1 = cc in omega arith))
         (λ c i. cc)
-
--- ---- sums of which only one list has a part
-
-sum-none : (f : Packet → ℕ) (xs : List Packet) → All (λ k. f k ≡ 0) xs → sum f xs ≡ 0
-sum-none f [] a = refl
-sum-none f (x ∷ xs) a = omega (arith, a .0, sum-none f xs (a .1))
-
-sum-ones : (f : Packet → ℕ) (xs : List Packet) → All (λ k. f k ≡ 1) xs → sum f xs ≡ length xs
-sum-ones f [] a = refl
-sum-ones f (x ∷ xs) a = omega (arith, a .0, sum-ones f xs (a .1))
-
-weigh-only : (f : ℕ → Packet → ℕ) (ls : List (List Packet)) (a : ℕ) → ((l : ℕ) → l ≢ a → l < length ls → All (λ k. f l k ≡ 0) (getD ls l []))
-    → weigh f ls ≡ sum (f a) (getD ls a [])
-weigh-only f [] a n = refl
-weigh-only f (xs ∷ ls) zero n =
-    omega (arith, weigh-cong (λ i. f (suc i)) (λ i k. 0) ls (record { holds = λ l h. n (suc l) (omega arith) (suc-le-suc h) }), weigh-none ls)
-weigh-only f (xs ∷ ls) (suc a) n =
-    let rest = weigh-only (λ i. f (suc i)) ls a (λ l d h. n (suc l) (λ e. d (omega arith)) (suc-le-suc h)) in
-    omega (arith, sum-none (f 0) xs (n 0 (omega arith) (suc-le-suc zero-le)), rest)
-
-sum-plus : (f g : Packet → ℕ) (xs : List Packet) → sum (λ k. f k + g k) xs ≡ sum f xs + sum g xs
-sum-plus f g [] = refl
-sum-plus f g (x ∷ xs) = omega (arith, sum-plus f g xs)
-
-weigh-plus : (f g : ℕ → Packet → ℕ) (ls : List (List Packet)) → weigh (λ l k. f l k + g l k) ls ≡ weigh f ls + weigh g ls
-weigh-plus f g [] = refl
-weigh-plus f g (xs ∷ ls) = omega (arith, sum-plus (f 0) (g 0) xs, weigh-plus (λ i. f (suc i)) (λ i. g (suc i)) ls)
 
 -- ---- free and not free together are N
 
@@ -205,7 +178,7 @@ module _ (S : Settings) (ok : Roomy S) (L : Ledger) (s : Orderly S L) (p : ℕ) 
       ∙ sum-ones (pooled (place# S (free p))) (listAt S L (free p))
       (All-map (listAt S L (free p)) (λ k o. rw (place-number S (free p) v-in, eqb-is (owner (k .node)) p o)) (home-only S ok L s p hp))
 
-  pub free-and-away : length (listAt S L (free p)) + awayFrom S L p ≡ S .nodes
+  free-and-away : length (listAt S L (free p)) + awayFrom S L p ≡ S .nodes
   free-and-away =
       omega (
         arith,

@@ -17,7 +17,7 @@ use Rattle.ledger.specs.Calls.{Act, arrive, stitch, prefetch, credit, ma
 use Rattle.ledger.specs.Desk.{Desk, has, Call, setup, act, desk, answersOf, SetupsRefused}
 use Rattle.ledger.specs.Sound.{Orderly, Roomy}
 use Rattle.ledger.specs.Order.{kindIn, queueIn, samePlace, Movement, stays, moves, movement, cameBy, leftBy, cameTo, leftFrom, idsAt, FirstInFirstOut, KeepsOrder}
-use Rattle.ledger.proofs.Tests.{true≢false, is-false, leb-no, eqb-yes, eqb-is, and-left, and-right}
+use Rattle.ledger.proofs.Tests.{true≢false, leb-no, eqb-yes, eqb-is, and-left, and-right}
 use Rattle.ledger.proofs.Lists.{cons-form}
 use Rattle.ledger.proofs.Places.{Place·In, Node}
 use Rattle.ledger.proofs.Keep.{some-queue, first-fits, first-node, from-moved, to-moved, else-moved}
@@ -40,7 +40,7 @@ by-parts (ingress p) = refl
 by-parts (egress p q) = refl
 by-parts (prefetched p q) = refl
 
-pub same-yes : (u v : Place) → samePlace u v ≡ true → u ≡ v
+same-yes : (u v : Place) → samePlace u v ≡ true → u ≡ v
 same-yes u v e =
     let k = and-left (eqb (kindIn u) (kindIn v)) (eqb (portOf u) (portOf v) && eqb (queueIn u) (queueIn v)) e in
     let r = and-right (eqb (kindIn u) (kindIn v)) (eqb (portOf u) (portOf v) && eqb (queueIn u) (queueIn v)) e in
@@ -51,11 +51,8 @@ same-yes u v e =
     let q = by-parts v in
     cc
 
-pub same-self : (u : Place) → samePlace u u ≡ true
+same-self : (u : Place) → samePlace u u ≡ true
 same-self u = rw (eqb-is (kindIn u) (kindIn u) refl, eqb-is (portOf u) (portOf u) refl, eqb-is (queueIn u) (queueIn u) refl)
-
-pub same-not : (u v : Place) → u ≢ v → samePlace u v ≡ false
-same-not u v n = is-false (samePlace u v) (λ e. n (same-yes u v e))
 
 -- ---- what stood and what came is what left and what stands
 
@@ -86,7 +83,7 @@ record-id : (k : Packet) (to : ℕ) → k .node < 65536 → number 2 (stitchReco
 unfolding number stitchRecord
 record-id k to h = omega arith
 
-node-small : (S : Settings) → Roomy S → (y : ℕ) → Node S y → y < 65536
+pub node-small : (S : Settings) → Roomy S → (y : ℕ) → Node S y → y < 65536
 node-small S ok y n = let a : y / 2048 < 32 = omega (arith, n .home, ok .few-ports) in omega arith
 
 module _ (S : Settings) (ok : Roomy S) (L : Ledger) (s : Orderly S L) where
@@ -176,7 +173,7 @@ module _ (S : Settings) (ok : Roomy S) (L : Ledger) (s : Orderly S L) where
   refused-moved (ready p) n = unmoved
   refused-moved (whereIs y) n = unmoved
 
-  pub act-moved : (a : Act) → Moved (movement a (step S L a .0)) (step S L a .1)
+  act-moved : (a : Act) → Moved (movement a (step S L a .0)) (step S L a .1)
   act-moved a =
       guarded (λ out. Moved (movement a (out .0)) (out .1)) (rules S L a) (λ n. (refused n, L)) (result S L a) (refused-moved a) (result-moved a)
 

@@ -1,9 +1,10 @@
--- Demand 2 as theorems about the desk: refusals change nothing, sound arrivals, order, home. Assumes nothing.
+-- Demand 2 as theorems about the desk: refusals and idle turns change nothing, what turn and ready answer, sound arrivals, home, one place.
+-- (Order is in Order.antt, records in Records.antt, pools in Night.antt.) Assumes nothing.
 use mathlib.Core.Path.{_≡_, refl, sym, ap, _∙_, subst}
 use mathlib.Core.Logic.{_≢_, _⊎_, inl, inr}
 use mathlib.Core.Bool.{Bool, true, false, cond}
 use mathlib.Core.List.{List, [], _∷_, _++_}
-use Prim.Native.Nat.{ℕ, _+_, _<_}
+use Prim.Native.Nat.{ℕ, zero, suc, _+_, _<_}
 use native.Mathlib.Omega.{arith}
 use lib.ListN.{length, getD}
 use lib.Dec.{eqb, ltb}
@@ -12,19 +13,19 @@ use Rattle.ledger.specs.Rules.{refuse, guard, Clear}
 use Rattle.ledger.specs.Header.{fieldsOf, headerRules}
 use Rattle.ledger.specs.Ledger.{owner, isNode, Packet, bare, recorded, Place, free, prefetched, place#, Ledger, listAt, arrivalOf, lastOf, putArrival, putOutward, putLast, start}
 use Rattle.ledger.specs.Ready.{isReady, wordOf, countOf, readyWord, pick}
-use Rattle.ledger.specs.Calls.{Act, arrive, stitch, prefetch, credit, mapTo, turn, ready, whereIs, Reply, refused, done, entry, idle, word, isRefused, noPort, isEmpty, firstOf, arriving, lastRules, arrived, served, serve, rules, result, step}
+use Rattle.ledger.specs.Calls.{Act, arrive, stitch, prefetch, credit, mapTo, turn, ready, whereIs, Side, inside, outside, Reply, refused, done, entry, idle, leaves, word, isRefused, sideOf, noPort, isEmpty, firstOf, arriving, lastRules, arrived, served, serve, rules, result, step}
 use Rattle.ledger.specs.Desk.{Desk, none, has, Call, setup, act, setupRules, desk, after}
 use Rattle.ledger.specs.Sound.{All, OwnPort, Proper, Orderly, Roomy, Sound}
 use Rattle.ledger.proofs.Tests.{true≢false, leb-no, leb-not, ltb-yes, eqb-yes, eqb-no, not-yes}
 use Rattle.ledger.proofs.Header.{price-pays}
 use Rattle.ledger.proofs.Places.{Place·In, place-number}
-use Rattle.ledger.proofs.Keep.{some-queue, len, first-node, to-moved}
+use Rattle.ledger.proofs.Keep.{some-queue, len, first-fits, first-node, to-moved}
 use Rattle.ledger.proofs.Rows.{roomy}
 use Rattle.ledger.proofs.Ready.{count-is-ones}
 use Rattle.ledger.proofs.Find.{where-right, one-place}
 use Rattle.ledger.proofs.Start.{start-sound}
 use Rattle.ledger.proofs.Passes.{guard-after, Passes, passes, passes-clear, admits}
-use Rattle.ledger.proofs.Steps.{guarded, recorded-proper, keep-step}
+use Rattle.ledger.proofs.Steps.{guarded, recorded-proper, picked-some, keep-step}
 
 -- ---- a refusal leaves the desk as it was
 
@@ -69,6 +70,28 @@ idle-keeps S L p hp = rw (leb-not (S .ports) p hp) (go (eqb (readyWord S L p) 0)
         ⊎ ((readyWord S L p ≢ 0) × (cond b (idle, L) (serve S L p (pick (lastOf L p) (readyWord S L p))) ≡ serve S L p (pick (lastOf L p) (readyWord S L p))))
     go true e = inl (eqb-yes (readyWord S L p) 0 e, refl)
     go false e = inr (eqb-no (readyWord S L p) 0 e, refl)
+
+-- ---- a packet of queue 0 leaves inside, any other outside
+
+pub inside-outside : (S : Settings) → Roomy S → (L : Ledger) → Orderly S L → (p : ℕ) → p < S .ports → (k : Packet) (t : Side)
+    → step S L (turn p) .0 ≡ leaves k t → (k .queue ≡ 0 → t ≡ inside) × (0 < k .queue → t ≡ outside)
+inside-outside S ok L s p hp k t = rw (leb-not (S .ports) p hp) (go (eqb (readyWord S L p) 0) (picked-some S ok L s p hp))
+  where
+    q : ℕ
+    q = pick (lastOf L p) (readyWord S L p)
+
+    sides : (n : ℕ) → (n ≡ 0 → sideOf n ≡ inside) × (0 < n → sideOf n ≡ outside)
+    sides zero = (λ e. refl, λ h. absurd (omega arith))
+    sides (suc n) = (λ e. absurd (omega arith), λ h. refl)
+
+    go : (b : Bool) → (b ≡ false → (q < S .queues) × (isEmpty (listAt S L (prefetched p q)) ≡ false))
+        → cond b (idle, L) (serve S L p q) .0 ≡ leaves k t → (k .queue ≡ 0 → t ≡ inside) × (0 < k .queue → t ≡ outside)
+    go true f i = absurd (let z : _≡_ {A = ℕ} 0 1 = cc in omega arith)
+    go false f i =
+        let same : firstOf S L (prefetched p q) ≡ k = cc in
+        let side : sideOf q ≡ t = cc in
+        let queue : k .queue ≡ q = ap (λ (j : Packet). j .queue) (sym same) ∙ first-fits S ok L s (prefetched p q) (hp, f refl .0) (f refl .1) .1 in
+        subst (λ (u : Side). (k .queue ≡ 0 → u ≡ inside) × (0 < k .queue → u ≡ outside)) side (rw queue (sides q))
 
 -- ---- ready's answer: bit q of the word says whether queue q is ready, and the count is the number of ready queues
 

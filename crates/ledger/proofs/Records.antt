@@ -4,33 +4,31 @@ use mathlib.Core.Path.{_≡_, refl, sym, ap, _∙_, subst}
 use mathlib.Core.Logic.{_≢_, inl, inr}
 use mathlib.Core.Bool.{Bool, true, false, cond}
 use mathlib.Core.List.{List, [], _∷_, _++_, append-nil, append-assoc}
-use Prim.Native.Nat.{ℕ, zero, suc, _+_, _≤_, _<_, zero-le, suc-le-suc}
+use Prim.Native.Nat.{ℕ, zero, suc, _+_, _*_, _/_, _%_, _^_, _≤_, _<_, zero-le, suc-le-suc}
 use native.Mathlib.Nat.{add-zero, zero-add, not-suc-le-zero, le-of-suc-le-suc}
 use native.Mathlib.Decide.{decLe}
 use native.Mathlib.Omega.{arith}
 use lib.ListN.{length, getD}
 use lib.Dec.{eqb}
+use Rattle.numbers.specs.Bytes.{number}
 use Rattle.ledger.specs.Settings.{Settings}
 use Rattle.ledger.specs.Rules.{Clear}
 use Rattle.ledger.specs.Ledger.{owner, isNode, Packet, bare, recorded, Place, free, ingress, egress, prefetched, place#, placeOf, Ledger, listAt}
 use Rattle.ledger.specs.Ledger.{lastOf, mapOf, pop, move, putArrival, putOutward, putLast, putMap}
 use Rattle.ledger.specs.Ready.{bit, readyWord, pick}
 use Rattle.ledger.specs.Calls.{Act, arrive, stitch, prefetch, credit, mapTo, turn, ready, whereIs, Side, Reply, refused, idle, leaves}
-use Rattle.ledger.specs.Calls.{isEmpty, firstOf, arriving, arrived, served, serve, rules, result, step, run}
+use Rattle.ledger.specs.Calls.{stitched, isEmpty, firstOf, stitchRecord, arriving, arrived, served, serve, rules, result, step, run}
 use Rattle.ledger.specs.Desk.{Desk, has, Call, setup, act, desk, afterCalls, answersOf, SetupsRefused}
-use Rattle.ledger.specs.Sound.{All, Everywhere, sum, weigh, one, Orderly, Roomy}
-use Rattle.ledger.specs.Order.{isFree, gathered, heldFrom, held, broughtBy, broughtIn, Latest, GoesAlong}
+use Rattle.ledger.specs.Sound.{All, Everywhere, sum, weigh, one, Proper, Orderly, Roomy}
+use Rattle.ledger.specs.Order.{isFree, gathered, heldFrom, held, broughtBy, broughtIn, Latest, Tells, GoesAlong}
 use Rattle.ledger.proofs.Tests.{true≢false, leb-is, leb-no, leb-not, eqb-is}
-use Rattle.ledger.proofs.Lists.{sum-append, weigh-pop, length-pop, nowhere, All-map, All-of, All-append, All-front, everywhere-both, everywhere-pop, everywhere-push}
+use Rattle.ledger.proofs.Lists.{sum-append, weigh-pop, length-pop, nowhere, All-map, All-of, All-append, All-split, All-front, everywhere-both, everywhere-pop, everywhere-push}
 use Rattle.ledger.proofs.Places.{Place·In, place-number, bit-le}
 use Rattle.ledger.proofs.Keep.{some-queue, len, first-fits, first-node}
 use Rattle.ledger.proofs.Passes.{admits}
 use Rattle.ledger.proofs.Steps.{guarded, picked-some, keep-step, keep-run}
+use Rattle.ledger.proofs.Order.{node-small}
 use Rattle.ledger.proofs.Courses.{actsIn, Faithful, act-answer, act-shows, refused-shows, calls-show, desk-faithful}
-
-All-split : (P : Packet → Type 0) (xs ys : List Packet) → All P (xs ++ ys) → All P xs × All P ys
-All-split P [] ys a = (tt, a)
-All-split P (x ∷ xs) ys a = let r = All-split P xs ys (a .1) in ((a .0, r .0), r .1)
 
 -- ---- the latest of its node
 
@@ -55,6 +53,36 @@ all-latest (x ∷ xs) f =
       inl (refl, none-of (x .node) xs (omega (arith, f (x .node)))),
       All-map xs (λ k a. inr a) (all-latest xs (λ y. omega (arith, f y))),
     )
+
+-- ---- the record of a stitch
+
+low-byte : (n : ℕ) → (n / 256 * 256 + n % 256 ≡ n) × (n % 256 % 256 ≡ n % 256)
+low-byte n = (omega arith, omega arith)
+
+joined : (t q r s x y z : ℕ) → q * 256 + x ≡ t → r * 256 + y ≡ q → s * 256 + z ≡ r → s * 16777216 + (z * 65536 + (y * 256 + (x * 1 + 0))) ≡ t
+joined t q r s x y z a b c = omega arith
+
+four-bytes : (t : ℕ) → t < 2 ^ 32
+    → t / 2 ^ 24 % 256 * 256 ^ 3 + (t / 2 ^ 16 % 256 % 256 * 256 ^ 2 + (t / 2 ^ 8 % 256 % 256 * 256 ^ 1 + (t % 256 % 256 * 256 ^ 0 + 0))) ≡ t
+four-bytes t h =
+    let two : t / 256 / 256 ≡ t / 65536 = omega arith in
+    let three : t / 65536 / 256 ≡ t / 16777216 = omega arith in
+    let top : t / 16777216 % 256 ≡ t / 16777216 = omega arith in
+    let a = low-byte t in
+    let b = low-byte (t / 256) in
+    let c = low-byte (t / 65536) in
+    rw (top, c .1, b .1, a .1)
+    (joined t (t / 256) (t / 65536) (t / 16777216) (t % 256) (t / 256 % 256) (t / 65536 % 256) (a .0) (rw two at (b .0)) (rw three at (c .0)))
+
+record-tells : {S : Settings} (k : Packet) (to : ℕ) → k .node < 65536 → Proper S k → Tells k (stitchRecord k to)
+unfolding stitchRecord number
+record-tells k to h good = record {
+  ten = refl;
+  id = omega arith;
+  len = omega (arith, good .len-high);
+  queue = refl;
+  stamp = four-bytes (k .stamp) (good .stamp-in);
+}
 
 -- ---- what is held, list by list
 
@@ -107,7 +135,7 @@ module _ (S : Settings) (ok : Roomy S) where
   Holds known L = Everywhere (λ l k. isFree (placeOf S l) ≡ false → Latest k known) (L .lists)
 
   module _ (known : List Packet) (L : Ledger) (s : Orderly S L) (e : Holds known L) where
-    pub first-latest : (v : Place) → Place·In S v → isEmpty (listAt S L v) ≡ false → isFree v ≡ false → Latest (firstOf S L v) known
+    first-latest : (v : Place) → Place·In S v → isEmpty (listAt S L v) ≡ false → isFree v ≡ false → Latest (firstOf S L v) known
     first-latest v hv some busy =
         All-front (λ k. isFree (placeOf S (place# S v)) ≡ false → Latest k known) (listAt S L v) some (e .holds (place# S v) (len S ok L s v hv))
         (ap isFree (place-number S v hv) ∙ busy)
@@ -195,7 +223,7 @@ module _ (S : Settings) (ok : Roomy S) where
     refused-holds (ready p) n = nothing-in L e
     refused-holds (whereIs y) n = nothing-in L e
 
-    pub act-holds : (a : Act) → Holds (known ++ broughtBy S a (step S L a .0)) (step S L a .1)
+    act-holds : (a : Act) → Holds (known ++ broughtBy S a (step S L a .0)) (step S L a .1)
     act-holds a =
         guarded (λ out. Holds (known ++ broughtBy S a (out .0)) (out .1)) (rules S L a) (λ n. (refused n, L)) (result S L a)
         (refused-holds a) (result-holds a)
@@ -217,6 +245,20 @@ module _ (S : Settings) (ok : Roomy S) where
         go : Dec (p < S .ports) → step S L (turn p) .0 ≡ leaves k t → Latest k known
         go (yes hp) = rw (leb-not (S .ports) p hp) (sent (eqb (readyWord S L p) 0) (picked-some S ok L s p hp) hp)
         go (no n) = rw (leb-is (S .ports) p (omega arith)) (λ i. absurd (let o : _≡_ {A = ℕ} 0 1 = cc in omega arith))
+
+    -- what a stitch tells of is the oldest in ingress
+    stitch-tells : (p : ℕ) (b : List ℕ) → step S L (stitch p) .0 ≡ stitched b → (k : Packet) × Latest k known × Tells k b
+    stitch-tells p b =
+        guarded {X = Reply × Ledger} (λ out. out .0 ≡ stitched b → (k : Packet) × Latest k known × Tells k b)
+        (rules S L (stitch p)) (λ n. (refused n, L)) (result S L (stitch p))
+        (λ n i. absurd (let o : _≡_ {A = ℕ} 0 1 = cc in omega arith))
+        (λ c i.
+        let v-in : Place·In S (ingress p) = (leb-no (S .ports) p (c .0), some-queue S ok L s) in
+        let k : Packet = firstOf S L (ingress p) in
+        let good : Proper S k = first-fits S ok L s (ingress p) v-in (c .1 .0) .2 in
+        let node = node-small S ok (k .node) (first-node S ok L s (ingress p) v-in (c .1 .0)) in
+        let same : stitchRecord k (mapOf L (k .dest)) ≡ b = cc in
+        (k, first-latest (ingress p) v-in (c .1 .0) refl, subst (Tells k) same (record-tells k (mapOf L (k .dest)) node good)))
 
 -- ---- any calls
 
@@ -255,6 +297,9 @@ module _ {X : Type 0} (call : X → Call → Reply × X) (shows : X → Desk) (l
         sends = λ p k t i.
             turn-sends S ok known N (keep-run S ok L s (actsIn cs)) later p k t
             (sym (act-answer call shows long faithful S (afterCalls call x cs) N shown (turn p)) ∙ i);
+        tells = λ p b i.
+            stitch-tells S ok known N (keep-run S ok L s (actsIn cs)) later p b
+            (sym (act-answer call shows long faithful S (afterCalls call x cs) N shown (stitch p)) ∙ i);
       }
 
 pub desk-goes-along : (n : ℕ) (S : Settings) → Roomy S → (L : Ledger) → Orderly S L → (cs : List Call) → SetupsRefused (desk n) (has S L) cs

@@ -16,13 +16,43 @@ use Rattle.ledger.specs.Ledger.{owner, Packet, bare, recorded, Place, fr
 use Rattle.ledger.specs.Ready.{bit, covered, isReady, readyWord, pick}
 use Rattle.ledger.specs.Calls.{Act, arrive, stitch, prefetch, credit, mapTo, turn, ready, whereIs, Reply, refused, idle, leaves, isRefused, sideOf, isEmpty, firstOf, arriving, arrived, served, serve, turned, rules, result, step, run}
 use Rattle.ledger.specs.Sound.{sum, Orderly, Roomy}
-use Rattle.ledger.specs.Demand.{isTurn, turnsOf, InHand, Stands, LeavesWithin, NobodyStarves}
+use Rattle.ledger.specs.Demand.{isTurn, InHand, Stands}
 use Rattle.ledger.proofs.Tests.{true≢false, leb-is, leb-no, leb-not, eqb-is, eqb-yes, eqb-no, or-is, or-is-right}
 use Rattle.ledger.proofs.Places.{Place·In, bit-le, credit-same, credit-other}
 use Rattle.ledger.proofs.Keep.{some-queue, first-fits, first-node, from-moved, to-moved, else-moved}
 use Rattle.ledger.proofs.Ready.{gap, gap-pos, gap-le, word-some, picked-nearer}
 use Rattle.ledger.proofs.Passes.{Admits, admits}
 use Rattle.ledger.proofs.Steps.{guarded, picked-some, keep-step}
+
+-- ---- the statement over acts; that over calls (specs/Demand.antt) follows from it in Courses.antt
+
+-- how many turns port p has among the acts, refused ones not counted
+abbrev pub turnsOf : Settings → ℕ → Ledger → List Act → ℕ
+turnsOf S p L [] = 0
+turnsOf S p L (a ∷ acts) = bit (isTurn p a && not (isRefused (step S L a .0))) + turnsOf S p (step S L a .1) acts
+
+-- among the acts there is a turn of port p, before which port p had fewer than n turns, at which packet k leaves by queue q;
+-- and at every moment up to then k stands in its prefetch list
+pub record LeavesWithin (S : Settings) (p q : ℕ) (k : Packet) (n : ℕ) (L : Ledger) (acts : List Act) : Type 0 where
+  pub moment : ℕ
+  pub among : moment < length acts
+  pub soon : turnsOf S p L (take moment acts) < n
+  pub a-turn : getD acts moment (ready 0) ≡ turn p
+  pub it-leaves : step S (run S L (take moment acts)) (turn p) .0 ≡ leaves k (sideOf q)
+  pub until-then : (i : ℕ) → i ≤ moment → (ahead : List Packet) × Stands S p q k ahead (run S L (take i acts))
+
+-- Nobody starves. Packet k stands in the prefetch slots of port p and queue q behind `ahead`, and there is credit in hand for all of these.
+-- Then, whatever acts come, if port p has queues × (length ahead + 1) turns among them, k leaves at one of these turns.
+unfoldable pub NobodyStarves : Type 0
+NobodyStarves =
+    (S : Settings) → Roomy S → (L : Ledger) → Orderly S L
+    → (p q : ℕ) → p < S .ports → q < S .queues
+    → (ahead : List Packet) (k : Packet) → Stands S p q k ahead L
+    → InHand S L p q (ahead ++ (k ∷ []))
+    → (acts : List Act) → S .queues * (length ahead + 1) ≤ turnsOf S p L acts
+    → LeavesWithin S p q k (S .queues * (length ahead + 1)) L acts
+
+-- ---- its proof
 
 -- adding to one credit lowers none
 raise-ge : (S : Settings) (xs : List ℕ) (p q n p′ q′ : ℕ) → creditAt S xs p′ q′ ≤ creditAt S (setCredit S xs p q (creditAt S xs p q + n)) p′ q′

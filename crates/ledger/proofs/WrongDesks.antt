@@ -48,12 +48,12 @@ module _ (S : Settings) (L : Ledger) (p q : ℕ) (hp : p < S .ports) (hq : q < S
 abbrev pub two : Settings
 two = settings 2 64 1 0
 
-abbrev pub withLists : (List (List Packet) → List (List Packet)) → Desk → Desk
-withLists f none = none
-withLists f (has S L) = has S (record { lists = f (L .lists); arrival = L .arrival; outward = L .outward; last = L .last; mapped = L .mapped })
+abbrev pub relisted : (List (List Packet) → List (List Packet)) → Desk → Desk
+relisted f none = none
+relisted f (has S L) = has S (record { lists = f (L .lists); arrival = L .arrival; outward = L .outward; last = L .last; mapped = L .mapped })
 
 abbrev pub turnsRound : ℕ → Desk → Call → Reply × Desk
-turnsRound n D c = (desk n D c .0, withLists (map reverse) (desk n D c .1))
+turnsRound n D c = (desk n D c .0, relisted (map reverse) (desk n D c .1))
 
 -- the oldest free id of port 0
 oldestFree : Desk → ℕ
@@ -75,7 +75,7 @@ sent-from-nowhere k g = g .sends 0 k outside refl
 -- ---- pools: a desk that answers right, and whose refusals cost port 0 a node
 
 abbrev pub leaks : ℕ → Desk → Call → Reply × Desk
-leaks n D c = (desk n D c .0, withLists (cond (isRefused (desk n D c .0)) (pop 0) (λ ls. ls)) (desk n D c .1))
+leaks n D c = (desk n D c .0, relisted (cond (isRefused (desk n D c .0)) (pop 0) (λ ls. ls)) (desk n D c .1))
 
 pub pool-leaked : (n : ℕ) → PoolKept (leaks n) (λ D. D) two (start two) 0 (has two (start two)) (act (arrive 0 []) ∷ []) → ⊥
 unfolding oldestFree start row place# pop

@@ -163,8 +163,3 @@ step S L a = guard (rules S L a) (λ n. (refused n, onRefusal n a L)) (result S 
 abbrev pub run : Settings → Ledger → List Act → Ledger
 run S L [] = L
 run S L (a ∷ acts) = run S (step S L a .1) acts
-
--- and their answers
-abbrev pub answers : Settings → Ledger → List Act → List Reply
-answers S L [] = []
-answers S L (a ∷ acts) = step S L a .0 ∷ answers S (step S L a .1) acts

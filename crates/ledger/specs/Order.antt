@@ -148,9 +148,17 @@ abbrev pub Latest : Packet → List Packet → Type 0
 Latest k [] = ⊥
 Latest k (j ∷ js) = ((j ≡ k) × All (λ i. i .node ≢ k .node) js) ⊎ Latest k js
 
+-- ten bytes tell of packet k what a stitch answers: entry id (2), length (2), queue (1), a port (1), timestamp (4)
+pub record Tells (k : Packet) (b : List ℕ) : Type 0 where
+  pub ten : length b ≡ 10
+  pub id : number 2 b 0 ≡ k .node
+  pub len : number 2 b 2 ≡ k .len
+  pub queue : getD b 4 0 ≡ k .queue
+  pub stamp : number 4 b 6 ≡ k .stamp
+
 -- Of what the switch held, where x showed the ledger L, and of what arrivals among the calls brought in, after it: every packet that it
--- holds after them is the latest of its node, with all that is recorded of it; and so is one that a turn sends then. (The calls are any,
--- so this is said of every turn among calls.)
+-- holds after them is the latest of its node, with all that is recorded of it; and so is one that a turn sends then, and one of which a
+-- stitch then tells. (The calls are any, so this is said of every turn and every stitch among calls.)
 pub record GoesAlong {X : Type 0} (call : X → Call → Reply × X) (shows : X → Desk) (S : Settings) (L : Ledger)
     (x : X) (cs : List Call) : Type 0 where
   pub ledger : Ledger
@@ -158,3 +166,5 @@ pub record GoesAlong {X : Type 0} (call : X → Call → Reply × X) (shows : X 
   pub holds : All (λ k. Latest k (held S L ++ gathered (broughtIn S) cs (answersOf call x cs))) (held S ledger)
   pub sends : (p : ℕ) (k : Packet) (t : Side) → call (afterCalls call x cs) (act (turn p)) .0 ≡ leaves k t
       → Latest k (held S L ++ gathered (broughtIn S) cs (answersOf call x cs))
+  pub tells : (p : ℕ) (b : List ℕ) → call (afterCalls call x cs) (act (stitch p)) .0 ≡ stitched b
+      → (k : Packet) × Latest k (held S L ++ gathered (broughtIn S) cs (answersOf call x cs)) × Tells k b

@@ -6,9 +6,9 @@ use Prim.Native.Nat.{ℕ, _*_, _<_}
 use native.Mathlib.Omega.{arith}
 use lib.ListN.{length}
 use Rattle.ledger.specs.Settings.{Settings}
-use Rattle.ledger.specs.Ledger.{isNode, Place, place#, Ledger}
+use Rattle.ledger.specs.Ledger.{isNode, Packet, Place, place#, Ledger}
 use Rattle.ledger.specs.Ready.{isReady, wordOf, countOf}
-use Rattle.ledger.specs.Calls.{Act, arrive, ready, whereIs, Reply, refused, entry, word, found, step}
+use Rattle.ledger.specs.Calls.{Act, arrive, turn, ready, whereIs, Side, inside, outside, Reply, refused, entry, leaves, word, found, step}
 use Rattle.ledger.specs.Desk.{has, Call, act, SetupsRefused}
 use Rattle.ledger.specs.Sound.{Roomy, Sound}
 use Rattle.ledger.specs.Order.{KeepsOrder, GoesAlong}
@@ -17,7 +17,7 @@ use Rattle.ledger.proofs.Places.{Place·In, place#-lt}
 use Rattle.ledger.proofs.Rows.{roomy, this-build}
 use Rattle.ledger.proofs.Find.{where-right}
 use Rattle.ledger.proofs.Passes.{Passes}
-use Rattle.ledger.proofs.Promises.{ready-counts, means-sound, Wanting, sound-arrival, OnePlace, each-in-one-place}
+use Rattle.ledger.proofs.Promises.{inside-outside, ready-counts, means-sound, Wanting, sound-arrival, OnePlace, each-in-one-place}
 use Rattle.ledger.proofs.Courses.{Faithful, act-answer, act-shows, nobody-starves-from, this-build-from}
 use Rattle.ledger.proofs.Order.{keeps-order}
 use Rattle.ledger.proofs.Records.{goes-along}
@@ -102,6 +102,11 @@ module _ (m : List ℕ) (S : Settings) (L : Ledger) (e : picture m ≡ has S L) 
   pub memory-ready-counts : (p : ℕ) → p < S .ports
       → M (act (ready p)) m .0 ≡ word (wordOf (isReady S L p) (S .queues)) (countOf (isReady S L p) (S .queues))
   memory-ready-counts p hp = on-state (ready p) ∙ ap (λ (r : Reply × Ledger). r .0) (ready-counts S L p hp)
+
+  -- a packet of queue 0 leaves inside, any other outside
+  pub memory-inside-outside : (p : ℕ) → p < S .ports → (k : Packet) (t : Side)
+      → M (act (turn p)) m .0 ≡ leaves k t → (k .queue ≡ 0 → t ≡ inside) × (0 < k .queue → t ≡ outside)
+  memory-inside-outside p hp k t i = inside-outside S ok L (s .orderly) p hp k t (sym (on-state (turn p)) ∙ i)
 
   -- a header with no fault, at a port of the switch: turned away only for want of credit or of a node
   pub memory-arrival : (p : ℕ) (h : List ℕ) → p < S .ports → Passes (S .queues) p h

@@ -1,5 +1,5 @@
 -- `acts::stitch` meets its contract: a state is opened with its shape, and the act on that is the call. Assumes nothing.
-use mathlib.Core.Path.{_≡_, sym, ap, _∙_}
+use mathlib.Core.Path.{sym, ap, _∙_}
 use mathlib.Core.List.{List}
 use Prim.Native.Nat.{ℕ}
 use borrow.Author.Needs.{needs}

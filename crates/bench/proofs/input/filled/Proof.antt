@@ -1,5 +1,5 @@
 -- `bench::input::filled` meets its contract: what is left is moved to the front and read on from, or is enough. Assumes nothing.
-use Rattle.bench.proofs.Laws.{kept-moved}
+use Rattle.bench.proofs.Laws.{kept-there, kept-moved}
 use borrow.Author.Needs.{needs}
 use Rattle.bench.proofs.input.filled.Statement.{statement}
 use Rattle.bench.proofs.input.filled.Tie as tie
@@ -8,7 +8,7 @@ sub-if2 : tie.Need-sub-if2
 sub-if2 c = search needs
 
 returns : tie.Need-returns
-returns c = search needs
+returns c = (search needs, kept-there (c .before .args .bytes .now) (c .before .args .input .from) (c .before .args .input .to) (c .before .pre .0))
 
 moved-requires : tie.Need-moved-requires
 moved-requires c κs = search needs
