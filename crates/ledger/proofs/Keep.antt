@@ -10,14 +10,17 @@ use lib.ListN.{length, getD, set, drop, length-set, length-append}
 use lib.Dec.{eqb}
 use Rattle.ledger.specs.Settings.{Settings, row}
 use Rattle.ledger.specs.Header.{price}
-use Rattle.ledger.specs.Ledger.{owner, Packet, Place, prefetched, place#, placeOf, Ledger, listAt, arrivalOf, behind, pop, push, move, putArrival, putOutward, putLast, putMap, setCredit}
+use Rattle.ledger.specs.Ledger.{owner, Packet, Place, prefetched, place#, placeOf, Ledger, listAt, arrivalOf, behind, pop, push, move}
+use Rattle.ledger.specs.Ledger.{putArrival, putOutward, putLast, putMap, setCredit}
 use Rattle.ledger.specs.Ready.{bit}
 use Rattle.ledger.specs.Calls.{isEmpty, firstOf}
 use Rattle.ledger.specs.Sound.{Everywhere, weigh, one, Once, OwnPort, OwnQueue, Proper, WellRecorded, owes, due, owed, Orderly, Roomy}
 use Rattle.ledger.proofs.Tests.{eqb-yes, eqb-no}
-use Rattle.ledger.proofs.Lists.{drop-le, weigh-pop, weigh-push, length-pop, length-push, at-push-other, at-push, at-pop-other, at-pop, All-front, everywhere-map, everywhere-both, everywhere-pop, everywhere-push, counted}
+use Rattle.ledger.proofs.Lists.{drop-le, weigh-pop, weigh-push, length-pop, length-push, at-push-other, at-push, at-pop-other, at-pop}
+use Rattle.ledger.proofs.Lists.{All-front, everywhere-map, everywhere-both, everywhere-pop, everywhere-push, counted}
 use Rattle.ledger.proofs.Header.{price-free}
-use Rattle.ledger.proofs.Places.{Place·In, place#-lt, place-number, place#-inj, place#-other, Node, node-of, length-credit, credit-none, credit-at, credit-other, credit-le}
+use Rattle.ledger.proofs.Places.{Place·In, place#-lt, place-number, place#-inj, place#-other, Node, node-of, length-credit, credit-none}
+use Rattle.ledger.proofs.Places.{credit-at, credit-other, credit-le}
 
 -- a bound on every entry of a table outlasts a change of one
 pub set-lt : (xs : List ℕ) (i v j m : ℕ) → v < m → getD xs j 0 < m → getD (set xs i v) j 0 < m

@@ -9,7 +9,8 @@ use native.Mathlib.Decide.{ℕ-discrete, decLe}
 use lib.ListN.{length, getD, length-map}
 use lib.Dec.{eqb, ltb}
 use Rattle.ledger.specs.Settings.{Settings}
-use Rattle.ledger.specs.Ledger.{owner, index, entryId, isNode, Packet, recorded, Place, free, ingress, egress, prefetched, place#, placeOf, Ledger, listAt, arrivalOf, pop, move, putArrival}
+use Rattle.ledger.specs.Ledger.{owner, index, entryId, isNode, Packet, recorded, Place, free, ingress, egress, prefetched, place#, placeOf}
+use Rattle.ledger.specs.Ledger.{Ledger, listAt, arrivalOf, pop, move, putArrival}
 use Rattle.ledger.specs.Ready.{bit}
 use Rattle.ledger.specs.Calls.{arrive, Reply, refused, entry, firstOf, arriving, arrived, rules, result, step, run}
 use Rattle.ledger.specs.Desk.{Desk, has, Call, act, desk, SetupsRefused}
@@ -17,7 +18,8 @@ use Rattle.ledger.specs.Sound.{All, Everywhere, weigh, one, OwnPort, Pro
 use Rattle.ledger.specs.Order.{isFree}
 use Rattle.ledger.specs.Night.{TakenIn, Arrival, turned-away, taken, away, awayFrom, PoolKept}
 use Rattle.ledger.proofs.Tests.{ltb-is, ltb-not, eqb-is, eqb-not}
-use Rattle.ledger.proofs.Lists.{cons-form, sum-ones, weigh-only, weigh-plus, weigh-cong, weigh-none, All-map, All-of, everywhere-map, at-push-other, at-pop-other}
+use Rattle.ledger.proofs.Lists.{cons-form, sum-ones, weigh-only, weigh-plus, weigh-cong, weigh-none, All-map, All-of, everywhere-map}
+use Rattle.ledger.proofs.Lists.{at-push-other, at-pop-other}
 use Rattle.ledger.proofs.Places.{Place·In, place-of, place-number, row-div, row-mod, Node, node-is}
 use Rattle.ledger.proofs.Keep.{some-queue, nodes, first-fits, from-moved, to-moved, lowered}
 use Rattle.ledger.proofs.Passes.{Admits, admits}

@@ -22,7 +22,8 @@ use Rattle.ledger.specs.Desk.{Desk, has, Call, setup, act, desk, afterCa
 use Rattle.ledger.specs.Sound.{All, Everywhere, sum, weigh, one, Proper, Orderly, Roomy}
 use Rattle.ledger.specs.Order.{isFree, gathered, heldFrom, held, broughtBy, broughtIn, Latest, Tells, GoesAlong}
 use Rattle.ledger.proofs.Tests.{true≢false, leb-is, leb-no, leb-not, eqb-is}
-use Rattle.ledger.proofs.Lists.{sum-append, weigh-pop, length-pop, nowhere, All-map, All-of, All-append, All-split, All-front, everywhere-both, everywhere-pop, everywhere-push}
+use Rattle.ledger.proofs.Lists.{sum-append, weigh-pop, length-pop, nowhere, All-map, All-of, All-append, All-split, All-front, everywhere-both}
+use Rattle.ledger.proofs.Lists.{everywhere-pop, everywhere-push}
 use Rattle.ledger.proofs.Places.{Place·In, place-number, bit-le}
 use Rattle.ledger.proofs.Keep.{some-queue, len, first-fits, first-node}
 use Rattle.ledger.proofs.Passes.{admits}

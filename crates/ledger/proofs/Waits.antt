@@ -12,9 +12,11 @@ use lib.Seq.{getD-set-same, getD-set-other}
 use lib.Dec.{eqb, leb}
 use Rattle.ledger.specs.Settings.{Settings}
 use Rattle.ledger.specs.Rules.{Clear}
-use Rattle.ledger.specs.Ledger.{owner, Packet, bare, recorded, Place, free, ingress, egress, prefetched, place#, Ledger, listAt, outwardOf, lastOf, mapOf, creditAt, setCredit, cell, move, putArrival, putOutward, putLast, putMap}
+use Rattle.ledger.specs.Ledger.{owner, Packet, bare, recorded, Place, free, ingress, egress, prefetched, place#, Ledger, listAt, outwardOf}
+use Rattle.ledger.specs.Ledger.{lastOf, mapOf, creditAt, setCredit, cell, move, putArrival, putOutward, putLast, putMap}
 use Rattle.ledger.specs.Ready.{bit, covered, isReady, readyWord, pick}
-use Rattle.ledger.specs.Calls.{Act, arrive, stitch, prefetch, credit, mapTo, turn, ready, whereIs, Reply, refused, idle, leaves, isRefused, sideOf, isEmpty, firstOf, arriving, arrived, served, serve, turned, rules, result, step, run}
+use Rattle.ledger.specs.Calls.{Act, arrive, stitch, prefetch, credit, mapTo, turn, ready, whereIs, Reply, refused, idle, leaves, isRefused}
+use Rattle.ledger.specs.Calls.{sideOf, isEmpty, firstOf, arriving, arrived, served, serve, turned, rules, result, step, run}
 use Rattle.ledger.specs.Sound.{sum, Orderly, Roomy}
 use Rattle.ledger.specs.Demand.{isTurn, InHand, Stands}
 use Rattle.ledger.proofs.Tests.{true≢false, leb-is, leb-no, leb-not, eqb-is, eqb-yes, eqb-no, or-is, or-is-right}

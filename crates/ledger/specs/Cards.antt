@@ -6,7 +6,8 @@ use Prim.Native.Nat.{ℕ, zero, suc, _+_, _-_, _*_, _/_, _%_}
 use lib.ListN.{drop}
 use Rattle.crc.specs.Crc.{crc8}
 use Rattle.ledger.specs.Ledger.{Packet, free, ingress, egress, prefetched}
-use Rattle.ledger.specs.Calls.{arrive, stitch, prefetch, credit, mapTo, turn, ready, whereIs, inside, outside, Reply, refused, done, entry, stitched, idle, leaves, word, found}
+use Rattle.ledger.specs.Calls.{arrive, stitch, prefetch, credit, mapTo, turn, ready, whereIs, inside, outside, Reply, refused, done, entry}
+use Rattle.ledger.specs.Calls.{stitched, idle, leaves, word, found}
 use Rattle.ledger.specs.Desk.{none, Call, setup, act, replies}
 
 -- the nine bytes before the checksum, timestamp and transaction 0; flags: 2 poisoned, 1 the reserved bit

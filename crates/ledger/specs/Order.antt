@@ -11,7 +11,8 @@ use Rattle.numbers.specs.Bytes.{number}
 use Rattle.ledger.specs.Settings.{Settings}
 use Rattle.ledger.specs.Header.{fieldsOf}
 use Rattle.ledger.specs.Ledger.{owner, Packet, recorded, Place, free, ingress, egress, prefetched, portOf, placeOf, Ledger, listAt}
-use Rattle.ledger.specs.Calls.{Act, arrive, stitch, prefetch, credit, mapTo, turn, ready, whereIs, Side, Reply, refused, done, entry, stitched, idle, leaves, word, found}
+use Rattle.ledger.specs.Calls.{Act, arrive, stitch, prefetch, credit, mapTo, turn, ready, whereIs, Side, Reply, refused, done, entry, stitched}
+use Rattle.ledger.specs.Calls.{idle, leaves, word, found}
 use Rattle.ledger.specs.Desk.{Desk, has, Call, setup, act, afterCalls, answersOf}
 use Rattle.ledger.specs.Sound.{All}
 

@@ -11,9 +11,11 @@ use lib.Dec.{eqb}
 use Rattle.ledger.specs.Settings.{Settings, settings, inRows, ids, row, size}
 use Rattle.ledger.specs.Rules.{Rule, refuse, guard, Clear}
 use Rattle.ledger.specs.Header.{fieldsOf, price}
-use Rattle.ledger.specs.Ledger.{owner, isNode, Packet, bare, recorded, Place, free, ingress, egress, prefetched, place#, column, portOf, Ledger, listAt, arrivalOf, outwardOf, lastOf, mapOf, push, move, putArrival, putOutward, putLast, start}
+use Rattle.ledger.specs.Ledger.{owner, isNode, Packet, bare, recorded, Place, free, ingress, egress, prefetched, place#, column, portOf, Ledger}
+use Rattle.ledger.specs.Ledger.{listAt, arrivalOf, outwardOf, lastOf, mapOf, push, move, putArrival, putOutward, putLast, start}
 use Rattle.ledger.specs.Ready.{readyWord, pick}
-use Rattle.ledger.specs.Calls.{Act, arrive, stitch, prefetch, credit, mapTo, turn, ready, whereIs, Reply, refused, done, idle, isRefused, isEmpty, firstOf, arriving, arrived, served, serve, turned, rules, result}
+use Rattle.ledger.specs.Calls.{Act, arrive, stitch, prefetch, credit, mapTo, turn, ready, whereIs, Reply, refused, done, idle, isRefused, isEmpty}
+use Rattle.ledger.specs.Calls.{firstOf, arriving, arrived, served, serve, turned, rules, result}
 use Rattle.ledger.specs.Desk.{Desk, has, Call, setup, act, setupRules, onDesk, desk}
 use Rattle.ledger.specs.Sound.{weigh, one, Proper, Orderly, Roomy}
 use Rattle.ledger.proofs.Promises.{result-given}
@@ -33,7 +35,9 @@ use Rattle.memory.specs.Image.{setupMem}
 use Rattle.memory.specs.Memory.{state-dec, picture, acted, tested, M}
 use Rattle.memory.proofs.Picture.{picture-is, picture-none, picture-state}
 use Rattle.memory.proofs.Image.{setup-picture}
-use Rattle.memory.proofs.Paint.{Kept, kept-then, pop-paint, pop-kept, pop-item, pop-node, pop-gone, pop-packet, push-paint, push-kept, record-paint, record-kept, record-packet, arrival-paint, arrival-kept, outward-paint, outward-kept, last-paint, last-kept, map-paint, map-kept}
+use Rattle.memory.proofs.Paint.{Kept, kept-then, pop-paint, pop-kept, pop-item, pop-node, pop-gone, pop-packet, push-paint, push-kept}
+use Rattle.memory.proofs.Paint.{record-paint, record-kept, record-packet, arrival-paint, arrival-kept, outward-paint, outward-kept, last-paint}
+use Rattle.memory.proofs.Paint.{last-kept, map-paint, map-kept}
 
 -- ---- how a list shows a node: a free list shows it bare, any other with its record
 
