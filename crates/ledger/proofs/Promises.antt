@@ -74,27 +74,42 @@ idle-keeps S L p hp = rw (leb-not (S .ports) p hp) (go (eqb (readyWord S L p) 0)
     go true e = inl (eqb-yes (readyWord S L p) 0 e, refl)
     go false e = inr (eqb-no (readyWord S L p) 0 e, refl)
 
--- ---- a packet of queue 0 leaves inside, any other outside
+-- ---- what a turn sends: the oldest of some slots of its port, by their queue
 
-pub inside-outside : (S : Settings) → Roomy S → (L : Ledger) → Orderly S L → (p : ℕ) → p < S .ports → (k : Packet) (t : Side)
-    → step S L (turn p) .0 ≡ leaves k t → (k .queue ≡ 0 → t ≡ inside) × (0 < k .queue → t ≡ outside)
-inside-outside S ok L s p hp k t = rw (leb-not (S .ports) p hp) (go (eqb (readyWord S L p) 0) (picked-some S ok L s p hp))
+pub record Sends (S : Settings) (L : Ledger) (p : ℕ) (k : Packet) (t : Side) : Type 0 where
+  pub queue : ℕ
+  pub slots : Place·In S (prefetched p queue)
+  pub some : isEmpty (listAt S L (prefetched p queue)) ≡ false
+  pub oldest : firstOf S L (prefetched p queue) ≡ k
+  pub side : sideOf queue ≡ t
+
+pub turn-sends : (S : Settings) → Roomy S → (L : Ledger) → Orderly S L → (p : ℕ) (k : Packet) (t : Side)
+    → step S L (turn p) .0 ≡ leaves k t → Sends S L p k t
+turn-sends S ok L s p k t =
+    guarded {X = Reply × Ledger} (λ out. out .0 ≡ leaves k t → Sends S L p k t) (rules S L (turn p)) (λ n. (refused n, L)) (result S L (turn p))
+    (λ n i. absurd (let z : _≡_ {A = ℕ} 0 1 = cc in omega arith))
+    (λ c. let hp = leb-no (S .ports) p (c .0) in go hp (eqb (readyWord S L p) 0) (picked-some S ok L s p hp))
   where
     q : ℕ
     q = pick (lastOf L p) (readyWord S L p)
 
+    go : p < S .ports → (b : Bool) → (b ≡ false → (q < S .queues) × (isEmpty (listAt S L (prefetched p q)) ≡ false))
+        → cond b (idle, L) (serve S L p q) .0 ≡ leaves k t → Sends S L p k t
+    go hp true f i = absurd (let z : _≡_ {A = ℕ} 0 1 = cc in omega arith)
+    go hp false f i = record { queue = q; slots = (hp, f refl .0); some = f refl .1; oldest = cc; side = cc }
+
+-- a packet of queue 0 leaves inside, any other outside
+pub inside-outside : (S : Settings) → Roomy S → (L : Ledger) → Orderly S L → (p : ℕ) (k : Packet) (t : Side)
+    → step S L (turn p) .0 ≡ leaves k t → (k .queue ≡ 0 → t ≡ inside) × (0 < k .queue → t ≡ outside)
+inside-outside S ok L s p k t i =
+    let o = turn-sends S ok L s p k t i in
+    let own : k .queue ≡ o .queue = ap (λ (j : Packet). j .queue) (sym (o .oldest)) ∙ first-fits S ok L s (prefetched p (o .queue)) (o .slots) (o .some) .1 in
+    subst (λ (u : Side). (k .queue ≡ 0 → u ≡ inside) × (0 < k .queue → u ≡ outside)) (o .side)
+    (subst (λ (n : ℕ). (n ≡ 0 → sideOf (o .queue) ≡ inside) × (0 < n → sideOf (o .queue) ≡ outside)) (sym own) (sides (o .queue)))
+  where
     sides : (n : ℕ) → (n ≡ 0 → sideOf n ≡ inside) × (0 < n → sideOf n ≡ outside)
     sides zero = (λ e. refl, λ h. absurd (omega arith))
     sides (suc n) = (λ e. absurd (omega arith), λ h. refl)
-
-    go : (b : Bool) → (b ≡ false → (q < S .queues) × (isEmpty (listAt S L (prefetched p q)) ≡ false))
-        → cond b (idle, L) (serve S L p q) .0 ≡ leaves k t → (k .queue ≡ 0 → t ≡ inside) × (0 < k .queue → t ≡ outside)
-    go true f i = absurd (let z : _≡_ {A = ℕ} 0 1 = cc in omega arith)
-    go false f i =
-        let same : firstOf S L (prefetched p q) ≡ k = cc in
-        let side : sideOf q ≡ t = cc in
-        let queue : k .queue ≡ q = ap (λ (j : Packet). j .queue) (sym same) ∙ first-fits S ok L s (prefetched p q) (hp, f refl .0) (f refl .1) .1 in
-        subst (λ (u : Side). (k .queue ≡ 0 → u ≡ inside) × (0 < k .queue → u ≡ outside)) side (rw queue (sides q))
 
 -- ---- ready's answer: bit q of the word says whether queue q is ready, and the count is the number of ready queues
 

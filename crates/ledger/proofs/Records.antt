@@ -6,7 +6,6 @@ use mathlib.Core.Bool.{Bool, true, false, cond}
 use mathlib.Core.List.{List, [], _∷_, _++_, append-nil, append-assoc}
 use Prim.Native.Nat.{ℕ, zero, suc, _+_, _*_, _/_, _%_, _^_, _≤_, _<_, zero-le, suc-le-suc}
 use native.Mathlib.Nat.{add-zero, zero-add, not-suc-le-zero, le-of-suc-le-suc}
-use native.Mathlib.Decide.{decLe}
 use native.Mathlib.Omega.{arith}
 use lib.ListN.{length, getD}
 use lib.Dec.{eqb}
@@ -21,7 +20,7 @@ use Rattle.ledger.specs.Calls.{stitched, isEmpty, firstOf, stitchRecord,
 use Rattle.ledger.specs.Desk.{Desk, has, Call, setup, act, desk, afterCalls, answersOf, SetupsRefused}
 use Rattle.ledger.specs.Sound.{All, Everywhere, sum, weigh, one, Proper, Orderly, Roomy}
 use Rattle.ledger.specs.Order.{isFree, gathered, heldFrom, held, broughtBy, broughtIn, Latest, Tells, GoesAlong}
-use Rattle.ledger.proofs.Tests.{true≢false, leb-is, leb-no, leb-not, eqb-is}
+use Rattle.ledger.proofs.Tests.{true≢false, leb-no, eqb-is}
 use Rattle.ledger.proofs.Lists.{sum-append, weigh-pop, length-pop, nowhere, All-map, All-of, All-append, All-split, All-front, everywhere-both}
 use Rattle.ledger.proofs.Lists.{everywhere-pop, everywhere-push}
 use Rattle.ledger.proofs.Places.{Place·In, place-number, bit-le}
@@ -29,6 +28,7 @@ use Rattle.ledger.proofs.Keep.{some-queue, len, first-fits, first-node}
 use Rattle.ledger.proofs.Passes.{admits}
 use Rattle.ledger.proofs.Steps.{guarded, picked-some, keep-step, keep-run}
 use Rattle.ledger.proofs.Order.{node-small}
+use Rattle.ledger.proofs.Promises.{turn-sends}
 use Rattle.ledger.proofs.Courses.{actsIn, Faithful, act-answer, act-shows, refused-shows, calls-show, desk-faithful}
 
 -- ---- the latest of its node
@@ -230,22 +230,10 @@ module _ (S : Settings) (ok : Roomy S) where
         (refused-holds a) (result-holds a)
 
     -- what a turn sends is the oldest of some slots, so the latest of its node
-    turn-sends : (p : ℕ) (k : Packet) (t : Side) → step S L (turn p) .0 ≡ leaves k t → Latest k known
-    turn-sends p k t = go (decLe (suc p) (S .ports))
-      where
-        q : ℕ
-        q = pick (lastOf L p) (readyWord S L p)
-
-        sent : (z : Bool) → (z ≡ false → (q < S .queues) × (isEmpty (listAt S L (prefetched p q)) ≡ false)) → p < S .ports
-            → cond z (idle, L) (serve S L p q) .0 ≡ leaves k t → Latest k known
-        sent true f hp i = absurd (let o : _≡_ {A = ℕ} 0 1 = cc in omega arith)
-        sent false f hp i =
-            let same : firstOf S L (prefetched p q) ≡ k = cc in
-            subst (λ (j : Packet). Latest j known) same (first-latest (prefetched p q) (hp, f refl .0) (f refl .1) refl)
-
-        go : Dec (p < S .ports) → step S L (turn p) .0 ≡ leaves k t → Latest k known
-        go (yes hp) = rw (leb-not (S .ports) p hp) (sent (eqb (readyWord S L p) 0) (picked-some S ok L s p hp) hp)
-        go (no n) = rw (leb-is (S .ports) p (omega arith)) (λ i. absurd (let o : _≡_ {A = ℕ} 0 1 = cc in omega arith))
+    sends-latest : (p : ℕ) (k : Packet) (t : Side) → step S L (turn p) .0 ≡ leaves k t → Latest k known
+    sends-latest p k t i =
+        let o = turn-sends S ok L s p k t i in
+        subst (λ (j : Packet). Latest j known) (o .oldest) (first-latest (prefetched p (o .queue)) (o .slots) (o .some) refl)
 
     -- what a stitch tells of is the oldest in ingress
     stitch-tells : (p : ℕ) (b : List ℕ) → step S L (stitch p) .0 ≡ stitched b → (k : Packet) × Latest k known × Tells k b
@@ -296,7 +284,7 @@ module _ {X : Type 0} (call : X → Call → Reply × X) (shows : X → Desk) (l
         shown = shown;
         holds = held-all S (λ k. Latest k known) 0 (N .lists) (λ i h. rw (zero-add i) (later .holds i h));
         sends = λ p k t i.
-            turn-sends S ok known N (keep-run S ok L s (actsIn cs)) later p k t
+            sends-latest S ok known N (keep-run S ok L s (actsIn cs)) later p k t
             (sym (act-answer call shows long faithful S (afterCalls call x cs) N shown (turn p)) ∙ i);
         tells = λ p b i.
             stitch-tells S ok known N (keep-run S ok L s (actsIn cs)) later p b

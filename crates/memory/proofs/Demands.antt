@@ -104,9 +104,9 @@ module _ (m : List ℕ) (S : Settings) (L : Ledger) (e : picture m ≡ has S L) 
   memory-ready-counts p hp = on-state (ready p) ∙ ap (λ (r : Reply × Ledger). r .0) (ready-counts S L p hp)
 
   -- a packet of queue 0 leaves inside, any other outside
-  pub memory-inside-outside : (p : ℕ) → p < S .ports → (k : Packet) (t : Side)
+  pub memory-inside-outside : (p : ℕ) (k : Packet) (t : Side)
       → M (act (turn p)) m .0 ≡ leaves k t → (k .queue ≡ 0 → t ≡ inside) × (0 < k .queue → t ≡ outside)
-  memory-inside-outside p hp k t i = inside-outside S ok L (s .orderly) p hp k t (sym (on-state (turn p)) ∙ i)
+  memory-inside-outside p k t i = inside-outside S ok L (s .orderly) p k t (sym (on-state (turn p)) ∙ i)
 
   -- a header with no fault, at a port of the switch: turned away only for want of credit or of a node
   pub memory-arrival : (p : ℕ) (h : List ℕ) → p < S .ports → Passes (S .queues) p h
