@@ -9,7 +9,7 @@ use Rattle.ledger.specs.Calls.{Reply, refused, done, entry, stitched, idle, lea
 use Rattle.ledger.specs.Desk.{Call}
 use Rattle.ledger.specs.Answers.{numberOf}
 use Rattle.ledger.specs.declared.Refusal.{Refusal}
-use Rattle.ledger.specs.declared.Refusal.the-variants.{ShortMemory, BadSetting, NoState, NoPort, NoQueue, HeaderSize, Checksum, Source, TooShort, NoCredit, NoFreeNode, NothingThere, SlotsInUse, TooMuchCredit, NoSuchId, HeaderQueue, ReservedBit}
+use Rattle.ledger.specs.declared.Refusal.the-variants.{ShortMemory, BadSetting, NoState, NoPort, NoQueue, HeaderSize, Checksum, Source, TooShort, NoCredit, NoFreeNode, NothingThere, SlotsInUse, TooMuchCredit, NoSuchId, HeaderQueue, ReservedBit, ShortRoom}
 use Rattle.memory.specs.Memory.{M}
 use Rattle.memory.proofs.Square.{refusal-keeps-bytes}
 use Rattle.capi.specs.Rooms.{numberIn, toldIn, entryRoom, recordRoom, sentRoom, readyRoom, placeRoom}
@@ -33,6 +33,7 @@ never-zero TooMuchCredit = omega arith
 never-zero NoSuchId = omega arith
 never-zero HeaderQueue = omega arith
 never-zero ReservedBit = omega arith
+never-zero ShortRoom = omega arith
 
 -- a refusal leaves every room as it was lent
 abbrev Keeps : {A : Type 0} → (Reply → A → A) → Type 0

@@ -27,6 +27,10 @@ told out = (numberIn (out .0), out .1)
 abbrev pub toldIn : {A : Type 0} → (Reply → A → A) → A → Reply × List ℕ → ℕ × List ℕ × A
 toldIn room old out = (numberIn (out .0), out .1, room (out .0) old)
 
+-- of a round, which has left its room itself
+abbrev pub toldRound : Reply × List ℕ × List ℕ → ℕ × List ℕ × List ℕ
+toldRound out = (numberIn (out .0), out .1, out .2)
+
 -- of a call that has the memory for reading only: the number and the room
 abbrev pub shown : {A : Type 0} → (Reply → A → A) → A → Reply → ℕ × A
 shown room old x = (numberIn x, room x old)

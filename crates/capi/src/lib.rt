@@ -21,7 +21,8 @@ ghost use Rattle.ledger.specs.Ledger.{portOf};
 ghost use Rattle.ledger.specs.Calls.{arrive, stitch, prefetch, credit, mapTo, turn, ready, whereIs};
 ghost use Rattle.ledger.specs.Desk.{setup, act};
 ghost use Rattle.memory.specs.Memory.{M};
-ghost use Rattle.capi.specs.Rooms.{numberIn, told, toldIn, shown, entryRoom, recordRoom, sideByte, sentBytes, sentRoom, readyRoom, kindByte, queueByte, placeBytes, placeRoom, sizeFor};
+ghost use Rattle.memory.specs.Rounds.{roundOn};
+ghost use Rattle.capi.specs.Rooms.{numberIn, told, toldIn, toldRound, shown, entryRoom, recordRoom, sideByte, sentBytes, sentRoom, readyRoom, kindByte, queueByte, placeBytes, placeRoom, sizeFor};
 
 // ---- what each answer writes
 
@@ -285,4 +286,11 @@ pub extern "C" fn vr_where(mem: &[u8], entry: u32, place: &mut [u8; 8]) -> u32
 {
     let x = asked(entry);
     put_place(switch::where_is(mem, EntryId(x)), x, place)
+}
+
+#[no_mangle]
+pub extern "C" fn vr_round(mem: &mut [u8], turns: &mut [u8]) -> u32
+    ensures { λ r. ⌜ _≡_ {A = ℕ × List ℕ × List ℕ} (r, now (mem .exit), now (turns .exit)) (toldRound (roundOn (now (mem .entry)) (now (turns .entry)))) ⌝ }
+{
+    plain(switch::round(mem, turns))
 }

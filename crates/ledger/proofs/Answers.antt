@@ -7,7 +7,7 @@ use native.Mathlib.Omega.{arith}
 use lib.ListN.{getD}
 use Rattle.ledger.specs.Answers.{numberOf, kindOf, exitOf, sentOf, plainReply, stitchReply, entryReply, turnReply, readyReply, whereReply}
 use Rattle.ledger.specs.declared.Refusal.{Refusal}
-use Rattle.ledger.specs.declared.Refusal.the-variants.{ShortMemory, BadSetting, NoState, NoPort, NoQueue, HeaderSize, Checksum, Source, TooShort, NoCredit, NoFreeNode, NothingThere, SlotsInUse, TooMuchCredit, NoSuchId, HeaderQueue, ReservedBit}
+use Rattle.ledger.specs.declared.Refusal.the-variants.{ShortMemory, BadSetting, NoState, NoPort, NoQueue, HeaderSize, Checksum, Source, TooShort, NoCredit, NoFreeNode, NothingThere, SlotsInUse, TooMuchCredit, NoSuchId, HeaderQueue, ReservedBit, ShortRoom}
 use Rattle.ledger.specs.declared.ListKind.{ListKind}
 use Rattle.ledger.specs.declared.ListKind.the-variants.{Free, Ingress, Egress, Prefetch}
 use Rattle.ledger.specs.declared.Exit.{Exit}
@@ -31,7 +31,7 @@ refusals : List Refusal
 refusals =
     ShortMemory ∷ ShortMemory ∷ BadSetting ∷ NoState ∷ NoPort ∷ NoQueue ∷ HeaderSize ∷ Checksum ∷ Source ∷ TooShort
     ∷ NoCredit ∷ NoFreeNode ∷ NothingThere ∷ SlotsInUse ∷ TooMuchCredit ∷ NoSuchId ∷ ShortMemory ∷ ShortMemory ∷ ShortMemory ∷ HeaderQueue
-    ∷ ReservedBit ∷ []
+    ∷ ReservedBit ∷ ShortMemory ∷ ShortMemory ∷ ShortMemory ∷ ShortMemory ∷ ShortMemory ∷ ShortMemory ∷ ShortRoom ∷ []
 
 refusalOf : ℕ → Refusal
 refusalOf n = getD refusals n ShortMemory
@@ -55,6 +55,7 @@ refusal-back TooMuchCredit = refl
 refusal-back NoSuchId = refl
 refusal-back HeaderQueue = refl
 refusal-back ReservedBit = refl
+refusal-back ShortRoom = refl
 
 pub number-inj : (r s : Refusal) → numberOf r ≡ numberOf s → r ≡ s
 number-inj r s e = sym (refusal-back r) ∙ ap refusalOf e ∙ refusal-back s

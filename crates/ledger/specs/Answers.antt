@@ -4,7 +4,7 @@ use Prim.Native.Nat.{ℕ}
 use Rattle.ledger.specs.Ledger.{Packet, Place, free, ingress, egress, prefetched}
 use Rattle.ledger.specs.Calls.{Side, inside, outside, Reply, refused, done, entry, stitched, idle, leaves, word, found}
 use Rattle.ledger.specs.declared.Refusal.{Refusal}
-use Rattle.ledger.specs.declared.Refusal.the-variants.{ShortMemory, BadSetting, NoState, NoPort, NoQueue, HeaderSize, Checksum, Source, TooShort, NoCredit, NoFreeNode, NothingThere, SlotsInUse, TooMuchCredit, NoSuchId, HeaderQueue, ReservedBit}
+use Rattle.ledger.specs.declared.Refusal.the-variants.{ShortMemory, BadSetting, NoState, NoPort, NoQueue, HeaderSize, Checksum, Source, TooShort, NoCredit, NoFreeNode, NothingThere, SlotsInUse, TooMuchCredit, NoSuchId, HeaderQueue, ReservedBit, ShortRoom}
 use Rattle.ledger.specs.declared.ListKind.{ListKind}
 use Rattle.ledger.specs.declared.ListKind.the-variants.{Free, Ingress, Egress, Prefetch}
 use Rattle.ledger.specs.declared.Exit.{Exit}
@@ -21,7 +21,7 @@ use Rattle.ledger.specs.declared.Readiness.the-variants as words
 use Rattle.ledger.specs.declared.Whereabouts.{Whereabouts}
 use Rattle.ledger.specs.declared.Whereabouts.the-variants as places
 
--- the number of a refusal in the table; 19 and 20 are paper 02's, and 16 to 18 aren't given yet
+-- the number of a refusal in the table; 19, 20 and 27 are paper 02's, and 16 to 18 and 21 to 26 aren't given yet
 abbrev pub numberOf : Refusal → ℕ
 numberOf ShortMemory = 1
 numberOf BadSetting = 2
@@ -40,6 +40,7 @@ numberOf TooMuchCredit = 14
 numberOf NoSuchId = 15
 numberOf HeaderQueue = 19
 numberOf ReservedBit = 20
+numberOf ShortRoom = 27
 
 abbrev pub kindOf : ListKind → Place
 kindOf (Free p) = free p

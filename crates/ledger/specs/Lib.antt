@@ -7,6 +7,8 @@ pub mod Calls
 pub mod Desk
 pub mod Sound
 pub mod Demand
+pub mod Rounds
+pub mod Door
 pub mod Order
 pub mod Night
 pub mod Answers

@@ -1,5 +1,6 @@
-// The nine calls of the queue manager, for any memory and any numbers: nothing has to be checked by the caller. Each contract is an
-// equation that fixes answer and memory: (reply, memory after) is M of the call and the memory before.
+// The nine calls of the queue manager and the round, for any memory and any numbers: nothing has to be checked by the caller. Each contract
+// is an equation that fixes answer and memory: (reply, memory after) is M of the call and the memory before; of the round, roundOn of the
+// memory and the room.
 use ledger::Entry;
 use ledger::EntryId;
 use ledger::Plain;
@@ -17,6 +18,7 @@ ghost use Rattle.ledger.specs.Answers.{plainReply, stitchReply, entryReply, tur
 ghost use Rattle.ledger.specs.Calls.{Reply, arrive, stitch, prefetch, credit, mapTo, turn, ready, whereIs};
 ghost use Rattle.ledger.specs.Desk.{act};
 ghost use Rattle.memory.specs.Memory.{M};
+ghost use Rattle.memory.specs.Rounds.{roundOn};
 ghost use Rattle.moves.specs.Stitched.{recordIn};
 ghost use Rattle.setup.specs.Told.{callOf};
 
@@ -114,5 +116,16 @@ pub fn where_is(m: &[u8], id: EntryId) -> Whereabouts
     match sound::test(m) {
         Tested::State(s) => finds::where_is(m, s, id),
         Tested::NoState => Whereabouts::No(Refusal::NoState),
+    }
+}
+
+// Round: a stitch at each port, a prefetch for each port and queue, a turn at each port; each port's turn is told in four bytes of the room.
+pub fn round(m: &mut [u8], turns: &mut [u8]) -> Plain
+    ensures { λ r. ⌜ _≡_ {A = Reply × List ℕ × List ℕ} (plainReply r, now (m .exit), now (turns .exit)) (roundOn (now (m .entry)) (now (turns .entry))) ⌝ }
+{
+    let tested = sound::test(m);
+    match tested {
+        Tested::State(s) => rounds::round(m, s, turns),
+        Tested::NoState => Plain::No(Refusal::NoState),
     }
 }
