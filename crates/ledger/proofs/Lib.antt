@@ -10,9 +10,13 @@ pub mod Steps
 pub mod Find
 pub mod Start
 pub mod Decide
-pub mod Waits
 pub mod Promises
 pub mod Courses
+pub mod Walk
+pub mod Line
+pub mod Waits
+pub mod Chances
+pub mod Door
 pub mod Order
 pub mod Records
 pub mod Night

@@ -18,7 +18,8 @@ use Rattle.ledger.proofs.Rows.{roomy, this-build}
 use Rattle.ledger.proofs.Find.{where-right}
 use Rattle.ledger.proofs.Passes.{Passes}
 use Rattle.ledger.proofs.Promises.{inside-outside, ready-counts, means-sound, Wanting, sound-arrival, OnePlace, each-in-one-place}
-use Rattle.ledger.proofs.Courses.{Faithful, act-answer, act-shows, nobody-starves-from, this-build-from}
+use Rattle.ledger.proofs.Courses.{Faithful, act-answer, act-shows}
+use Rattle.ledger.proofs.Waits.{nobody-starves-from, this-build-from}
 use Rattle.ledger.proofs.Order.{keeps-order}
 use Rattle.ledger.proofs.Records.{goes-along}
 use Rattle.ledger.proofs.Night.{whose-node, arrival-shows, pool-kept}

@@ -11,3 +11,4 @@ pub mod Square
 pub mod Demands
 pub mod Past
 pub mod Judged
+pub mod Door
