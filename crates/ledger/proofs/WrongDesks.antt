@@ -1,18 +1,21 @@
 -- What the statements over many calls exclude: of each wrong desk here the statement is false. Assumes nothing.
-use mathlib.Core.Path.{_≡_, refl, sym, ap, _∙_}
+use mathlib.Core.Path.{_≡_, refl, sym, ap, _∙_, subst}
 use mathlib.Core.Bool.{true, false, cond}
 use mathlib.Core.List.{List, [], _∷_, _++_, map, reverse}
-use Prim.Native.Nat.{ℕ, zero, suc, _+_, _*_, _<_}
+use Prim.Native.Nat.{ℕ, zero, suc, _+_, _*_, _≤_, _<_}
 use native.Mathlib.Omega.{arith}
 use lib.ListN.{length, getD, replicate}
+use lib.Dec.{ltb}
 use Rattle.ledger.specs.Settings.{Settings, settings, row}
 use Rattle.ledger.specs.Ledger.{owner, Packet, free, place#, placeOf, Ledger, pop, start}
-use Rattle.ledger.specs.Calls.{arrive, turn, ready, Side, outside, Reply, refused, entry, idle, leaves, isRefused, sideOf}
-use Rattle.ledger.specs.Desk.{Desk, none, has, Call, act, desk, SetupsRefused}
+use Rattle.ledger.specs.Calls.{Act, arrive, turn, ready, Side, outside, Reply, refused, entry, stitched, idle, leaves, isRefused, sideOf}
+use Rattle.ledger.specs.Desk.{Desk, none, has, Call, act, desk, afterCalls, SetupsRefused}
 use Rattle.ledger.specs.Demand.{turnsIn, Stands, InHand, NobodyStarvesFrom}
 use Rattle.ledger.specs.Order.{idsAt, KeepsOrder, GoesAlong}
 use Rattle.ledger.specs.Night.{Arrival, turned-away, taken, PoolKept}
-use Rattle.ledger.proofs.Tests.{true≢false, eqb-is}
+use Rattle.ledger.specs.Rounds.{roundActs, Deed, round, Done, wholeRound, ofTurn}
+use Rattle.ledger.specs.Door.{InIngress, CreditFor, roundsFor, callsOf, roundsIn, roundsBefore, doneFrom, StitchedAt, StitchedSoonFrom, LeavesSoonFrom}
+use Rattle.ledger.proofs.Tests.{true≢false, eqb-is, ltb-not}
 
 -- ---- demand 3: a desk that answers every call alike and changes nothing, be the answer idle or a refusal
 
@@ -42,6 +45,66 @@ module _ (S : Settings) (L : Ledger) (p q : ℕ) (hp : p < S .ports) (hq : q < S
 
   pub starves-refused : (n : ℕ) → NobodyStarvesFrom (λ D c. (refused n, D)) (λ D. D) S L (S .ports) (S .queues) (has S L) → ⊥
   starves-refused n = starves-alike (refused n) (λ s e. let z : _≡_ {A = ℕ} 0 1 = cc in omega arith)
+
+-- ---- from door to door
+
+-- calls that are acts have no setup among them
+no-setups : {X : Type 0} (call : X → Call → Reply × X) (acts : List Act) (cs : List Call) (x : X)
+    → SetupsRefused call (afterCalls call x (map act acts)) cs → SetupsRefused call x (map act acts ++ cs)
+no-setups call [] cs x f = f
+no-setups call (a ∷ acts) cs x f = ((λ i. absurd (true≢false (sym i))), no-setups call acts cs (call x (act a) .1) f)
+
+-- a desk that answers every call alike and changes nothing: no round stitches
+module _ (S : Settings) (L : Ledger) (r : ℕ) (hr : r < S .ports) (ahead : List Packet) (k : Packet) (here : InIngress S r k ahead L) (rep : Reply) where
+  abbrev alike : Desk → Call → Reply × Desk
+  alike D c = (rep, D)
+
+  abbrev rounds : ℕ → List Deed
+  rounds n = replicate n (round (4 * S .ports))
+
+  abbrev did : ℕ → List Done
+  did n = doneFrom alike (λ D. D) (has S L) (rounds n)
+
+  nothing-changed : (cs : List Call) (D : Desk) → afterCalls alike D cs ≡ D
+  nothing-changed [] D = refl
+  nothing-changed (c ∷ cs) D = nothing-changed cs D
+
+  one-more : (n : ℕ) → did (suc n) ≡ wholeRound S ∷ did n
+  one-more n =
+      let fits = ltb-not (4 * S .ports) (4 * S .ports) (omega arith) in
+      rw (fits, nothing-changed (map act (roundActs S)) (has S L))
+
+  all-rounds : (n : ℕ) → roundsIn (did n) ≡ n
+  all-rounds zero = refl
+  all-rounds (suc n) = ap roundsIn (one-more n) ∙ ap (λ (i : ℕ). 1 + i) (all-rounds n) ∙ omega arith
+
+  all-acts : (n : ℕ) → SetupsRefused alike (has S L) (callsOf (did n))
+  all-acts zero = tt
+  all-acts (suc n) =
+      subst (λ (ds : List Done). SetupsRefused alike (has S L) (callsOf ds)) (sym (one-more n))
+      (no-setups alike (roundActs S) (callsOf (did n)) (has S L)
+      (rw (nothing-changed (map act (roundActs S)) (has S L)) (all-acts n)))
+
+  pub never-stitched : ((b : List ℕ) → rep ≡ stitched b → ⊥) → StitchedSoonFrom alike (λ D. D) S L (has S L) → ⊥
+  never-stitched other f =
+      let o = f r hr ahead k here (rounds (length ahead + 1)) (all-acts (length ahead + 1)) (omega (arith, all-rounds (length ahead + 1))) in
+      other _ (o .it-is .answer)
+
+-- a desk at which everything goes right but the turns, which are idle: who is stitched does not leave
+abbrev pub idleTurns : ℕ → Desk → Call → Reply × Desk
+idleTurns n D c = cond (ltb (length (ofTurn c idle)) 1) (desk n D c) (idle, D)
+
+pub never-leaves : (n : ℕ) (S : Settings) (D : Desk) (r : ℕ) → r < S .ports → (k : Packet)
+    → (deeds : List Deed) → SetupsRefused (idleTurns n) D (callsOf (doneFrom (idleTurns n) (λ E. E) D deeds))
+    → (t : ℕ) (M : Ledger) → StitchedAt (idleTurns n) (λ E. E) S r k M D (callsOf (doneFrom (idleTurns n) (λ E. E) D deeds)) t
+    → CreditFor S M k
+    → roundsBefore (doneFrom (idleTurns n) (λ E. E) D deeds) t + roundsFor S M k ≤ roundsIn (doneFrom (idleTurns n) (λ E. E) D deeds)
+    → LeavesSoonFrom (idleTurns n) (λ E. E) S D → ⊥
+never-leaves n S D r hr k deeds f t M at hand h g =
+    let o = g r hr k deeds f t M at hand h in
+    let e = o .it-does .it-leaves in
+    let z : _≡_ {A = ℕ} 0 1 = cc in
+    omega arith
 
 -- ---- queues keep their order: a desk that answers right and turns every list round at each call
 
