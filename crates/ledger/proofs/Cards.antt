@@ -9,8 +9,9 @@ use Rattle.ledger.specs.Ledger.{isNode, recorded, place#, placeOf, cell,
 use Rattle.ledger.specs.Ready.{isReady, wordOf, readyWord, maskedAbove, pick}
 use Rattle.ledger.specs.Calls.{arrived, stitchRecord, served}
 use Rattle.ledger.specs.Sound.{All}
+use Rattle.ledger.specs.Rounds.{roundActs, answerBytes, bytesOf, answersIn}
 use Rattle.ledger.specs.Cards.{Holds, cards}
 
 pub cards-hold : All Holds cards
-unfolding number bits crcBit crcBits crcByte crcFrom crc8 isBeat inRows row size fieldsOf price isNode recorded place# placeOf cell creditAt setCredit pop push move putArrival putOutward putLast putMap start isReady wordOf readyWord maskedAbove pick arrived stitchRecord served lib.Count.ones lib.Count.trailingZeros
-cards-hold = (refl, (refl, (refl, (refl, (refl, (refl, (refl, (refl, (refl, (refl, (refl, (refl, (refl, (refl, (refl, (refl, (refl, (refl, (refl, (refl, (refl, tt)))))))))))))))))))))
+unfolding number bits crcBit crcBits crcByte crcFrom crc8 isBeat inRows row size fieldsOf price isNode recorded place# placeOf cell creditAt setCredit pop push move putArrival putOutward putLast putMap start isReady wordOf readyWord maskedAbove pick arrived stitchRecord served roundActs answerBytes bytesOf answersIn lib.Count.ones lib.Count.trailingZeros
+cards-hold = (refl, (refl, (refl, (refl, (refl, (refl, (refl, (refl, (refl, (refl, (refl, (refl, (refl, (refl, (refl, (refl, (refl, (refl, (refl, (refl, (refl, (refl, (refl, (refl, tt))))))))))))))))))))))))

@@ -16,6 +16,7 @@ pub mod Walk
 pub mod Line
 pub mod Waits
 pub mod Chances
+pub mod Ingress
 pub mod Door
 pub mod Order
 pub mod Records

@@ -16,7 +16,7 @@ use Rattle.ledger.specs.Ready.{bit, covered, isReady, readyWord, pick}
 use Rattle.ledger.specs.Calls.{Act, arrive, stitch, prefetch, credit, mapTo, turn, ready, whereIs, Reply, refused, idle, leaves, sideOf, isEmpty, firstOf, arriving, arrived, served, serve, turned, rules, result, step}
 use Rattle.ledger.specs.Sound.{sum, Orderly, Roomy}
 use Rattle.ledger.specs.Demand.{isTurn, InHand}
-use Rattle.ledger.specs.Door.{lineOf, InLine}
+use Rattle.ledger.specs.Door.{lineOf}
 use Rattle.ledger.proofs.Tests.{true≢false, leb-is, leb-no, leb-not, eqb-is, eqb-yes, eqb-no, or-is, or-is-right}
 use Rattle.ledger.proofs.Lists.{cons-form}
 use Rattle.ledger.proofs.Places.{Place·In, credit-same, credit-other}

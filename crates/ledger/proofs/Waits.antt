@@ -3,7 +3,7 @@
 use mathlib.Core.Path.{_≡_, refl, sym, ap, ap₂, _∙_, subst}
 use mathlib.Core.Bool.{Bool, true, false, _&&_}
 use mathlib.Core.List.{List, [], _∷_, _++_, append-assoc}
-use Prim.Native.Nat.{ℕ, zero, suc, _+_, _*_, _≤_, _<_}
+use Prim.Native.Nat.{ℕ, _+_, _*_, _≤_, _<_}
 use native.Mathlib.Nat.{le-of-suc-le-suc, not-suc-le-zero}
 use native.Mathlib.Omega.{arith}
 use lib.ListN.{length, drop, take, length-append}
@@ -16,7 +16,7 @@ use Rattle.ledger.specs.Sound.{Roomy, Orderly, Sound}
 use Rattle.ledger.specs.Demand.{isTurn, Stands, turnsIn, ShowsWaiting, NobodyStarvesFrom, NobodyStarvesAtDesk, NobodyStarvesAtDesk24}
 use Rattle.ledger.proofs.Rows.{roomy, this-build}
 use Rattle.ledger.proofs.Courses.{first-refused, Faithful, act-answer, act-shows, refused-shows, desk-faithful}
-use Rattle.ledger.proofs.Walk.{Does, ends, nears, Course, Waiting, Standing, countCalls, comes-in}
+use Rattle.ledger.proofs.Walk.{Does, ends, nears, Course, Standing, countCalls, comes-in}
 use Rattle.ledger.proofs.Line.{isChance, Leaving, Waits, waits-some, waits-move, waits-from}
 
 -- what stands within the first of two lists stands in that list

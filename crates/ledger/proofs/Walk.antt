@@ -1,15 +1,14 @@
 -- How a wait goes through calls: where every act ends it, or leaves a wait that is shorter if the act counts, its end comes before too many
 -- have counted; and where every round has an act that counts, before too many rounds are over. Assumes nothing.
-use mathlib.Core.Path.{_≡_, refl, sym, ap, _∙_, subst}
-use mathlib.Core.Bool.{Bool, true, false, cond}
+use mathlib.Core.Path.{_≡_, refl, ap, _∙_}
+use mathlib.Core.Bool.{Bool, true, false}
 use mathlib.Core.List.{List, [], _∷_, _++_, map}
 use Prim.Native.Nat.{ℕ, zero, suc, _+_, _-_, _≤_, _<_, zero-le, suc-le-suc}
 use native.Mathlib.Nat.{le-of-suc-le-suc}
 use native.Mathlib.Omega.{arith}
 use native.Mathlib.Decide.{decLe}
-use lib.ListN.{length, getD, take, drop, length-append, length-drop, List·getD-append}
-use lib.Seq.{take-append-le, take-append-add, drop-append-le, drop-append-add, getD-append-add}
-use lib.Dec.{ltb}
+use lib.ListN.{length, getD, take, length-append, List·getD-append}
+use lib.Seq.{take-append-le, take-append-add, getD-append-add}
 use Rattle.ledger.specs.Settings.{Settings}
 use Rattle.ledger.specs.Ledger.{Ledger}
 use Rattle.ledger.specs.Ready.{bit}

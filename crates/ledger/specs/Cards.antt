@@ -1,14 +1,15 @@
--- Paper 01, "Bench cards": the starred cards, the cases of paper 02, Q-3, Q-5 and Q-6, and packets that cross from port to port: a single
--- table. The claim that they hold is that of proofs/Cards.antt. Assumes nothing.
+-- Paper 01, "Bench cards": the starred cards, the cases of paper 02, Q-3, Q-5, Q-6 and Q-12, and packets that cross from port to port: a
+-- single table. The claim that they hold is that of proofs/Cards.antt. Assumes nothing.
 use mathlib.Core.Path.{_≡_}
 use mathlib.Core.List.{List, [], _∷_, _++_, map}
 use Prim.Native.Nat.{ℕ, zero, suc, _+_, _-_, _*_, _/_, _%_}
-use lib.ListN.{drop}
+use lib.ListN.{length, drop}
 use Rattle.crc.specs.Crc.{crc8}
 use Rattle.ledger.specs.Ledger.{Packet, free, ingress, egress, prefetched}
 use Rattle.ledger.specs.Calls.{arrive, stitch, prefetch, credit, mapTo, turn, ready, whereIs, inside, outside, Reply, refused, done, entry}
 use Rattle.ledger.specs.Calls.{stitched, idle, leaves, word, found}
-use Rattle.ledger.specs.Desk.{none, Call, setup, act, replies}
+use Rattle.ledger.specs.Desk.{none, Call, setup, act, replies, after}
+use Rattle.ledger.specs.Rounds.{roundReply, answersIn, round, doneBy, turnAnswers}
 
 -- the nine bytes before the checksum, timestamp and transaction 0; flags: 2 poisoned, 1 the reserved bit
 abbrev pub nine : ℕ → ℕ → ℕ → ℕ → ℕ → List ℕ
@@ -56,10 +57,12 @@ seen (word w n) = w
 seen (found v i) = 100
 
 -- A memory of zero bytes, which is no switch state, is called so. A card says how many bytes are lent and what the replies are;
--- or, with 65,536 lent and after so many replies, by which queues packets leave and which queues are ready then.
+-- or, with 65,536 lent and after so many replies, by which queues packets leave and which queues are ready then;
+-- or, after calls, what a round into a room answers and leaves in it.
 pub data Card : Type 0 where
   lent : ℕ → List Call → List Reply → Card
   serves : List Call → ℕ → List ℕ → Card
+  rounds : List Call → List ℕ → Reply → List ℕ → Card
 
 -- 65,536 bytes are lent
 abbrev pub says : List Call → List Reply → Card
@@ -68,6 +71,10 @@ says = lent 65536
 abbrev pub Holds : Card → Type 0
 Holds (lent bytes calls rs) = replies bytes none calls ≡ rs
 Holds (serves calls before qs) = map seen (drop before (replies 65536 none calls)) ≡ qs
+Holds (rounds calls room reply told) =
+    let D = after 65536 none calls in
+    let cs = doneBy D (round (length room)) .calls in
+    _≡_ {A = Reply × List ℕ} (roundReply D (length room), answersIn (turnAnswers cs (replies 65536 D cs)) room) (reply, told)
 
 abbrev pub twelve : List ℕ
 twelve = 0 ∷ 0 ∷ 0x30 ∷ 0 ∷ 0 ∷ 0 ∷ 0 ∷ 0 ∷ 0 ∷ 0x72 ∷ []
@@ -140,6 +147,11 @@ crossing =
     ∷ leaves (record { node = 2050; len = 12; queue = 0; dest = 3; stamp = 0; poisoned = 0; transaction = 0; price = 0 }) inside
     ∷ leaves (crossed 2048) outside ∷ word 0 0 ∷ idle ∷ found (free 1) 2 ∷ [])
 
+-- before a round, with credit at port 2 for one of the two that cross: one of queue 0 has come in at port 0, and two at port 1
+abbrev pub waiting : List Call
+waiting =
+    setup 4 64 2 200 ∷ act (mapTo 3 2) ∷ act (arrive 0 twelve) ∷ act (arrive 1 across) ∷ act (arrive 1 across) ∷ act (credit 2 5 3) ∷ []
+
 abbrev pub cards : List Card
 cards =
     says (setup 1 64 1 16 ∷ act (arrive 0 (zeros 10)) ∷ act (arrive 1 (zeros 10)) ∷ [])
@@ -171,4 +183,8 @@ cards =
     (done ∷ refused 20 ∷ refused 19 ∷ refused 19 ∷ entry 0 ∷ [])
     ∷ one-by-one 24 ∷ one-by-one 31
     ∷ crossing
+    ∷ rounds [] (zeros 15) (refused 3) (zeros 15)
+    ∷ rounds waiting (zeros 15) (refused 27) (zeros 15)
+    ∷ rounds waiting (zeros 16 ++ (7 ∷ 7 ∷ [])) done
+    (0 ∷ 0 ∷ 0 ∷ 0 ∷ 0 ∷ 1 ∷ 0 ∷ 0 ∷ 0 ∷ 0 ∷ 8 ∷ 0 ∷ 0 ∷ 1 ∷ 0 ∷ 0 ∷ 7 ∷ 7 ∷ [])
     ∷ []

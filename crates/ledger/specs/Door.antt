@@ -1,7 +1,7 @@
 -- Paper 02, Q-12, from door to door, as statements: how soon a packet comes from its ingress list to a line, and out of the switch, when
 -- rounds come among the calls. Assumes nothing.
 use mathlib.Core.Path.{_≡_}
-use mathlib.Core.Bool.{Bool, true, false, cond}
+use mathlib.Core.Bool.{cond}
 use mathlib.Core.List.{List, [], _∷_, _++_}
 use Prim.Native.Nat.{ℕ, suc, _+_, _-_, _*_, _≤_, _<_}
 use lib.ListN.{length, getD, take}
