@@ -11,9 +11,11 @@ use lib.Seq.{getD-set-same, getD-set-other}
 use lib.Dec.{eqb, leb}
 use Rattle.ledger.specs.Settings.{Settings}
 use Rattle.ledger.specs.Rules.{Clear}
-use Rattle.ledger.specs.Ledger.{owner, Packet, bare, recorded, Place, free, ingress, egress, prefetched, place#, Ledger, listAt, outwardOf, lastOf, mapOf, creditAt, setCredit, cell, move, putArrival, putOutward, putLast, putMap}
+use Rattle.ledger.specs.Ledger.{owner, Packet, bare, recorded, Place, free, ingress, egress, prefetched, place#, Ledger, listAt, outwardOf}
+use Rattle.ledger.specs.Ledger.{lastOf, mapOf, creditAt, setCredit, cell, move, putArrival, putOutward, putLast, putMap}
 use Rattle.ledger.specs.Ready.{bit, covered, isReady, readyWord, pick}
-use Rattle.ledger.specs.Calls.{Act, arrive, stitch, prefetch, credit, mapTo, turn, ready, whereIs, Reply, refused, idle, leaves, sideOf, isEmpty, firstOf, arriving, arrived, served, serve, turned, rules, result, step}
+use Rattle.ledger.specs.Calls.{Act, arrive, stitch, prefetch, credit, mapTo, turn, ready, whereIs, Reply, refused, idle, leaves, sideOf}
+use Rattle.ledger.specs.Calls.{isEmpty, firstOf, arriving, arrived, served, serve, turned, rules, result, step}
 use Rattle.ledger.specs.Sound.{sum, Orderly, Roomy}
 use Rattle.ledger.specs.Demand.{isTurn, InHand}
 use Rattle.ledger.specs.Door.{lineOf}

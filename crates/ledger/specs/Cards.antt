@@ -147,10 +147,16 @@ crossing =
     ∷ leaves (record { node = 2050; len = 12; queue = 0; dest = 3; stamp = 0; poisoned = 0; transaction = 0; price = 0 }) inside
     ∷ leaves (crossed 2048) outside ∷ word 0 0 ∷ idle ∷ found (free 1) 2 ∷ [])
 
--- before a round, with credit at port 2 for one of the two that cross: one of queue 0 has come in at port 0, and two at port 1
+-- before a round: one of queue 0 has come in at port 0, two of queue 5 for port 2 at port 1, with outward credit for one of them, and one of
+-- the last queue for port 3 at port 2
 abbrev pub waiting : List Call
 waiting =
-    setup 4 64 2 200 ∷ act (mapTo 3 2) ∷ act (arrive 0 twelve) ∷ act (arrive 1 across) ∷ act (arrive 1 across) ∷ act (credit 2 5 3) ∷ []
+    setup 4 64 2 200 ∷ act (mapTo 3 2) ∷ act (mapTo 1 3) ∷ act (arrive 0 twelve) ∷ act (arrive 1 across) ∷ act (arrive 1 across)
+    ∷ act (arrive 2 full) ∷ act (credit 2 5 3) ∷ act (credit 3 23 128) ∷ []
+
+-- then all but port 1, which has nothing, send a packet
+abbrev pub sixteen : List ℕ
+sixteen = 0 ∷ 0 ∷ 0 ∷ 0 ∷ 0 ∷ 1 ∷ 0 ∷ 0 ∷ 0 ∷ 0 ∷ 8 ∷ 0 ∷ 0 ∷ 0 ∷ 16 ∷ 0 ∷ []
 
 abbrev pub cards : List Card
 cards =
@@ -185,6 +191,6 @@ cards =
     ∷ crossing
     ∷ rounds [] (zeros 15) (refused 3) (zeros 15)
     ∷ rounds waiting (zeros 15) (refused 27) (zeros 15)
-    ∷ rounds waiting (zeros 16 ++ (7 ∷ 7 ∷ [])) done
-    (0 ∷ 0 ∷ 0 ∷ 0 ∷ 0 ∷ 1 ∷ 0 ∷ 0 ∷ 0 ∷ 0 ∷ 8 ∷ 0 ∷ 0 ∷ 1 ∷ 0 ∷ 0 ∷ 7 ∷ 7 ∷ [])
+    ∷ rounds waiting (zeros 16) done sixteen
+    ∷ rounds waiting (zeros 16 ++ (7 ∷ 7 ∷ [])) done (sixteen ++ (7 ∷ 7 ∷ []))
     ∷ []
