@@ -24,3 +24,4 @@ pub mod Night
 pub mod WrongDesks
 pub mod Answers
 pub mod Cards
+pub mod Told

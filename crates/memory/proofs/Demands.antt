@@ -24,8 +24,8 @@ use Rattle.ledger.proofs.Order.{keeps-order}
 use Rattle.ledger.proofs.Records.{goes-along}
 use Rattle.ledger.proofs.Night.{whose-node, arrival-shows, pool-kept}
 use Rattle.layout.specs.Tables.{lists}
-use Rattle.layout.specs.Picture.{settingsIn, ledgerIn, State}
-use Rattle.memory.specs.Memory.{state-dec, deskOf, picture, tested, M}
+use Rattle.layout.specs.Picture.{settingsIn, ledgerIn, StateOf, State}
+use Rattle.memory.specs.Memory.{state-dec, deskOf, picture, acted, tested, M}
 use Rattle.memory.specs.Demands.{onMemory, NobodyStarvesInMemory, NobodyStarvesInMemory24}
 use Rattle.memory.proofs.Chains.{node-below, state-tidy, list-length, count-bound}
 use Rattle.memory.proofs.Picture.{picture-state}
@@ -128,6 +128,15 @@ off-state m n a = go (state-dec m)
     go : (d : Dec (State m)) → tested m d a ≡ (refused 3, m)
     go (yes t) = absurd (n t)
     go (no k) = refl
+
+-- and on a state of these settings the act is the call
+pub on-settings : (S : Settings) (m : List ℕ) → settingsIn m ≡ S → StateOf S m → (a : Act) → acted S m a ≡ M (act a) m
+unfolding M
+on-settings S m e s a = go (state-dec m)
+  where
+    go : (d : Dec (State m)) → acted S m a ≡ tested m d a
+    go (yes t) = ap (λ (T : Settings). acted T m a) (sym e)
+    go (no n) = absurd (n (subst (λ (T : Settings). StateOf T m) (sym e) s))
 
 -- ---- where, on memory: entry ids and positions stay below 2,048 for each port
 

@@ -11,4 +11,5 @@ pub mod Square
 pub mod Demands
 pub mod Past
 pub mod Judged
+pub mod Rounds
 pub mod Door

@@ -1,6 +1,7 @@
 // The round, on a memory that is a switch state: one stitch at each port in order, then one prefetch for each port and queue, then one turn
 // at each port, told in lent room. A refusal inside changes nothing, and the round goes on.
 use layout::Shape;
+use ledger::Entry;
 use ledger::Plain;
 use ledger::Refusal;
 use ledger::Turned;
@@ -19,7 +20,7 @@ ghost use Rattle.memory.specs.Rounds.{afterActs, answersTo, rounded};
 // One stitch at each port, in order.
 fn stitch_each(m: &mut [u8], s: Shape)
     requires { ⌜ Works s (now m) ⌝ }
-    ensures { λ _. ⌜ now (m .exit) ≡ afterActs (settingsOf s) (now (m .entry)) (stitches (settingsOf s)) ⌝ }
+    ensures { λ _. ⌜ (now (m .exit) ≡ afterActs (settingsOf s) (now (m .entry)) (stitches (settingsOf s))) × Works s (now (m .exit)) ⌝ }
 {
     let ports = s.ports;
     let mut p = 0;
@@ -27,6 +28,14 @@ fn stitch_each(m: &mut [u8], s: Shape)
         moves::stitch(m, s, p as u32);
         p += 1;
     }
+}
+
+// The queue after q, whatever the prefetch at q answered: a refusal is passed over.
+fn next(_: Entry, q: usize) -> usize
+    requires { ⌜ q < 64 ⌝ }
+    ensures { λ r. ⌜ r ≡ q + 1 ⌝ }
+{
+    q + 1
 }
 
 // One prefetch for each queue of port p, from 0 on.
@@ -37,15 +46,15 @@ fn prefetch_port(m: &mut [u8], s: Shape, p: u32)
     let queues = s.queues;
     let mut q = 0;
     while q < queues {
-        moves::prefetch(m, s, p, q as u32);
-        q += 1;
+        let answer = moves::prefetch(m, s, p, q as u32);
+        q = next(answer, q);
     }
 }
 
 // One prefetch for each port and queue, port by port.
 fn prefetch_each(m: &mut [u8], s: Shape)
     requires { ⌜ Works s (now m) ⌝ }
-    ensures { λ _. ⌜ now (m .exit) ≡ afterActs (settingsOf s) (now (m .entry)) (prefetches (settingsOf s)) ⌝ }
+    ensures { λ _. ⌜ (now (m .exit) ≡ afterActs (settingsOf s) (now (m .entry)) (prefetches (settingsOf s))) × Works s (now (m .exit)) ⌝ }
 {
     let ports = s.ports;
     let mut p = 0;
@@ -93,7 +102,7 @@ fn turn_port(m: &mut [u8], s: Shape, p: usize, room: &mut [u8])
 // One turn at each port, in order.
 fn turn_each(m: &mut [u8], s: Shape, room: &mut [u8])
     requires { ⌜ Works s (now m) × (4 * s .ports ≤ length (now room)) ⌝ }
-    ensures { λ _. ⌜ (now (m .exit) ≡ afterActs (settingsOf s) (now (m .entry)) (turns (settingsOf s))) × (now (room .exit) ≡ answersIn (answersTo (settingsOf s) (now (m .entry)) (turns (settingsOf s))) (now (room .entry))) ⌝ }
+    ensures { λ _. ⌜ (now (m .exit) ≡ afterActs (settingsOf s) (now (m .entry)) (turns (settingsOf s))) × Works s (now (m .exit)) × (now (room .exit) ≡ answersIn (answersTo (settingsOf s) (now (m .entry)) (turns (settingsOf s))) (now (room .entry))) ⌝ }
 {
     let ports = s.ports;
     let mut p = 0;

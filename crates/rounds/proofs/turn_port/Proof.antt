@@ -1,0 +1,51 @@
+-- `rounds::turn_port` meets its contract: the turn's answer, in its four bytes. Assumes nothing.
+use mathlib.Core.Path.{_≡_, ap}
+use mathlib.Core.List.{List}
+use Prim.Native.Nat.{ℕ}
+use borrow.Author.Needs.{needs}
+use Rattle.ledger.specs.Calls.{Reply}
+use Rattle.rounds.proofs.turn_port.Statement.{statement}
+use Rattle.rounds.proofs.turn_port.Tie as tie
+
+cast-turn : tie.Need-cast-turn
+cast-turn c = search needs
+
+turn-requires : tie.Need-turn-requires
+turn-requires c κs = search needs
+
+told-requires : tie.Need-told-requires
+told-requires c κs = search needs
+
+mul-put : tie.Need-mul-put
+mul-put c = search needs
+
+put-requires : tie.Need-put-requires
+put-requires c κs = search needs
+
+same-length : tie.Need-same-length
+same-length c = search needs
+
+same-length-2 : tie.Need-same-length-2
+same-length-2 c = search needs
+
+returns : tie.Need-returns
+returns c =
+    let put = c .before .before in
+    let told = put .before .before in
+    let turn = told .before .before .before in (
+      ap (λ (o : Reply × List ℕ). o .1) (turn .turn .ensures),
+      rw (← ap (λ (o : Reply × List ℕ). o .0) (turn .turn .ensures), ← told .told .ensures) (put .put .ensures),
+    )
+
+pub turn-port-spec : {M : Type 1} → statement M
+turn-port-spec =
+    tie.close
+    (tie.spec
+    cast-turn
+    turn-requires
+    told-requires
+    mul-put
+    put-requires
+    same-length
+    same-length-2
+    returns)
