@@ -1,7 +1,7 @@
 -- A round on memory: roundOn, the function that its contract names. The memory is tested once. That this is what the same calls leave and
 -- answer one by one is `round-is-calls` (proofs/Rounds.antt). Assumes nothing.
 use mathlib.Core.Path.{_≡_}
-use mathlib.Core.List.{List, [], _∷_, _++_}
+use mathlib.Core.List.{List, [], _∷_, _++_, map}
 use Prim.Native.Nat.{ℕ}
 use lib.ListN.{length}
 use Rattle.ledger.specs.Settings.{Settings}
@@ -9,10 +9,11 @@ use Rattle.ledger.specs.Rules.{guard}
 use Rattle.ledger.specs.Ledger.{Ledger}
 use Rattle.ledger.specs.Calls.{Act, Reply, refused, done}
 use Rattle.ledger.specs.Desk.{has, Call, afterCalls, answersOf}
-use Rattle.ledger.specs.Rounds.{stitches, prefetches, turns, roundActs, roundRules, roundReply, answersIn, round, doneBy, turnAnswers}
-use Rattle.ledger.specs.Door.{LeavesSoonFrom, DoorToDoorFrom, NobodyStarvesInRoundsFrom}
+use Rattle.ledger.specs.Rounds.{stitches, prefetches, turns, roundActs, roundRules, roundReply, answersIn, Deed, one, round, doneBy}
+use Rattle.ledger.specs.Rounds.{turnAnswers}
+use Rattle.ledger.specs.Door.{callsOf, doneFrom, LeavesSoonFrom, DoorToDoorFrom, NobodyStarvesInRoundsFrom}
 use Rattle.layout.specs.Picture.{settingsIn, State}
-use Rattle.memory.specs.Memory.{state-dec, picture, acted}
+use Rattle.memory.specs.Memory.{state-dec, picture, acted, M}
 use Rattle.memory.specs.Demands.{onMemory}
 
 -- acts one after another on a memory that is a switch state: what they leave, and their answers
@@ -54,6 +55,30 @@ RoundIsCalls =
       afterCalls onMemory m (roundCalls m room),
       answersIn (turnAnswers (roundCalls m room) (answersOf onMemory m (roundCalls m room))) room,
     )
+
+-- ---- rounds among calls
+
+-- what is done on a memory: a call, or a round into a room that is lent to it
+pub data LentDeed : Type 0 where
+  a-call : Call → LentDeed
+  a-round : List ℕ → LentDeed
+
+abbrev pub deedOf : LentDeed → Deed
+deedOf (a-call c) = one c
+deedOf (a-round room) = round (length room)
+
+-- what is left of the memory, by the functions that the contracts name
+abbrev pub leftBy : List ℕ → LentDeed → List ℕ
+leftBy m (a-call c) = M c m .1
+leftBy m (a-round room) = roundOn m room .1
+
+abbrev pub afterDeeds : List ℕ → List LentDeed → List ℕ
+afterDeeds m [] = m
+afterDeeds m (d ∷ ds) = afterDeeds (leftBy m d) ds
+
+-- that is what the calls leave which the promises below speak of, and all that is promised of calls
+unfoldable pub DeedsAreCalls : Type 0
+DeedsAreCalls = (m : List ℕ) (ds : List LentDeed) → afterDeeds m ds ≡ afterCalls onMemory m (callsOf (doneFrom onMemory picture m (map deedOf ds)))
 
 -- ---- from door to door, on any memory that is a switch state
 
