@@ -1,5 +1,5 @@
 -- Acts one after another on a state, and a round: it is the same calls one by one. Assumes nothing.
-use mathlib.Core.Path.{_≡_, refl, sym, ap, _∙_}
+use mathlib.Core.Path.{_≡_, refl, sym, ap, _∙_, subst}
 use mathlib.Core.Bool.{Bool, true, false}
 use mathlib.Core.List.{List, [], _∷_, _++_, map, append-assoc}
 use Prim.Native.Nat.{ℕ, zero, suc, _+_, _*_, _≤_, _<_}
@@ -52,7 +52,7 @@ module _ (S : Settings) where
 
   -- ---- a round on a state, by its three parts
 
-  module _ (m room : List ℕ) where
+  module _ (m : List ℕ) where
     abbrev m₁ : List ℕ
     m₁ = afterActs S m (stitches S)
 
@@ -66,13 +66,14 @@ module _ (S : Settings) where
     pub round-tells : turnsTold S m ≡ answersTo S m₂ (turns S)
     round-tells = ap (λ (n : List ℕ). answersTo S n (turns S)) (after-append m (stitches S) (prefetches S))
 
-    pub round-short : length room < 4 * S .ports → rounded S m room ≡ (refused 27, m, room)
+    pub round-short : (room : List ℕ) → length room < 4 * S .ports → rounded S m room ≡ (refused 27, m, room)
     unfolding rounded
-    round-short h = rw (ltb-is (length room) (4 * S .ports) h)
+    round-short room h = rw (ltb-is (length room) (4 * S .ports) h)
 
-    pub round-done : 4 * S .ports ≤ length room → rounded S m room ≡ (done, afterActs S m₂ (turns S), answersIn (answersTo S m₂ (turns S)) room)
+    pub round-done : (room : List ℕ) → 4 * S .ports ≤ length room
+        → rounded S m room ≡ (done, afterActs S m₂ (turns S), answersIn (answersTo S m₂ (turns S)) room)
     unfolding rounded
-    round-done h = rw (ltb-not (length room) (4 * S .ports) h, round-leaves, round-tells)
+    round-done room h = rw (ltb-not (length room) (4 * S .ports) h, round-leaves, round-tells)
 
 -- ---- what acts below the public calls may rely on holds after them
 
@@ -126,15 +127,21 @@ module _ (S : Settings) where
       let xs = each (λ p. turn p ∷ []) n in
       of-turns-append m xs (turn n ∷ []) ∙ rw (all-of-turns n m) (sym (answers-append S m xs (turn n ∷ [])))
 
+  stitches-none : (m : List ℕ) → ofTurns m (stitches S) ≡ []
+  stitches-none m = none-of-turns (λ p. stitch p ∷ []) (λ m n. refl) (S .ports) m
+
+  prefetches-none : (m : List ℕ) → ofTurns m (prefetches S) ≡ []
+  prefetches-none m =
+      none-of-turns (λ p. each (λ q. prefetch p q ∷ []) (S .queues)) (λ m p. none-of-turns (λ q. prefetch p q ∷ []) (λ m n. refl) (S .queues) m) (S .ports) m
+
   turns-answer : (m : List ℕ) → ofTurns m (roundActs S) ≡ turnsTold S m
   unfolding roundActs
   turns-answer m =
       let m₁ = afterActs S m (stitches S) in
       of-turns-append m (stitches S) (prefetches S ++ turns S)
-      ∙ rw (none-of-turns (λ p. stitch p ∷ []) (λ m n. refl) (S .ports) m)
+      ∙ rw (stitches-none m)
       (of-turns-append m₁ (prefetches S) (turns S)
-      ∙ rw (none-of-turns (λ p. each (λ q. prefetch p q ∷ []) (S .queues)) (λ m p. none-of-turns (λ q. prefetch p q ∷ []) (λ m n. refl) (S .queues) m) (S .ports) m₁)
-      (all-of-turns (S .ports) (afterActs S m₁ (prefetches S)) ∙ sym (round-tells S m [])))
+      ∙ rw (prefetches-none m₁) (all-of-turns (S .ports) (afterActs S m₁ (prefetches S)) ∙ sym (round-tells S m)))
 
 -- ---- a round is the same calls one by one
 
@@ -163,6 +170,25 @@ round-is-calls m room = go (state-dec m)
     go : (d : Dec (State m)) → Same m room (deskOf m d) (roundTested m d room)
     go (yes s) = short s (ltb (length room) (4 * S .ports)) refl
     go (no n) = nothing-done m room (refused 3)
+
+-- ---- where a memory is a state of these settings, and where it is none
+
+module _ (m room : List ℕ) where
+  pub round-on : (S : Settings) → settingsIn m ≡ S → StateOf S m → rounded S m room ≡ roundOn m room
+  unfolding roundOn
+  round-on S e s = go (state-dec m)
+    where
+      go : (d : Dec (State m)) → rounded S m room ≡ roundTested m d room
+      go (yes t) = ap (λ (T : Settings). rounded T m room) (sym e)
+      go (no n) = absurd (n (subst (λ (T : Settings). StateOf T m) (sym e) s))
+
+  pub round-off : (State m → ⊥) → roundOn m room ≡ (refused 3, m, room)
+  unfolding roundOn
+  round-off n = go (state-dec m)
+    where
+      go : (d : Dec (State m)) → roundTested m d room ≡ (refused 3, m, room)
+      go (yes t) = absurd (n t)
+      go (no k) = refl
 
 -- a refused round leaves memory and room as they were
 pub refused-round-keeps : (m room : List ℕ) → isRefused (roundOn m room .0) ≡ true → (roundOn m room .1 ≡ m) × (roundOn m room .2 ≡ room)

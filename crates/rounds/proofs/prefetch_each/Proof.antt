@@ -3,7 +3,6 @@
 use mathlib.Core.List.{List, [], _∷_}
 use Prim.Native.Nat.{ℕ, _-_}
 use native.Mathlib.Omega.{arith}
-use borrow.Author.Needs.{needs}
 use Rattle.ledger.specs.Calls.{Act, prefetch}
 use Rattle.ledger.specs.Rounds.{each}
 use Rattle.rounds.proofs.Rounds.{Passed, passed-none, passed-next, passed-all}
@@ -27,7 +26,7 @@ cast-prefetch-port : tie.Need-cast-prefetch-port Inv-loop μ-loop
 cast-prefetch-port c = omega arith
 
 prefetch-port-requires : tie.Need-prefetch-port-requires Inv-loop μ-loop
-prefetch-port-requires c κs = search needs
+prefetch-port-requires c κs = c .before .before .loop .inv .works
 
 add-p : tie.Need-add-p Inv-loop μ-loop
 add-p c = omega arith
@@ -37,9 +36,11 @@ loop-less c = omega arith
 
 loop-again : tie.Need-loop-again Inv-loop μ-loop
 loop-again c =
-    let a = c .before .before in
-    let head = a .before .before .before in
-    passed-next (all (head .before .before .args .s .queues)) (head .loop .inv) (omega arith) (search needs) (a .prefetch-port .ensures)
+    let back = c .before in
+    let done = back .before in
+    let inside = done .before .before in
+    let head = inside .before in
+    passed-next (all (head .before .before .args .s .queues)) (head .loop .inv) (inside .loop-test .taken) (back .m .given) (done .prefetch-port .ensures)
 
 same-length : tie.Need-same-length Inv-loop μ-loop
 same-length c = c .before .loop .inv .same-length
@@ -47,7 +48,7 @@ same-length c = c .before .loop .inv .same-length
 returns : tie.Need-returns Inv-loop μ-loop
 returns c =
     let at = c .before .loop .inv in
-    (passed-all (all (c .before .before .before .args .s .queues)) at (omega arith), at .works)
+    (passed-all (all (c .before .before .before .args .s .queues)) at (c .loop-test .left), at .works)
 
 pub prefetch-each-spec : {M : Type 1} → statement M
 prefetch-each-spec =

@@ -4,7 +4,6 @@ use mathlib.Core.Path.{ap}
 use mathlib.Core.List.{List, [], _∷_}
 use Prim.Native.Nat.{ℕ, _-_}
 use native.Mathlib.Omega.{arith}
-use borrow.Author.Needs.{needs}
 use Rattle.ledger.specs.Calls.{Act, Reply, prefetch}
 use Rattle.rounds.proofs.Rounds.{Passed, passed-none, passed-next, passed-all}
 use Rattle.rounds.proofs.prefetch_port.Statement.{statement}
@@ -26,7 +25,7 @@ cast-prefetch : tie.Need-cast-prefetch Inv-loop μ-loop
 cast-prefetch c = omega arith
 
 prefetch-requires : tie.Need-prefetch-requires Inv-loop μ-loop
-prefetch-requires c κs = search needs
+prefetch-requires c κs = c .before .before .loop .inv .works
 
 next-requires : tie.Need-next-requires Inv-loop μ-loop
 next-requires c κs = omega arith
@@ -36,16 +35,18 @@ loop-less c = omega arith
 
 loop-again : tie.Need-loop-again Inv-loop μ-loop
 loop-again c =
-    let done = c .before .before .before in
-    let head = done .before .before .before in
-    rw (c .next .ensures)
-    (passed-next (one (head .before .before .args .p)) (head .loop .inv) (omega arith) (search needs) (ap (λ (o : Reply × List ℕ). o .1) (done .prefetch .ensures)))
+    let back = c .before .before in
+    let done = back .before in
+    let inside = done .before .before in
+    let head = inside .before in
+    let went = ap (λ (o : Reply × List ℕ). o .1) (done .prefetch .ensures) in
+    rw (c .next .ensures) (passed-next (one (head .before .before .args .p)) (head .loop .inv) (inside .loop-test .taken) (back .m .given) went)
 
 same-length : tie.Need-same-length Inv-loop μ-loop
 same-length c = c .before .loop .inv .same-length
 
 returns : tie.Need-returns Inv-loop μ-loop
-returns c = passed-all (one (c .before .before .before .args .p)) (c .before .loop .inv) (omega arith)
+returns c = passed-all (one (c .before .before .before .args .p)) (c .before .loop .inv) (c .loop-test .left)
 
 pub prefetch-port-spec : {M : Type 1} → statement M
 prefetch-port-spec =

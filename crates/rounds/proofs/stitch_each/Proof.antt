@@ -3,7 +3,6 @@ use mathlib.Core.Path.{ap}
 use mathlib.Core.List.{List, [], _∷_}
 use Prim.Native.Nat.{ℕ, _-_}
 use native.Mathlib.Omega.{arith}
-use borrow.Author.Needs.{needs}
 use Rattle.ledger.specs.Calls.{Act, Reply, stitch}
 use Rattle.rounds.proofs.Rounds.{Passed, passed-none, passed-next, passed-all}
 use Rattle.rounds.proofs.stitch_each.Statement.{statement}
@@ -25,7 +24,7 @@ cast-stitch : tie.Need-cast-stitch Inv-loop μ-loop
 cast-stitch c = omega arith
 
 stitch-requires : tie.Need-stitch-requires Inv-loop μ-loop
-stitch-requires c κs = search needs
+stitch-requires c κs = c .before .before .loop .inv .works
 
 add-p : tie.Need-add-p Inv-loop μ-loop
 add-p c = omega arith
@@ -35,14 +34,16 @@ loop-less c = omega arith
 
 loop-again : tie.Need-loop-again Inv-loop μ-loop
 loop-again c =
-    let a = c .before .before in
-    passed-next one (a .before .before .before .loop .inv) (omega arith) (search needs) (ap (λ (o : Reply × List ℕ). o .1) (a .stitch .ensures .0))
+    let back = c .before in
+    let done = back .before in
+    let inside = done .before .before in
+    passed-next one (inside .before .loop .inv) (inside .loop-test .taken) (back .m .given) (ap (λ (o : Reply × List ℕ). o .1) (done .stitch .ensures .0))
 
 same-length : tie.Need-same-length Inv-loop μ-loop
 same-length c = c .before .loop .inv .same-length
 
 returns : tie.Need-returns Inv-loop μ-loop
-returns c = let at = c .before .loop .inv in (passed-all one at (omega arith), at .works)
+returns c = let at = c .before .loop .inv in (passed-all one at (c .loop-test .left), at .works)
 
 pub stitch-each-spec : {M : Type 1} → statement M
 stitch-each-spec =

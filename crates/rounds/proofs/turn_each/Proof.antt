@@ -2,7 +2,6 @@
 -- many are left. Assumes nothing.
 use Prim.Native.Nat.{_-_}
 use native.Mathlib.Omega.{arith}
-use borrow.Author.Needs.{needs}
 use Rattle.rounds.proofs.Rounds.{Telling, told-none, told-one, told-all}
 use Rattle.rounds.proofs.turn_each.Statement.{statement}
 use Rattle.rounds.proofs.turn_each.Tie as tie
@@ -17,7 +16,7 @@ loop-holds : tie.Need-loop-holds Inv-loop μ-loop
 loop-holds c = told-none _ (c .before .before .pre .0)
 
 turn-port-requires : tie.Need-turn-port-requires Inv-loop μ-loop
-turn-port-requires c κs = search needs
+turn-port-requires c κs = (c .before .before .before .loop .inv .passed .works, c .before .before .loop-test .taken, omega arith)
 
 add-p : tie.Need-add-p Inv-loop μ-loop
 add-p c = omega arith
@@ -27,8 +26,12 @@ loop-less c = omega arith
 
 loop-again : tie.Need-loop-again Inv-loop μ-loop
 loop-again c =
-    let a = c .before .before .before .before in
-    told-one (a .before .before .before .before .loop .inv) (omega arith) (search needs) (search needs) (a .turn-port .ensures .0) (a .turn-port .ensures .1)
+    let room-back = c .before in
+    let back = room-back .before .before in
+    let done = back .before in
+    let inside = done .before .before .before in
+    let out = done .turn-port .ensures in
+    told-one (inside .before .loop .inv) (inside .loop-test .taken) (back .m .given) (room-back .room .given) (out .0) (out .1)
 
 same-length : tie.Need-same-length Inv-loop μ-loop
 same-length c = c .before .loop .inv .passed .same-length
@@ -37,7 +40,7 @@ same-length-2 : tie.Need-same-length-2 Inv-loop μ-loop
 same-length-2 c = c .before .loop .inv .room-length
 
 returns : tie.Need-returns Inv-loop μ-loop
-returns c = told-all (c .before .loop .inv) (omega arith)
+returns c = told-all (c .before .loop .inv) (c .loop-test .left)
 
 pub turn-each-spec : {M : Type 1} → statement M
 turn-each-spec =

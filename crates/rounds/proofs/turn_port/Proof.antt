@@ -1,26 +1,27 @@
 -- `rounds::turn_port` meets its contract: the turn's answer, in its four bytes. Assumes nothing.
-use mathlib.Core.Path.{_≡_, ap}
+use mathlib.Core.Path.{ap}
 use mathlib.Core.List.{List}
 use Prim.Native.Nat.{ℕ}
+use native.Mathlib.Omega.{arith}
 use borrow.Author.Needs.{needs}
 use Rattle.ledger.specs.Calls.{Reply}
 use Rattle.rounds.proofs.turn_port.Statement.{statement}
 use Rattle.rounds.proofs.turn_port.Tie as tie
 
 cast-turn : tie.Need-cast-turn
-cast-turn c = search needs
+cast-turn c = omega arith
 
 turn-requires : tie.Need-turn-requires
-turn-requires c κs = search needs
+turn-requires c κs = c .before .before .before .pre .0
 
 told-requires : tie.Need-told-requires
 told-requires c κs = search needs
 
 mul-put : tie.Need-mul-put
-mul-put c = search needs
+mul-put c = omega arith
 
 put-requires : tie.Need-put-requires
-put-requires c κs = search needs
+put-requires c κs = omega arith
 
 same-length : tie.Need-same-length
 same-length c = search needs
