@@ -15,7 +15,7 @@ use Rattle.ledger.proofs.Rows.{Rows, rows-beat, rows-not, this-build, size-is, 
 use Rattle.layout.specs.Picture.{settingsIn, State}
 use Rattle.memory.specs.Memory.{state-dec, acted, tested, M}
 use Rattle.memory.proofs.Demands.{off-state}
-use Rattle.capi.specs.Rooms.{numberIn, told, toldIn, shown, placeRoom, sizeFor}
+use Rattle.capi.specs.Rooms.{numberIn, told, toldIn, toldRound, shown, placeRoom, sizeFor}
 
 -- ---- the answer
 
@@ -25,6 +25,9 @@ module _ (x : Reply) (m : List ℕ) (out : Reply × List ℕ) (r : ℕ) (e : (x,
 
   pub tells-in : {A : Type 0} (room : Reply → A → A) (old new : A) → new ≡ room x old → (r, m, new) ≡ toldIn room old out
   tells-in room old new q = rw (number, q) (ap (toldIn room old) e)
+
+pub tells-round : (x : Reply) (m room : List ℕ) (out : Reply × List ℕ × List ℕ) (r : ℕ) → (x, m, room) ≡ out → r ≡ numberIn x → (r, m, room) ≡ toldRound out
+tells-round x m room out r e number = rw number (ap toldRound e)
 
 pub shows : {A : Type 0} (room : Reply → A → A) (x y : Reply) (r : ℕ) (old new : A) → x ≡ y → r ≡ numberIn x → new ≡ room x old → (r, new) ≡ shown room old y
 shows room x y r old new e p q = rw (p, q) (ap (shown room old) e)

@@ -12,7 +12,7 @@ use Rattle.memory.specs.Memory.{M}
 use Rattle.memory.proofs.Demands.{off-state}
 use Rattle.memory.proofs.Image.{zero-no-state}
 use Rattle.switch.specs.Outcome.{Contract, OneOutcome}
-use Rattle.switch.proofs.Outcomes.{parted, lent}
+use Rattle.switch.proofs.Outcomes.{parted, roomed, lent}
 use Rattle.capi.specs.Rooms.{told}
 use Rattle.capi.proofs.vr_size
 use Rattle.capi.proofs.vr_setup
@@ -24,11 +24,7 @@ use Rattle.capi.proofs.vr_map
 use Rattle.capi.proofs.vr_turn
 use Rattle.capi.proofs.vr_ready
 use Rattle.capi.proofs.vr_where
-
--- an equation of number, memory and room; `at` puts the two where the function's own parameters have them
-roomed : {A B : Type 0} (at : List ℕ → A → B) {r r₂ : ℕ} {m m₂ : List ℕ} {x x₂ : A} {out : ℕ × List ℕ × A}
-    → (r, m, x) ≡ out → (r₂, m₂, x₂) ≡ out → (r ≡ r₂) × (at m x ≡ at m₂ x₂)
-roomed {A} at p q = (ap (λ (o : ℕ × List ℕ × A). o .0) (p ∙ sym q), ap (λ (o : ℕ × List ℕ × A). at (o .1) (o .2)) (p ∙ sym q))
+use Rattle.capi.proofs.vr_round
 
 pub vr-size-one : OneOutcome vr_size.ended vr_size.Reads.Learnt
 vr-size-one κs a r r₂ left left₂ p q = (p ∙ sym q, refl)
@@ -53,6 +49,9 @@ vr-map-one κs a r r₂ left left₂ p q = parted (λ m. (m, left .1)) p q
 
 pub vr-turn-one : OneOutcome vr_turn.ended vr_turn.Reads.Learnt
 vr-turn-one κs a r r₂ left left₂ p q = roomed (λ m x. (m, (tt, (x, tt)))) p q
+
+pub vr-round-one : OneOutcome vr_round.ended vr_round.Reads.Learnt
+vr-round-one κs a r r₂ left left₂ p q = roomed (λ m x. (m, (x, tt))) p q
 
 -- the memory of these two is lent for reading only: what is left is the rooms
 pub vr-ready-one : OneOutcome vr_ready.ended vr_ready.Reads.Learnt

@@ -11,8 +11,10 @@ use Rattle.ledger.specs.Answers.{numberOf}
 use Rattle.ledger.specs.declared.Refusal.{Refusal}
 use Rattle.ledger.specs.declared.Refusal.the-variants.{ShortMemory, BadSetting, NoState, NoPort, NoQueue, HeaderSize, Checksum, Source, TooShort, NoCredit, NoFreeNode, NothingThere, SlotsInUse, TooMuchCredit, NoSuchId, HeaderQueue, ReservedBit, ShortRoom}
 use Rattle.memory.specs.Memory.{M}
+use Rattle.memory.specs.Rounds.{roundOn}
 use Rattle.memory.proofs.Square.{refusal-keeps-bytes}
-use Rattle.capi.specs.Rooms.{numberIn, toldIn, entryRoom, recordRoom, sentRoom, readyRoom, placeRoom}
+use Rattle.memory.proofs.Rounds.{refused-round-keeps}
+use Rattle.capi.specs.Rooms.{numberIn, toldIn, toldRound, entryRoom, recordRoom, sentRoom, readyRoom, placeRoom}
 
 -- 0 is no refusal's number: an answer of 0 says that the call was done
 pub never-zero : (no : Refusal) → 1 ≤ numberOf no
@@ -58,6 +60,12 @@ module _ {A : Type 0} (room : Reply → A → A) (kept : Keeps room) where
   nothing-differs c m old h =
       let l = refusal-only (M c m .0) old h in
       rw (refusal-keeps-bytes c m (l .0), l .1)
+
+-- and of a round, neither memory nor room
+pub nothing-differs-round : (m room : List ℕ) → (numberIn (roundOn m room .0) ≡ 0 → ⊥) → toldRound (roundOn m room) ≡ (numberIn (roundOn m room .0), m, room)
+nothing-differs-round m room h =
+    let l = refused-round-keeps m room (refusal-only (λ x old. old) (λ n old. refl) (roundOn m room .0) room h .0) in
+    rw (l .0, l .1)
 
 -- the other settings do not count: memory of this size is never too short for setup
 pub size-any : (n b d k : ℕ) → size (settings n b d k) ≡ size (settings n 64 1 0)

@@ -1,5 +1,6 @@
--- Each call has one outcome: any two that its contract allows are identical, the typed answer and the memory. The contract is what the
--- toolchain reads of the function's own `ensures` (`Learnt`: what a caller learns), so a change of it changes the theorem. Assumes nothing.
+-- Each call has one outcome: any two that its contract allows are identical, the typed answer and the memory; of the round, the room too. The
+-- contract is what the toolchain reads of the function's own `ensures` (`Learnt`: what a caller learns), so a change of it changes the theorem.
+-- Assumes nothing.
 use mathlib.Core.Path.{_≡_, refl, sym, ap, _∙_}
 use mathlib.Core.List.{List, []}
 use Prim.Native.Nat.{ℕ}
@@ -29,10 +30,16 @@ use Rattle.switch.proofs.map_to
 use Rattle.switch.proofs.turn
 use Rattle.switch.proofs.ready
 use Rattle.switch.proofs.where_is
+use Rattle.switch.proofs.round
 
 -- what equals the same pair has equal parts; `at` puts the second where the function's parameters have it
 pub parted : {A B C : Type 0} (at : B → C) {x y : A} {m n : B} {out : A × B} → (x, m) ≡ out → (y, n) ≡ out → (x ≡ y) × (at m ≡ at n)
 parted {A} {B} at p q = (ap (λ (o : A × B). o .0) (p ∙ sym q), ap (λ (o : A × B). at (o .1)) (p ∙ sym q))
+
+-- the same with a room
+pub roomed : {X A B : Type 0} (at : List ℕ → A → B) {r r₂ : X} {m m₂ : List ℕ} {x x₂ : A} {out : X × List ℕ × A}
+    → (r, m, x) ≡ out → (r₂, m₂, x₂) ≡ out → (r ≡ r₂) × (at m x ≡ at m₂ x₂)
+roomed {X} {A} at p q = (ap (λ (o : X × List ℕ × A). o .0) (p ∙ sym q), ap (λ (o : X × List ℕ × A). at (o .1) (o .2)) (p ∙ sym q))
 
 -- so an equation of reply and memory fixes answer and memory, where no two answers have the same reply; `others` are lent for reading only
 module _ {A : Type 0} {reply : A → Reply} (inj : (a b : A) → reply a ≡ reply b → a ≡ b) {C : Type 0} (others : C) where
@@ -57,6 +64,10 @@ map-to-one κs a r r₂ left left₂ p q = fixed plain-inj (left .1) p q
 
 pub turn-one : OneOutcome turn.ended turn.Reads.Learnt
 turn-one κs a r r₂ left left₂ p q = fixed turn-inj (left .1) p q
+
+-- a round's equation fixes the room with answer and memory
+pub round-one : OneOutcome round.ended round.Reads.Learnt
+round-one κs a r r₂ left left₂ p q = let t = roomed {B = List ℕ × (List ℕ × Unit {0})} (λ m x. (m, (x, tt))) p q in (plain-inj r r₂ (t .0), t .1)
 
 -- the memory of these two is lent for reading only: nothing is left that could differ
 pub ready-one : OneOutcome ready.ended ready.Reads.Learnt

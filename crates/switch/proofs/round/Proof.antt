@@ -1,46 +1,48 @@
+-- `switch::round` meets its contract: where the test says a state, the round on it; else refusal 3. Assumes nothing.
+use mathlib.Core.Path.{_≡_, sym, _∙_}
 use borrow.Author.Needs.{needs}
+use Rattle.sound.proofs.Means.{tested-state}
+use Rattle.switch.proofs.Laws.{round-on-state, round-off-state}
 use Rattle.switch.proofs.round.Statement.{statement}
 use Rattle.switch.proofs.round.Tie as tie
-use Rattle.switch.proofs.round.Reads as reads
-use Rattle.switch.proofs.round.Lts as lts
-use Rattle.rounds.proofs.round.Reads as round-reads
-use Rattle.sound.proofs.test.Reads as test-reads
 
--- src/lib.rt:126:9
 test-requires : tie.Need-test-requires
 test-requires c κs = search needs
 
--- src/lib.rt:128:23
 enum-known-tested : tie.Need-enum-known-tested
 enum-known-tested c = search needs
 
--- src/lib.rt:128:29
 round-requires : tie.Need-round-requires
-round-requires c κs = ?
+round-requires c κs =
+    let t = c .before .before .before in
+    let test = t .before .before in
+    tested-state (test .before .before .before .before .args .m .now) _ (sym (test .test .ensures) ∙ t .tested .given .1)
 
--- src/lib.rt:129:38
 enum-told : tie.Need-enum-told
 enum-told c = search needs
 
--- src/lib.rt:123:1
 same-length : tie.Need-same-length
 same-length c = search needs
 
--- src/lib.rt:123:1
 same-length-2 : tie.Need-same-length-2
 same-length-2 c = search needs
 
--- src/lib.rt:123:1
 returns : tie.Need-returns
-returns c = ?
+returns c =
+    let p = c .before .before .before .before in
+    let t = p .before .before .before .before in
+    let test = t .before .before in
+    let a = test .before .before .before .before .args in
+    p .round .ensures ∙ round-on-state (a .m .now) (a .turns .now) _ (sym (test .test .ensures) ∙ t .tested .given .1)
 
--- src/lib.rt:123:1
 same-length-3 : tie.Need-same-length-3
 same-length-3 c = search needs
 
--- src/lib.rt:123:1
 returns-2 : tie.Need-returns-2
-returns-2 c = ?
+returns-2 c =
+    let test = c .before .before in
+    let a = test .before .before .before .before .args in
+    round-off-state (a .m .now) (a .turns .now) (sym (test .test .ensures) ∙ c .enum-told .given .1)
 
 pub round-spec : {M : Type 1} → statement M
 round-spec =

@@ -1,0 +1,23 @@
+-- `capi::vr_round` meets its contract: the answer follows the reply of the round, which has left memory and room. Assumes nothing.
+use borrow.Author.Needs.{needs}
+use Rattle.capi.proofs.Laws.{tells-round}
+use Rattle.capi.proofs.vr_round.Statement.{statement}
+use Rattle.capi.proofs.vr_round.Tie as tie
+
+round-requires : tie.Need-round-requires
+round-requires c κs = search needs
+
+plain-requires : tie.Need-plain-requires
+plain-requires c κs = search needs
+
+same-length : tie.Need-same-length
+same-length c = search needs
+
+same-length-2 : tie.Need-same-length-2
+same-length-2 c = search needs
+
+returns : tie.Need-returns
+returns c = tells-round _ _ _ _ _ (c .before .before .before .before .before .round .ensures) (c .plain .ensures)
+
+pub vr-round-spec : {M : Type 1} → statement M
+vr-round-spec = tie.close (tie.spec round-requires plain-requires same-length same-length-2 returns)
