@@ -21,6 +21,7 @@
  *   15   id above 3; no such node                   map, where
  *   19   header's queue above 23                    arrive
  *   20   header's reserved bit is 1                 arrive
+ *   27   room of less than four bytes a port        round
  *
  * A packet's price is its length divided by the beat, rounded up; packets of queue 0 are free.
  *
@@ -75,6 +76,13 @@ uint32_t vr_map(uint8_t *mem, size_t len, uint32_t id, uint32_t port);
  * queue (1), entry id (2), length (2), destination id (2), timestamp (4), poisoned (1), transaction id (1), price (2).
  * An idle turn writes the kind alone; the other 15 bytes stay. */
 uint32_t vr_turn(uint8_t *mem, size_t len, uint32_t port, uint8_t sent[16]);
+
+/* A round: one stitch at each port, from 0 on; then one prefetch for each port and queue, port by port and queue by queue from 0; then one
+ * turn at each port, from 0 on. Memory and turns are as of the same calls one by one, but the memory is tested once. A refusal inside
+ * (12, 13) changes nothing and is passed over.
+ * Writes four bytes for each port's turn, port by port: refusal number (1), 1 if idle (1), entry id (2, big-endian) or 0. Four ports have
+ * sixteen; what is lent past them stays. Refused 3, then 27 if less is lent; then neither the memory nor the room changes. */
+uint32_t vr_round(uint8_t *mem, size_t len, uint8_t *turns, size_t turns_len);
 
 /* Writes the port's ready word, bit q for queue q, and the number of ones in it. */
 uint32_t vr_ready(const uint8_t *mem, size_t len, uint32_t port, uint64_t *word, uint32_t *count);

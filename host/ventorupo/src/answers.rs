@@ -1,5 +1,7 @@
 //! What the calls answer, and how it stands in the C interface's rooms.
 
+use crate::Refusal;
+
 /// A node's entry id: port × 2048 + index.
 #[derive(Debug, Clone, Copy, PartialEq, Eq, Hash, PartialOrd, Ord)]
 pub struct EntryId(pub u16);
@@ -101,6 +103,29 @@ impl Turn {
             transaction: bytes[13],
             price: two(bytes, 14),
         }))
+    }
+}
+
+/// What a round tells of one port's turn.
+#[derive(Debug, Clone, Copy, PartialEq, Eq)]
+pub enum RoundTurn {
+    /// Passed over; of a port that the switch has, no turn is refused.
+    Refused(Refusal),
+    /// Nothing was ready.
+    Idle,
+    /// The node whose packet was sent.
+    Sent(EntryId),
+}
+
+impl RoundTurn {
+    /// A port's turn in its four bytes; none if they tell of none.
+    pub fn from_bytes(bytes: &[u8; 4]) -> Option<RoundTurn> {
+        match (bytes[0], bytes[1], two(bytes, 2)) {
+            (0, 0, entry) => Some(RoundTurn::Sent(EntryId(entry))),
+            (0, 1, 0) => Some(RoundTurn::Idle),
+            (number, 0, 0) => Refusal::from_number(number.into()).map(RoundTurn::Refused),
+            _ => None,
+        }
     }
 }
 

@@ -32,6 +32,7 @@ mod c {
         pub fn vr_credit(mem: *mut u8, len: usize, port: u32, queue: u32, amount: u32) -> u32;
         pub fn vr_map(mem: *mut u8, len: usize, id: u32, port: u32) -> u32;
         pub fn vr_turn(mem: *mut u8, len: usize, port: u32, sent: *mut u8) -> u32;
+        pub fn vr_round(mem: *mut u8, len: usize, turns: *mut u8, turns_len: usize) -> u32;
         pub fn vr_ready(
             mem: *const u8,
             len: usize,
@@ -100,6 +101,18 @@ pub fn map(memory: &mut [u8], id: u32, port: u32) -> u32 {
 pub fn turn(memory: &mut [u8], port: u32, sent: &mut [u8; 16]) -> u32 {
     // Sound: the slice with its length; the room has the 16 bytes C asks for.
     unsafe { c::vr_turn(memory.as_mut_ptr(), memory.len(), port, sent.as_mut_ptr()) }
+}
+
+pub fn round(memory: &mut [u8], turns: &mut [u8]) -> u32 {
+    // Sound: two slices with their lengths, apart.
+    unsafe {
+        c::vr_round(
+            memory.as_mut_ptr(),
+            memory.len(),
+            turns.as_mut_ptr(),
+            turns.len(),
+        )
+    }
 }
 
 pub fn ready(memory: &[u8], port: u32, word: &mut u64, count: &mut u32) -> u32 {

@@ -33,8 +33,11 @@ mod answers;
 pub mod calls;
 mod refusal;
 
-pub use answers::{EntryId, ListKind, Place, Ready, Record, Sent, Side, Turn};
+pub use answers::{EntryId, ListKind, Place, Ready, Record, RoundTurn, Sent, Side, Turn};
 pub use refusal::Refusal;
+
+/// The bytes that a round writes: four for each port's turn.
+pub const ROUND_BYTES: usize = 16;
 
 /// The settings, fixed at setup. Any numbers may stand here; setup refuses
 /// those that are not in their rows.
@@ -173,6 +176,41 @@ impl<M: AsRef<[u8]> + AsMut<[u8]>> Switch<M> {
         let mut sent = [0; 16];
         done(calls::turn(self.memory.as_mut(), port, &mut sent))?;
         Ok(Turn::from_bytes(&sent).expect("the library writes kind 0, 1 or 2"))
+    }
+
+    /// A round: one stitch at each port, then one prefetch for each port and
+    /// queue, then one turn at each port. Refusals inside are passed over.
+    /// Answers each port's turn.
+    ///
+    /// ```
+    /// use ventorupo::{EntryId, Refusal, RoundTurn, Settings, Switch};
+    ///
+    /// let settings = Settings { nodes: 1, beat: 64, slots: 1, credit: 16 };
+    /// let mut switch = Switch::setup([0; 2040], settings).map_err(|(why, _)| why)?;
+    /// // Destination 0, which is mapped to port 0, source 0, queue 0, length 12.
+    /// let entry = switch.arrive(0, &[0, 0, 0x30, 0, 0, 0, 0, 0, 0, 0x72])?;
+    /// let mut turns = [RoundTurn::Idle; 4];
+    /// turns[0] = RoundTurn::Sent(entry);
+    /// assert_eq!(switch.round()?, turns);
+    /// assert_eq!(switch.round()?, [RoundTurn::Idle; 4]);
+    /// # Ok::<(), Refusal>(())
+    /// ```
+    pub fn round(&mut self) -> Result<[RoundTurn; 4], Refusal> {
+        let mut room = [0; ROUND_BYTES];
+        self.round_into(&mut room)?;
+        let turn = |port: usize| {
+            let at = 4 * port;
+            RoundTurn::from_bytes(&[room[at], room[at + 1], room[at + 2], room[at + 3]])
+                .expect("the library writes a refusal, idle or an entry id")
+        };
+        Ok([0, 1, 2, 3].map(turn))
+    }
+
+    /// A round that writes its turns into lent room, four bytes a port:
+    /// refusal number, 1 if idle, entry id (2, big-endian) or 0. Refused 27 if
+    /// there is less room; what is past them stays.
+    pub fn round_into(&mut self, room: &mut [u8]) -> Result<(), Refusal> {
+        done(calls::round(self.memory.as_mut(), room))
     }
 
     /// The port's ready word and ready count.

@@ -1,4 +1,4 @@
-//! The seventeen refusals.
+//! The eighteen refusals.
 
 use std::fmt;
 
@@ -40,11 +40,13 @@ pub enum Refusal {
     HeaderQueue = 19,
     /// 20, arrive: header's reserved bit is 1.
     ReservedBit,
+    /// 27, round: room of less than four bytes a port.
+    ShortRoom = 27,
 }
 
 impl Refusal {
     /// Every refusal, in the order of their numbers.
-    pub const ALL: [Refusal; 17] = [
+    pub const ALL: [Refusal; 18] = [
         Refusal::ShortMemory,
         Refusal::SettingOutOfRow,
         Refusal::NoState,
@@ -62,9 +64,10 @@ impl Refusal {
         Refusal::NoSuchIdOrNode,
         Refusal::HeaderQueue,
         Refusal::ReservedBit,
+        Refusal::ShortRoom,
     ];
 
-    /// The number in the papers: 1 to 15, 19 or 20.
+    /// The number in the papers: 1 to 15, 19, 20 or 27.
     pub fn number(self) -> u32 {
         self as u32
     }
@@ -97,6 +100,7 @@ impl fmt::Display for Refusal {
             Refusal::NoSuchIdOrNode => "id above 3; no such node",
             Refusal::HeaderQueue => "header's queue above 23",
             Refusal::ReservedBit => "header's reserved bit is 1",
+            Refusal::ShortRoom => "room of less than four bytes a port",
         })
     }
 }
