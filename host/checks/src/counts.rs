@@ -4,7 +4,7 @@ use std::fmt;
 
 use model::{Call, Reply, REFUSALS};
 
-const NAMES: [&str; 10] = [
+const NAMES: [&str; 11] = [
     "setup",
     "arrive",
     "stitch",
@@ -15,14 +15,15 @@ const NAMES: [&str; 10] = [
     "idle turn",
     "ready",
     "where",
+    "round",
 ];
 
 #[derive(Debug, Clone, Default, PartialEq, Eq)]
 pub struct Counts {
     /// In the order of `NAMES`.
-    accepted: [u64; 10],
+    accepted: [u64; 11],
     /// By the refusal's number; the cells of other numbers stay 0.
-    refused: [u64; 21],
+    refused: [u64; 28],
     /// That an arrival or a prefetch was answered.
     highest_entry: u16,
 }
@@ -47,6 +48,7 @@ impl Counts {
             Call::Turn { .. } => 6,
             Call::Ready { .. } => 8,
             Call::Where { .. } => 9,
+            Call::Round { .. } => 10,
         };
         self.accepted[kind] += 1;
     }

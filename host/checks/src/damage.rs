@@ -4,7 +4,7 @@
 use std::collections::BTreeMap;
 use std::fmt;
 
-use model::{size, Call, Ledger, Model, Reply, Settings, PORTS, QUEUES};
+use model::{size, Call, Ledger, Model, Reply, Settings, PORTS, QUEUES, ROUND_BYTES};
 use traffic::{header, Profile, Random, Traffic};
 
 use crate::cut::cut_down;
@@ -265,6 +265,10 @@ fn one_of_each(random: &mut Random, ledger: &Ledger) -> Vec<Call> {
         },
         Call::Where {
             entry: random.below(PORTS) * 2048 + random.below(nodes),
+        },
+        Call::Round {
+            // Now and then too little room: 3 is tested before 27.
+            room: vec![0x5A; ROUND_BYTES + 3 - random.pick(&[0, 0, 3, 3, 3, 3, 4, 19])],
         },
         Call::Setup(Settings {
             nodes: random.among(1, nodes),

@@ -1,10 +1,13 @@
 //! One call of the proved library, told in the model's words.
 
-use model::{Call, ListKind, Packet, Reply, Side, REFUSALS};
+use model::{Call, ListKind, Packet, Reply, Side, REFUSALS, ROUND_BYTES};
 use ventorupo::calls;
 
 /// Rooms start with these bytes, so that a byte that should stay is seen.
 const FILL: u8 = 0xA7;
+
+/// Bytes before and behind a round's room, to see that nobody writes there.
+const GUARD: usize = 7;
 
 /// What a refused call must leave in its room.
 fn refused<T: PartialEq + std::fmt::Debug>(
@@ -89,7 +92,29 @@ pub fn call(memory: &mut [u8], call: &Call) -> Result<Reply, String> {
                 number => refused(number, place, [FILL; 8]),
             }
         }
+        Call::Round { room } => round(memory, room),
     }
+}
+
+/// The room stands between guards; past the turns it stays.
+fn round(memory: &mut [u8], room: &[u8]) -> Result<Reply, String> {
+    let before = [&[FILL; GUARD], room, &[FILL; GUARD]].concat();
+    let mut after = before.clone();
+    let number = calls::round(memory, &mut after[GUARD..GUARD + room.len()]);
+    if number != 0 {
+        return refused(number, after, before);
+    }
+    if room.len() < ROUND_BYTES {
+        return Err(format!("a round takes a room of {} bytes", room.len()));
+    }
+    let mut turns = [0; ROUND_BYTES];
+    let told = GUARD..GUARD + ROUND_BYTES;
+    turns.copy_from_slice(&after[told.clone()]);
+    after[told.clone()].copy_from_slice(&before[told]);
+    if after != before {
+        return Err(format!("a round wrote past its turns: {after:?}"));
+    }
+    Ok(Reply::Turns(turns))
 }
 
 /// Read here byte by byte, not by the wrapper, which is tried as well.

@@ -148,7 +148,9 @@ impl<'d, D: Desk> Pair<'d, D> {
             }
         }
         self.made += 1;
-        if self.made % self.ledger_every == 0 {
+        // A round moves much at once, and tells of its turns alone.
+        let moved_much = matches!(answer, Reply::Turns(_));
+        if moved_much || self.made % self.ledger_every == 0 {
             self.compare_ledgers()?;
         }
         Ok(answer)

@@ -1,7 +1,7 @@
 //! The same calls through the safe wrapper's typed answers.
 
-use model::{Call, ListKind, Packet, Reply, Side};
-use ventorupo::{EntryId, Refusal, Settings, Switch, Turn};
+use model::{Call, ListKind, Packet, Reply, Side, ROUND_BYTES};
+use ventorupo::{EntryId, Refusal, RoundTurn, Settings, Switch, Turn};
 
 use crate::library;
 
@@ -46,6 +46,14 @@ pub fn call(memory: &mut [u8], call: &Call) -> Result<Reply, String> {
             // The wrapper's entry ids have no room for it.
             Err(_) => return library::call(memory, call),
         },
+        // The typed round lends room enough, always.
+        Call::Round { room } if room.len() < ROUND_BYTES => {
+            let mut lent = room.clone();
+            let answer = switch.round_into(&mut lent).map(|()| Reply::Done);
+            assert_eq!(lent, *room);
+            answer
+        }
+        Call::Round { .. } => switch.round().map(turns),
     };
     Ok(reply.unwrap_or_else(|refusal: Refusal| Reply::Refused(refusal.number() as u8)))
 }
@@ -75,6 +83,18 @@ fn turned(turn: Turn) -> Reply {
         price: sent.price.into(),
     };
     Reply::Leaves(packet, side)
+}
+
+fn turns(of_ports: [RoundTurn; 4]) -> Reply {
+    let mut turns = [0; ROUND_BYTES];
+    for (turn, told) in of_ports.into_iter().zip(turns.chunks_exact_mut(4)) {
+        match turn {
+            RoundTurn::Refused(refusal) => told[0] = refusal.number() as u8,
+            RoundTurn::Idle => told[1] = 1,
+            RoundTurn::Sent(entry) => told[2..].copy_from_slice(&entry.0.to_be_bytes()),
+        }
+    }
+    Reply::Turns(turns)
 }
 
 fn list(kind: ventorupo::ListKind) -> ListKind {

@@ -236,8 +236,9 @@ fn a_slip_in_the_ledger_is_found_and_cut_down() {
         }
         Ok(reply)
     };
-    // Setup, arrive, stitch, prefetch.
-    assert_eq!(calls_that_remain(&slip).len(), 4);
+    // Setup, arrive, stitch, prefetch and, for another port than 0, map.
+    let remaining = calls_that_remain(&slip).len();
+    assert!((4..=5).contains(&remaining), "{remaining} remain");
 }
 
 /// Returning a wrong answer in one case.

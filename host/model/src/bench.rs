@@ -83,6 +83,8 @@ fn words(reply: &Reply) -> String {
         Reply::Stitched(record) => format!("0 {}", u16::from_be_bytes([record[0], record[1]])),
         Reply::Idle => "0 idle".to_string(),
         Reply::Leaves(packet, _) => format!("0 {}", packet.entry),
-        Reply::Word(..) | Reply::Found(..) => unreachable!("no tag asks for ready or where"),
+        Reply::Word(..) | Reply::Found(..) | Reply::Turns(_) => {
+            unreachable!("no tag asks for ready, where or a round")
+        }
     }
 }

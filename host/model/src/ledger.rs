@@ -6,7 +6,7 @@ use std::collections::VecDeque;
 use crate::header;
 use crate::{
     price, Choice, ListKind, Packet, Reply, Settings, Side, DESTINATIONS, ENTRIES_PER_PORT,
-    MOST_CREDIT, PORTS, QUEUES, SHORTEST,
+    MOST_CREDIT, PORTS, QUEUES, ROUND_BYTES, SHORTEST,
 };
 
 /// What the ledger holds for one port. Lists run from the oldest (front) to
@@ -257,6 +257,28 @@ impl Ledger {
         Ok(Reply::Found(kind, position))
     }
 
+    /// One stitch at each port in order, then one prefetch for each port and
+    /// queue, then one turn at each port.
+    pub(crate) fn round(&mut self, room: usize, choice: Choice) -> Result<Reply, u8> {
+        if room < ROUND_BYTES {
+            return Err(27);
+        }
+        // Refusals inside are passed over: the first two kinds are told nowhere.
+        for port in 0..PORTS {
+            let _ = self.stitch(port);
+        }
+        for port in 0..PORTS {
+            for queue in 0..QUEUES {
+                let _ = self.prefetch(port, queue);
+            }
+        }
+        let mut turns = [0; ROUND_BYTES];
+        for (port, told) in (0..PORTS).zip(turns.chunks_exact_mut(4)) {
+            told.copy_from_slice(&told_turn(self.turn(port, choice)));
+        }
+        Ok(Reply::Turns(turns))
+    }
+
     /// Is this queue of the port ready for a turn?
     fn is_ready(&self, p: usize, q: usize) -> bool {
         match self.ports[p].prefetch[q].front() {
@@ -306,6 +328,18 @@ impl Ledger {
                 .map(move |(queue, list)| (ListKind::Prefetch { port, queue }, list));
             own.into_iter().chain(egress).chain(prefetch)
         })
+    }
+}
+
+/// A turn in four bytes: refusal number, 1 if idle, entry id or 0.
+fn told_turn(turn: Result<Reply, u8>) -> [u8; 4] {
+    match turn {
+        Err(number) => [number, 0, 0, 0],
+        Ok(Reply::Leaves(packet, _)) => {
+            let [high, low] = packet.entry.to_be_bytes();
+            [0, 0, high, low]
+        }
+        Ok(_) => [0, 1, 0, 0],
     }
 }
 

@@ -1,5 +1,5 @@
 //! An independent model of the queue manager, written from papers 01 and 02
-//! (requests) alone.
+//! (requests) alone.
 //!
 //! The model keeps plain lists and numbers; it has no memory image. The
 //! caller's memory is only a length here, so that setup can refuse a short one.
@@ -33,8 +33,13 @@ pub const SHORTEST: u32 = 12;
 /// The most that 13 bits of length can say.
 pub const LONGEST: u32 = 8191;
 
+/// The bytes that a round writes: four for each port's turn.
+pub const ROUND_BYTES: usize = 4 * PORTS as usize;
+
 /// The numbers of the refusals.
-pub const REFUSALS: [u8; 17] = [1, 2, 3, 4, 5, 6, 7, 8, 9, 10, 11, 12, 13, 14, 15, 19, 20];
+pub const REFUSALS: [u8; 18] = [
+    1, 2, 3, 4, 5, 6, 7, 8, 9, 10, 11, 12, 13, 14, 15, 19, 20, 27,
+];
 
 /// The settings, fixed at setup.
 #[derive(Debug, Clone, Copy, PartialEq, Eq)]
@@ -63,14 +68,39 @@ impl Settings {
 #[derive(Debug, Clone, PartialEq, Eq)]
 pub enum Call {
     Setup(Settings),
-    Arrive { port: u32, header: Vec<u8> },
-    Stitch { port: u32 },
-    Prefetch { port: u32, queue: u32 },
-    Credit { port: u32, queue: u32, amount: u32 },
-    Map { id: u32, port: u32 },
-    Turn { port: u32 },
-    Ready { port: u32 },
-    Where { entry: u32 },
+    Arrive {
+        port: u32,
+        header: Vec<u8>,
+    },
+    Stitch {
+        port: u32,
+    },
+    Prefetch {
+        port: u32,
+        queue: u32,
+    },
+    Credit {
+        port: u32,
+        queue: u32,
+        amount: u32,
+    },
+    Map {
+        id: u32,
+        port: u32,
+    },
+    Turn {
+        port: u32,
+    },
+    Ready {
+        port: u32,
+    },
+    Where {
+        entry: u32,
+    },
+    /// With the room that is lent for the turns, as it stands before.
+    Round {
+        room: Vec<u8>,
+    },
 }
 
 /// The answers.
@@ -92,6 +122,8 @@ pub enum Reply {
     Word(u64, u32),
     /// Where: the node's list and the position in it, from 0.
     Found(ListKind, u32),
+    /// Round: the bytes for each port's turn.
+    Turns([u8; ROUND_BYTES]),
 }
 
 /// Everything recorded for a node that isn't free, with its entry id.
@@ -231,6 +263,7 @@ impl Model {
             Call::Turn { port } => ledger.turn(*port, self.choice),
             Call::Ready { port } => ledger.ready(*port),
             Call::Where { entry } => ledger.find(*entry),
+            Call::Round { room } => ledger.round(room.len(), self.choice),
         }
     }
 

@@ -125,6 +125,19 @@ impl Desk {
         self.call(Call::Where { entry })
     }
 
+    /// What a round tells of each port's turn: the entry id, or none if idle.
+    fn round(&mut self) -> [Option<u16>; 4] {
+        let turns = match self.call(Call::Round { room: vec![9; 16] }) {
+            Reply::Turns(turns) => turns,
+            other => panic!("{other:?}"),
+        };
+        [0, 4, 8, 12].map(|at| match turns[at..at + 4] {
+            [0, 1, 0, 0] => None,
+            [0, 0, high, low] => Some(u16::from(high) << 8 | u16::from(low)),
+            _ => panic!("{turns:?}"),
+        })
+    }
+
     /// A packet for port 0 from port 0, up to the prefetch list.
     fn bring(&mut self, queue: u32, length: u32) {
         let header = written(0, 0, queue.into(), length.into());
@@ -779,6 +792,118 @@ fn a_covered_packet_behind_one_that_is_not_waits() {
     assert_eq!(desk.turn(0), Reply::Idle);
     desk.credit(0, 4, 1);
     assert_eq!(desk.served(), 4);
+}
+
+// The round.
+
+#[test]
+fn a_round_takes_a_packet_from_door_to_door() {
+    let mut desk = Desk::new(SMALL);
+    // From the last port to the first: all stitches come before the turns.
+    assert_eq!(desk.arrive(3, &written(0, 3, 0, 12)), Reply::Entry(6144));
+    assert_eq!(desk.round(), [Some(6144), None, None, None]);
+    assert_eq!(desk.round(), [None; 4]);
+}
+
+#[test]
+fn a_round_tells_turns_in_four_bytes_a_port() {
+    let mut desk = Desk::new(SMALL);
+    desk.map(1, 2);
+    for _ in 0..6 {
+        desk.arrive(3, &written(1, 3, 0, 12));
+    }
+    for _ in 0..5 {
+        desk.round();
+    }
+    // Node 5 of port 3 leaves by port 2: 6149 is 18 05 in hex.
+    let told = [0, 1, 0, 0, 0, 1, 0, 0, 0, 0, 0x18, 5, 0, 1, 0, 0];
+    assert_eq!(
+        desk.call(Call::Round { room: vec![9; 40] }),
+        Reply::Turns(told)
+    );
+}
+
+#[test]
+fn a_round_is_refused_3_then_27() {
+    let round = |bytes| Call::Round {
+        room: vec![9; bytes],
+    };
+    let mut none = Model::new(size(8));
+    for bytes in [0, 15, 16, 17] {
+        assert_eq!(none.call(&round(bytes)), Reply::Refused(3));
+    }
+    let mut desk = Desk::new(SMALL);
+    desk.arrive(0, &ACCEPTED_HEADER);
+    for bytes in 0..16 {
+        assert_eq!(desk.call(round(bytes)), Reply::Refused(27));
+    }
+    assert_eq!(desk.round(), [Some(0), None, None, None]);
+}
+
+/// One stitch a port, lower ports first; then one prefetch a queue, which a
+/// full slot refuses, so that the turn after it comes too late for that slot.
+#[test]
+fn a_round_moves_each_list_by_one() {
+    let mut desk = Desk::new(Settings { slots: 1, ..SMALL });
+    for port in [1, 0] {
+        for _ in 0..2 {
+            desk.arrive(port, &written(0, port.into(), 4, 12));
+        }
+    }
+    desk.round();
+    let egress = ListKind::Egress { port: 0, queue: 4 };
+    let slots = ListKind::Prefetch { port: 0, queue: 4 };
+    assert_eq!(desk.place(0), Reply::Found(slots, 0));
+    assert_eq!(desk.place(2048), Reply::Found(egress, 0));
+    assert_eq!(
+        desk.place(1),
+        Reply::Found(ListKind::Ingress { port: 0 }, 0)
+    );
+    // No credit yet: nothing leaves, and the slot stays in use.
+    assert_eq!(desk.round(), [None; 4]);
+    assert_eq!(desk.place(2048), Reply::Found(egress, 0));
+    assert_eq!(desk.place(1), Reply::Found(egress, 1));
+    assert_eq!(desk.place(2049), Reply::Found(egress, 2));
+    desk.credit(0, 4, 4);
+    // The slot is free after the turn alone: the next one follows a round later.
+    assert_eq!(desk.round()[0], Some(0));
+    assert_eq!(desk.place(2048), Reply::Found(egress, 0));
+    for leaving in [2048, 1, 2049] {
+        assert_eq!(desk.round()[0], Some(leaving));
+    }
+}
+
+/// Every queue of every port has its prefetch, also behind refused ones.
+#[test]
+fn a_round_serves_all_queues_of_all_ports() {
+    for port in 0..4 {
+        for queue in 0..24 {
+            let mut desk = Desk::new(SMALL);
+            desk.map(2, port);
+            if queue > 0 {
+                desk.credit(port, queue, 1);
+            }
+            desk.arrive(1, &written(2, 1, queue.into(), 12));
+            let mut turns = [None; 4];
+            turns[port as usize] = Some(2048);
+            assert_eq!(desk.round(), turns);
+        }
+    }
+}
+
+/// Two nodes of one owner that leave by two ports in one round go home in the
+/// order of the ports.
+#[test]
+fn turns_of_a_round_are_made_in_the_order_of_the_ports() {
+    let mut desk = Desk::new(SMALL);
+    desk.map(1, 1);
+    desk.arrive(0, &written(1, 0, 0, 12));
+    desk.stitch(0);
+    desk.arrive(0, &ACCEPTED_HEADER);
+    assert_eq!(desk.round(), [Some(1), Some(0), None, None]);
+    let free = ListKind::Free { port: 0 };
+    assert_eq!(desk.place(1), Reply::Found(free, 6));
+    assert_eq!(desk.place(0), Reply::Found(free, 7));
 }
 
 // The turn's choice.

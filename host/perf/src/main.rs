@@ -12,7 +12,7 @@ use std::time::Instant;
 
 use checks::library;
 use checks::reader::{Tables, LISTS};
-use model::{size, Call, Choice, Model, Reply, Settings, PORTS, QUEUES};
+use model::{size, Call, Choice, Model, Reply, Settings, PORTS, QUEUES, ROUND_BYTES};
 use traffic::{header, Profile, Traffic};
 use ventorupo::calls;
 
@@ -344,6 +344,7 @@ fn quick(memory: &mut [u8], call: &Call) -> u32 {
         Call::Turn { port } => calls::turn(memory, *port, &mut [0; 16]),
         Call::Ready { port } => calls::ready(memory, *port, &mut 0, &mut 0),
         Call::Where { entry } => calls::place_of(memory, *entry, &mut [0; 8]),
+        Call::Round { .. } => calls::round(memory, &mut [0; ROUND_BYTES]),
     }
 }
 

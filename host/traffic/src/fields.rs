@@ -11,8 +11,8 @@ fn right_length(tag: u8) -> usize {
 }
 
 /// A call's tagged field: tag, length, value. None where no field can say it:
-/// ready and where have no tag, a field has no room for larger numbers, and
-/// an arrival's header is ten bytes.
+/// ready, where and a round have no tag, a field has no room for larger numbers,
+/// and an arrival's header is ten bytes.
 pub fn field(call: &Call) -> Option<Vec<u8>> {
     let one = |number: u32| u8::try_from(number).ok();
     let two = |number: u32| Some(u16::try_from(number).ok()?.to_be_bytes());
@@ -42,7 +42,7 @@ pub fn field(call: &Call) -> Option<Vec<u8>> {
             (6, value)
         }
         Call::Map { id, port } => (7, vec![one(*id)?, one(*port)?]),
-        Call::Ready { .. } | Call::Where { .. } => return None,
+        Call::Ready { .. } | Call::Where { .. } | Call::Round { .. } => return None,
     };
     Some(tagged(tag, &value))
 }

@@ -14,7 +14,7 @@ pub use random::Random;
 use model::checksum::crc8;
 use model::{
     size, Call, Ledger, Model, Port, Settings, ENTRIES_PER_PORT, LONGEST, MOST_CREDIT, MOST_NODES,
-    PORTS, QUEUES, SHORTEST,
+    PORTS, QUEUES, ROUND_BYTES, SHORTEST,
 };
 
 /// The ten bytes of a header, with its checksum. Each field must fit its width.
@@ -122,9 +122,10 @@ enum Step {
     Turn,
     Ready,
     Where,
+    Round,
 }
 
-const STEPS: [Step; 8] = [
+const STEPS: [Step; 9] = [
     Step::Arrive,
     Step::Stitch,
     Step::Prefetch,
@@ -133,6 +134,7 @@ const STEPS: [Step; 8] = [
     Step::Turn,
     Step::Ready,
     Step::Where,
+    Step::Round,
 ];
 
 // Settings just beyond their rows, and some that a cut to a byte or two would
@@ -143,17 +145,17 @@ const WRONG_SLOTS: [u32; 6] = [0, 9, 255, 257, 70_000, u32::MAX];
 const WRONG_CREDITS: [u32; 5] = [65_536, 65_537, 70_000, 1 << 31, u32::MAX];
 
 // The refusals at which a hostile call aims.
-const AIMS: [u32; 14] = [4, 5, 6, 7, 8, 9, 10, 11, 12, 13, 14, 15, 19, 20];
+const AIMS: [u32; 15] = [4, 5, 6, 7, 8, 9, 10, 11, 12, 13, 14, 15, 19, 20, 27];
 
 impl Phase {
     /// How often each of the steps, in the order of `STEPS`.
-    fn weights(self) -> [u32; 8] {
+    fn weights(self) -> [u32; 9] {
         match self {
-            Phase::Fill => [40, 24, 14, 5, 3, 5, 4, 5],
-            Phase::Even => [20, 20, 20, 12, 3, 17, 4, 4],
-            Phase::Drain => [5, 20, 25, 16, 1, 27, 3, 3],
-            Phase::Flood => [60, 20, 10, 3, 2, 0, 2, 3],
-            Phase::Ebb => [0, 24, 26, 20, 1, 25, 2, 2],
+            Phase::Fill => [40, 24, 14, 5, 3, 5, 4, 5, 1],
+            Phase::Even => [20, 20, 20, 12, 3, 17, 4, 4, 2],
+            Phase::Drain => [5, 20, 25, 16, 1, 27, 3, 3, 2],
+            Phase::Flood => [60, 20, 10, 3, 2, 0, 2, 3, 0],
+            Phase::Ebb => [0, 24, 26, 20, 1, 25, 2, 2, 2],
         }
     }
 }
@@ -362,6 +364,7 @@ impl Traffic {
             Step::Where => Some(Call::Where {
                 entry: self.node(ledger),
             }),
+            Step::Round => Some(self.round()),
         }
     }
 
@@ -549,6 +552,18 @@ impl Traffic {
         Call::Turn {
             port: ready.map_or(any, |(port, _)| port),
         }
+    }
+
+    /// A round with room enough, and often with more.
+    fn round(&mut self) -> Call {
+        let more = self.random.pick(&[0, 0, 1, 3, 4, 20]);
+        self.round_with(ROUND_BYTES + more)
+    }
+
+    /// A round with so many bytes of room, of any content.
+    fn round_with(&mut self, bytes: usize) -> Call {
+        let room = (0..bytes).map(|_| self.random.word() as u8).collect();
+        Call::Round { room }
     }
 
     // Calls that aim at a refusal.
@@ -771,6 +786,14 @@ impl Traffic {
                     amount,
                 }
             }
+            27 => {
+                let most = ROUND_BYTES as u32 - 1;
+                let bytes = match self.random.below(3) {
+                    0 => most,
+                    _ => self.random.below(most + 1),
+                };
+                self.round_with(bytes as usize)
+            }
             _ => {
                 if self.random.one_in(2) {
                     // Half of these with a port that is wrong as well.
@@ -805,7 +828,7 @@ impl Traffic {
         } else {
             self.random.below(QUEUES)
         };
-        match self.random.below(12) {
+        match self.random.below(13) {
             0..=4 => {
                 let source = if self.random.one_in(3) {
                     self.random.below(4)
@@ -845,6 +868,10 @@ impl Traffic {
             },
             9 => Call::Turn { port },
             10 => Call::Ready { port },
+            11 => {
+                let bytes = self.random.below(2 * ROUND_BYTES as u32);
+                self.round_with(bytes as usize)
+            }
             _ => Call::Where {
                 entry: if self.random.one_in(2) {
                     self.no_node(ledger)

@@ -8,7 +8,7 @@ use crate::{field, header, stream, Profile, Traffic};
 /// How often each answer came. Refusals by their numbers.
 #[derive(Default, Debug)]
 struct Counts {
-    refused: [u64; 21],
+    refused: [u64; 28],
     accepted: BTreeMap<&'static str, u64>,
 }
 
@@ -24,6 +24,7 @@ fn name(call: &Call, reply: &Reply) -> &'static str {
         (Call::Turn { .. }, _) => "turn",
         (Call::Ready { .. }, _) => "ready",
         (Call::Where { .. }, _) => "where",
+        (Call::Round { .. }, _) => "round",
     }
 }
 
@@ -58,7 +59,7 @@ fn run(profile: Profile, memory_len: usize) -> Counts {
         }
     }
     println!("{profile:?}: {:?}", counts.accepted);
-    println!("  refused 1 to 20: {:?}", &counts.refused[1..]);
+    println!("  refused 1 to 27: {:?}", &counts.refused[1..]);
     counts
 }
 
@@ -85,6 +86,7 @@ fn each_call_at_least(counts: &Counts, least: u64) {
         "turn",
         "ready",
         "where",
+        "round",
     ] {
         let times = counts.accepted.get(call).copied().unwrap_or(0);
         assert!(times >= least, "{call}: {times} times");
@@ -273,6 +275,7 @@ fn fields_have_no_room_for_larger_numbers() {
     assert_eq!(field(&Call::Turn { port: 256 }), None);
     assert_eq!(field(&Call::Ready { port: 0 }), None);
     assert_eq!(field(&Call::Where { entry: 0 }), None);
+    assert_eq!(field(&Call::Round { room: vec![0; 16] }), None);
     let nine = Call::Arrive {
         port: 0,
         header: vec![0; 9],

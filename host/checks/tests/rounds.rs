@@ -1,0 +1,376 @@
+//! The round: the library beside the model, and beside its own calls one by one.
+
+use checks::counts::Counts;
+use checks::run::{run, Pair, Plan};
+use checks::{library, reader, Desk};
+use model::{size, Call, Model, Reply, Settings, PORTS, QUEUES, ROUND_BYTES};
+use traffic::{header, Profile, Random, Traffic};
+
+const NODES: [u32; 4] = [1, 16, 256, 2048];
+
+fn settings(nodes: u32) -> Settings {
+    Settings {
+        nodes,
+        beat: 64,
+        slots: 2,
+        credit: 1000,
+    }
+}
+
+fn round(room: &[u8]) -> Call {
+    Call::Round {
+        room: room.to_vec(),
+    }
+}
+
+fn junk(random: &mut Random, bytes: usize) -> Vec<u8> {
+    (0..bytes).map(|_| random.word() as u8).collect()
+}
+
+/// A switch that valid traffic has left, and a packet that is to be stitched.
+fn used(nodes: u32, seed: u64, calls: usize) -> (Vec<u8>, Model) {
+    let (mut memory, mut model) = (vec![0; size(nodes)], Model::new(size(nodes)));
+    let mut make = |model: &mut Model, call: &Call| {
+        assert_eq!(library::call(&mut memory, call), Ok(model.call(call)));
+    };
+    make(&mut model, &Call::Setup(settings(nodes)));
+    let mut traffic = Traffic::new(seed, Profile::Valid);
+    for _ in 0..calls {
+        match traffic.next(&model) {
+            Call::Setup(_) => continue,
+            call => make(&mut model, &call),
+        }
+    }
+    let header = header(0, 2, 0, 12, false, false, 0, 0, 0).to_vec();
+    make(&mut model, &Call::Arrive { port: 2, header });
+    (memory, model)
+}
+
+/// From none to more than enough, and some that would be too short if their
+/// length were cut to a byte or two.
+#[test]
+fn rooms_of_every_length() {
+    let mut random = Random::new(27);
+    for nodes in NODES {
+        let (memory, model) = used(nodes, 1, 500);
+        for bytes in (0..=3 * ROUND_BYTES).chain([256, 257, 271, 65_536, 65_551]) {
+            let call = round(&junk(&mut random, bytes));
+            let (mut after, mut wanted) = (memory.clone(), model.clone());
+            let reply = wanted.call(&call);
+            assert_eq!(library::call(&mut after, &call), Ok(reply));
+            let short = bytes < ROUND_BYTES;
+            assert_eq!(reply == Reply::Refused(27), short, "{bytes} bytes");
+            assert_eq!(after == memory, short, "{bytes} bytes");
+            assert_eq!(reader::judged(&after).unwrap().ledger(), wanted.ledger());
+        }
+    }
+}
+
+/// Refused 3 whatever the room, and neither memory nor room changes.
+#[test]
+fn rounds_on_damaged_memory() {
+    let mut random = Random::new(3);
+    for nodes in NODES {
+        let (mut memory, _) = used(nodes, 2, 500);
+        let whole = memory.clone();
+        let mut damaged = 0;
+        while damaged < 100 {
+            let at = match random.below(3) {
+                // Settings, map and marks often.
+                0 => random.below(20),
+                _ => random.below(memory.len() as u32),
+            };
+            memory[at as usize] ^= 1 << random.below(8);
+            if reader::judged(&memory).is_err() {
+                damaged += 1;
+                for bytes in [0, 1, ROUND_BYTES - 1, ROUND_BYTES, 3 * ROUND_BYTES] {
+                    let mut after = memory.clone();
+                    let call = round(&junk(&mut random, bytes));
+                    assert_eq!(library::call(&mut after, &call), Ok(Reply::Refused(3)));
+                    assert!(after == memory, "byte {at}");
+                }
+            }
+            memory.copy_from_slice(&whole);
+        }
+        // A byte less than the state needs.
+        let short = memory.len() - 1;
+        let answer = library::call(&mut memory[..short], &round(&[9; ROUND_BYTES]));
+        assert_eq!(answer, Ok(Reply::Refused(3)));
+        assert_eq!(memory, whole);
+    }
+}
+
+/// The calls that a round is.
+fn calls_of_a_round() -> Vec<Call> {
+    let stitches = (0..PORTS).map(|port| Call::Stitch { port });
+    let queues = |port| (0..QUEUES).map(move |queue| Call::Prefetch { port, queue });
+    let turns = (0..PORTS).map(|port| Call::Turn { port });
+    stitches
+        .chain((0..PORTS).flat_map(queues))
+        .chain(turns)
+        .collect()
+}
+
+/// Four bytes: refusal number, 1 if idle, entry id or 0.
+fn told(reply: Reply) -> [u8; 4] {
+    match reply {
+        Reply::Refused(number) => [number, 0, 0, 0],
+        Reply::Idle => [0, 1, 0, 0],
+        Reply::Leaves(packet, _) => [0, 0, (packet.entry >> 8) as u8, packet.entry as u8],
+        other => panic!("a turn answered {other:?}"),
+    }
+}
+
+/// The library's calls one by one, told as a round tells them.
+fn one_by_one(memory: &mut [u8]) -> Reply {
+    let mut turns = Vec::new();
+    for call in calls_of_a_round() {
+        let reply = library::call(memory, &call).unwrap();
+        if let Call::Turn { .. } = call {
+            turns.extend(told(reply));
+        }
+    }
+    Reply::Turns(turns.try_into().unwrap())
+}
+
+/// Byte for byte, at many moments of valid traffic.
+#[test]
+fn a_round_is_its_calls_one_by_one() {
+    assert_eq!(calls_of_a_round().len(), 104);
+    for (nodes, moments) in NODES.into_iter().zip([400, 400, 100, 20]) {
+        let (mut memory, mut model) = used(nodes, 3, 200);
+        let mut traffic = Traffic::new(4, Profile::Valid);
+        let (mut made, mut sent) = (0, 0);
+        while made < moments {
+            let call = match traffic.next(&model) {
+                Call::Setup(_) | Call::Round { .. } => continue,
+                call => call,
+            };
+            assert_eq!(library::call(&mut memory, &call), Ok(model.call(&call)));
+            // Some calls between two rounds.
+            if !matches!(call, Call::Arrive { .. }) {
+                continue;
+            }
+            let mut other = memory.clone();
+            let call = round(&[9; ROUND_BYTES]);
+            let reply = library::call(&mut memory, &call).unwrap();
+            assert_eq!(reply, one_by_one(&mut other));
+            assert!(memory == other, "round {made}");
+            model.call(&call);
+            made += 1;
+            if let Reply::Turns(turns) = reply {
+                sent += turns.chunks(4).filter(|turn| turn[1] == 0).count();
+            }
+        }
+        println!("N = {nodes}: {made} rounds sent {sent} packets");
+        assert!(sent > moments / 4);
+    }
+}
+
+/// A switch with as many packets in ingress as there are nodes, up to some.
+fn flooded<'d, D: Desk>(desk: &'d D, nodes: u32, queue: impl Fn(u32) -> u32) -> Pair<'d, D> {
+    let mut pair = Pair::new(desk, nodes.into(), size(nodes) + 3, 1 << 20);
+    pair.call(&Call::Setup(settings(nodes))).unwrap();
+    for number in 0..nodes.min(60) {
+        for port in 0..PORTS {
+            let header = header(number % 4, port, queue(number), 100, false, false, 7, 0, 0);
+            let header = header.to_vec();
+            let reply = pair.call(&Call::Arrive { port, header }).unwrap();
+            assert!(matches!(reply, Reply::Entry(_)));
+        }
+    }
+    pair
+}
+
+/// So many rounds; how many packets they sent, and whether the last of them
+/// changed a byte.
+fn rounds<D: Desk>(pair: &mut Pair<D>, times: u32) -> (usize, bool) {
+    let (mut sent, mut changed) = (0, false);
+    for _ in 0..times {
+        let before = pair.memory().to_vec();
+        match pair.call(&round(&[9; 20])).unwrap() {
+            Reply::Turns(turns) => sent += turns.chunks(4).filter(|turn| turn[1] == 0).count(),
+            other => panic!("{other:?}"),
+        }
+        changed = before != pair.memory();
+    }
+    (sent, changed)
+}
+
+/// At rest; with all nodes in ingress; in one line that has no credit, where
+/// rounds come to change nothing; with all the credit, and empty again.
+#[test]
+fn rounds_on_states_at_their_edges() {
+    for nodes in NODES {
+        let held = 4 * nodes.min(60);
+        let mut rest = Pair::new(&library::call, 1, size(nodes), 1);
+        rest.call(&Call::Setup(settings(nodes))).unwrap();
+        assert_eq!(rounds(&mut rest, 1), (0, false));
+
+        let mut inside = flooded(&library::call, nodes, |_| 0);
+        assert_eq!(rounds(&mut inside, held), (held as usize, true));
+        assert_eq!(rounds(&mut inside, 1), (0, false));
+
+        let mut line = flooded(&library::call, nodes, |_| 9);
+        assert_eq!(rounds(&mut line, held + 1), (0, false));
+        let credit = Call::Credit {
+            port: 0,
+            queue: 9,
+            amount: 65_535,
+        };
+        line.call(&credit).unwrap();
+        assert_eq!(rounds(&mut line, held), (held as usize, true));
+        assert_eq!(rounds(&mut line, 1), (0, false));
+
+        let mut spread = flooded(&library::call, nodes, |number| number % QUEUES);
+        for id in 0..4 {
+            spread.call(&Call::Map { id, port: 3 - id }).unwrap();
+        }
+        rounds(&mut spread, nodes.min(60) + 3);
+        for (port, queue) in (0..PORTS).flat_map(|port| (1..QUEUES).map(move |q| (port, q))) {
+            let amount = 65_535;
+            let credit = Call::Credit {
+                port,
+                queue,
+                amount,
+            };
+            spread.call(&credit).unwrap();
+        }
+        rounds(&mut spread, 2 * nodes.min(60));
+    }
+}
+
+// Would slips be found? Rounds made of the library's calls, with one slip each.
+
+type Made = Result<Vec<u8>, String>;
+type Round = fn(&mut [u8]) -> Made;
+
+fn stitch_each(memory: &mut [u8], ports: impl Iterator<Item = u32>) -> Result<(), String> {
+    for port in ports {
+        library::call(memory, &Call::Stitch { port })?;
+    }
+    Ok(())
+}
+
+fn prefetch_each(memory: &mut [u8], queues: u32, times: u32) -> Result<(), String> {
+    for (port, queue) in (0..PORTS).flat_map(|port| (0..queues).map(move |q| (port, q))) {
+        for _ in 0..times {
+            library::call(memory, &Call::Prefetch { port, queue })?;
+        }
+    }
+    Ok(())
+}
+
+fn turn_each(memory: &mut [u8], ports: impl Iterator<Item = u32>) -> Made {
+    let mut turns = [0, 1, 0, 0].repeat(PORTS as usize);
+    for port in ports {
+        let reply = library::call(memory, &Call::Turn { port })?;
+        turns[4 * port as usize..][..4].copy_from_slice(&told(reply));
+    }
+    Ok(turns)
+}
+
+/// A library whose round is this one, where it isn't refused.
+fn with_round(made: Round) -> impl Desk {
+    move |memory: &mut [u8], call: &Call| {
+        let mut judged = memory.to_vec();
+        match library::call(&mut judged, call)? {
+            Reply::Turns(_) => Ok(Reply::Turns(made(memory)?.try_into().unwrap())),
+            _ => library::call(memory, call),
+        }
+    }
+}
+
+fn found<D: Desk>(desk: &D) -> bool {
+    let plan = Plan {
+        seed: 6,
+        profile: Profile::Valid,
+        memory_len: size(4),
+        calls: 20_000,
+        ledger_every: 256,
+    };
+    run(&plan, desk, &mut Counts::default()).is_err()
+}
+
+#[test]
+fn a_round_with_a_slip_is_found() {
+    let right = |m: &mut [u8]| {
+        stitch_each(m, 0..4)?;
+        prefetch_each(m, 24, 1)?;
+        turn_each(m, 0..4)
+    };
+    assert!(!found(&with_round(right)));
+    let slips: [(&str, Round); 9] = [
+        ("turns before prefetches", |m| {
+            stitch_each(m, 0..4)?;
+            let turns = turn_each(m, 0..4);
+            prefetch_each(m, 24, 1)?;
+            turns
+        }),
+        ("prefetches before stitches", |m| {
+            prefetch_each(m, 24, 1)?;
+            stitch_each(m, 0..4)?;
+            turn_each(m, 0..4)
+        }),
+        ("the first refusal ends it", |m| {
+            for call in calls_of_a_round().iter().take(100) {
+                if let Reply::Refused(_) = library::call(m, call)? {
+                    return Ok([0, 1, 0, 0].repeat(4));
+                }
+            }
+            turn_each(m, 0..4)
+        }),
+        ("no prefetch for the last queue", |m| {
+            stitch_each(m, 0..4)?;
+            prefetch_each(m, 23, 1)?;
+            turn_each(m, 0..4)
+        }),
+        ("two prefetches for each queue", |m| {
+            stitch_each(m, 0..4)?;
+            prefetch_each(m, 24, 2)?;
+            turn_each(m, 0..4)
+        }),
+        ("no stitch at the last port", |m| {
+            stitch_each(m, 0..3)?;
+            prefetch_each(m, 24, 1)?;
+            turn_each(m, 0..4)
+        }),
+        ("no turn at the last port", |m| {
+            stitch_each(m, 0..4)?;
+            prefetch_each(m, 24, 1)?;
+            turn_each(m, 0..3)
+        }),
+        ("stitches from the last port on", |m| {
+            stitch_each(m, (0..4).rev())?;
+            prefetch_each(m, 24, 1)?;
+            turn_each(m, 0..4)
+        }),
+        ("turns from the last port on", |m| {
+            stitch_each(m, 0..4)?;
+            prefetch_each(m, 24, 1)?;
+            turn_each(m, (0..4).rev())
+        }),
+    ];
+    for (slip, made) in slips {
+        assert!(found(&with_round(made)), "{slip}");
+    }
+}
+
+/// 27 at just enough, and 27 tested before 3.
+#[test]
+fn a_slip_in_a_rounds_refusals_is_found() {
+    let one_more = |memory: &mut [u8], call: &Call| match call {
+        Call::Round { room } if room.len() == ROUND_BYTES => {
+            library::call(memory, &round(&room[1..]))
+        }
+        _ => library::call(memory, call),
+    };
+    assert!(found(&one_more));
+    let too_early = |memory: &mut [u8], call: &Call| match call {
+        Call::Round { room } if room.len() < ROUND_BYTES => Ok(Reply::Refused(27)),
+        _ => library::call(memory, call),
+    };
+    let mut pair = Pair::new(&too_early, 1, size(1), 1);
+    assert!(pair.call(&round(&[9; ROUND_BYTES])).is_ok());
+    assert!(pair.call(&round(&[9; ROUND_BYTES - 1])).is_err());
+}
