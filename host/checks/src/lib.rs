@@ -9,6 +9,9 @@ pub mod damage;
 pub mod library;
 pub mod reader;
 pub mod run;
+pub mod waits;
+pub mod watch;
+pub mod workers;
 pub mod wrapper;
 
 use model::{Call, Reply};

@@ -1,9 +1,12 @@
 //! The round: the library beside the model, and beside its own calls one by one.
 
+mod slips;
+
 use checks::counts::Counts;
 use checks::run::{run, Pair, Plan};
 use checks::{library, reader, Desk};
 use model::{size, Call, Model, Reply, Settings, PORTS, QUEUES, ROUND_BYTES};
+use slips::{calls_of_a_round, right, told, with_round, SLIPS};
 use traffic::{header, Profile, Random, Traffic};
 
 const NODES: [u32; 4] = [1, 16, 256, 2048];
@@ -97,27 +100,6 @@ fn rounds_on_damaged_memory() {
         let answer = library::call(&mut memory[..short], &round(&[9; ROUND_BYTES]));
         assert_eq!(answer, Ok(Reply::Refused(3)));
         assert_eq!(memory, whole);
-    }
-}
-
-/// The calls that a round is.
-fn calls_of_a_round() -> Vec<Call> {
-    let stitches = (0..PORTS).map(|port| Call::Stitch { port });
-    let queues = |port| (0..QUEUES).map(move |queue| Call::Prefetch { port, queue });
-    let turns = (0..PORTS).map(|port| Call::Turn { port });
-    stitches
-        .chain((0..PORTS).flat_map(queues))
-        .chain(turns)
-        .collect()
-}
-
-/// Four bytes: refusal number, 1 if idle, entry id or 0.
-fn told(reply: Reply) -> [u8; 4] {
-    match reply {
-        Reply::Refused(number) => [number, 0, 0, 0],
-        Reply::Idle => [0, 1, 0, 0],
-        Reply::Leaves(packet, _) => [0, 0, (packet.entry >> 8) as u8, packet.entry as u8],
-        other => panic!("a turn answered {other:?}"),
     }
 }
 
@@ -240,46 +222,7 @@ fn rounds_on_states_at_their_edges() {
     }
 }
 
-// Would slips be found? Rounds made of the library's calls, with one slip each.
-
-type Made = Result<Vec<u8>, String>;
-type Round = fn(&mut [u8]) -> Made;
-
-fn stitch_each(memory: &mut [u8], ports: impl Iterator<Item = u32>) -> Result<(), String> {
-    for port in ports {
-        library::call(memory, &Call::Stitch { port })?;
-    }
-    Ok(())
-}
-
-fn prefetch_each(memory: &mut [u8], queues: u32, times: u32) -> Result<(), String> {
-    for (port, queue) in (0..PORTS).flat_map(|port| (0..queues).map(move |q| (port, q))) {
-        for _ in 0..times {
-            library::call(memory, &Call::Prefetch { port, queue })?;
-        }
-    }
-    Ok(())
-}
-
-fn turn_each(memory: &mut [u8], ports: impl Iterator<Item = u32>) -> Made {
-    let mut turns = [0, 1, 0, 0].repeat(PORTS as usize);
-    for port in ports {
-        let reply = library::call(memory, &Call::Turn { port })?;
-        turns[4 * port as usize..][..4].copy_from_slice(&told(reply));
-    }
-    Ok(turns)
-}
-
-/// A library whose round is this one, where it isn't refused.
-fn with_round(made: Round) -> impl Desk {
-    move |memory: &mut [u8], call: &Call| {
-        let mut judged = memory.to_vec();
-        match library::call(&mut judged, call)? {
-            Reply::Turns(_) => Ok(Reply::Turns(made(memory)?.try_into().unwrap())),
-            _ => library::call(memory, call),
-        }
-    }
-}
+// Would slips be found?
 
 fn found<D: Desk>(desk: &D) -> bool {
     let plan = Plan {
@@ -294,65 +237,9 @@ fn found<D: Desk>(desk: &D) -> bool {
 
 #[test]
 fn a_round_with_a_slip_is_found() {
-    let right = |m: &mut [u8]| {
-        stitch_each(m, 0..4)?;
-        prefetch_each(m, 24, 1)?;
-        turn_each(m, 0..4)
-    };
     assert!(!found(&with_round(right)));
-    let slips: [(&str, Round); 9] = [
-        ("turns before prefetches", |m| {
-            stitch_each(m, 0..4)?;
-            let turns = turn_each(m, 0..4);
-            prefetch_each(m, 24, 1)?;
-            turns
-        }),
-        ("prefetches before stitches", |m| {
-            prefetch_each(m, 24, 1)?;
-            stitch_each(m, 0..4)?;
-            turn_each(m, 0..4)
-        }),
-        ("the first refusal ends it", |m| {
-            for call in calls_of_a_round().iter().take(100) {
-                if let Reply::Refused(_) = library::call(m, call)? {
-                    return Ok([0, 1, 0, 0].repeat(4));
-                }
-            }
-            turn_each(m, 0..4)
-        }),
-        ("no prefetch for the last queue", |m| {
-            stitch_each(m, 0..4)?;
-            prefetch_each(m, 23, 1)?;
-            turn_each(m, 0..4)
-        }),
-        ("two prefetches for each queue", |m| {
-            stitch_each(m, 0..4)?;
-            prefetch_each(m, 24, 2)?;
-            turn_each(m, 0..4)
-        }),
-        ("no stitch at the last port", |m| {
-            stitch_each(m, 0..3)?;
-            prefetch_each(m, 24, 1)?;
-            turn_each(m, 0..4)
-        }),
-        ("no turn at the last port", |m| {
-            stitch_each(m, 0..4)?;
-            prefetch_each(m, 24, 1)?;
-            turn_each(m, 0..3)
-        }),
-        ("stitches from the last port on", |m| {
-            stitch_each(m, (0..4).rev())?;
-            prefetch_each(m, 24, 1)?;
-            turn_each(m, 0..4)
-        }),
-        ("turns from the last port on", |m| {
-            stitch_each(m, 0..4)?;
-            prefetch_each(m, 24, 1)?;
-            turn_each(m, (0..4).rev())
-        }),
-    ];
-    for (slip, made) in slips {
-        assert!(found(&with_round(made)), "{slip}");
+    for slip in SLIPS {
+        assert!(found(&with_round(slip.made)), "{}", slip.name);
     }
 }
 

@@ -1,0 +1,266 @@
+//! A watch over one packet from door to door: how many rounds until it is
+//! stitched, and how many from there until it leaves. It goes by the library's
+//! answers; what stands ahead of the packet at its stitch is read off the bytes.
+
+use model::{Call, Ledger, ListKind, Packet, Reply, QUEUES, ROUND_BYTES};
+
+use crate::{reader, Desk};
+
+/// How long a packet waited for something, in rounds, and the promised most.
+#[derive(Debug, Clone, Copy, PartialEq, Eq)]
+pub struct Wait {
+    pub rounds: u32,
+    pub most: u32,
+}
+
+/// Where a packet goes when it is stitched.
+#[derive(Debug, Clone, Copy, PartialEq, Eq)]
+pub struct Line {
+    pub port: u32,
+    pub queue: u32,
+    /// Packets of its queue ahead of it there, egress and prefetch together.
+    pub ahead: u32,
+    /// Does outward credit cover them all, and the packet? And what is lacking.
+    pub covered: bool,
+    pub lacking: u32,
+    /// Rounds that were over before the stitch.
+    from: u32,
+}
+
+impl Line {
+    fn most(&self) -> u32 {
+        QUEUES * (self.ahead + 1)
+    }
+}
+
+/// The packet, from the moment of its arrival on.
+#[derive(Debug, Clone)]
+pub struct Watch {
+    pub entry: u16,
+    /// Where it came in.
+    port: u32,
+    /// How many were ahead of it in ingress then, and the rounds over by then.
+    pub ahead: u32,
+    since: u32,
+    /// Its position in ingress now.
+    position: u32,
+    /// Before so many rounds are over it must be stitched: the least of what
+    /// any moment so far promises.
+    due: u32,
+    pub stitched: Option<(Line, Wait)>,
+    /// From the stitch on; nothing is promised where credit doesn't cover it.
+    pub left: Option<Wait>,
+}
+
+impl Watch {
+    /// Is there nothing left to wait for?
+    pub fn is_over(&self) -> bool {
+        let uncovered = matches!(self.stitched, Some((line, _)) if !line.covered);
+        self.left.is_some() || uncovered
+    }
+
+    /// From arrival to departure.
+    pub fn door_to_door(&self) -> Option<Wait> {
+        let ((line, _), left) = (self.stitched?, self.left?);
+        Some(Wait {
+            rounds: line.from - self.since + left.rounds,
+            most: self.ahead + line.most(),
+        })
+    }
+}
+
+/// A desk with its memory, and a packet under watch on it.
+pub struct Scene<'d, D> {
+    desk: &'d D,
+    memory: Vec<u8>,
+    /// Made and not refused.
+    rounds: u32,
+    pub watch: Option<Watch>,
+}
+
+/// The port by which an answer says that the node's packet left.
+fn left_by(call: &Call, reply: &Reply, entry: u16) -> Option<u32> {
+    match (call, reply) {
+        (Call::Turn { port }, Reply::Leaves(packet, _)) if packet.entry == entry => Some(*port),
+        (_, Reply::Turns(turns)) => {
+            let [high, low] = entry.to_be_bytes();
+            let told = turns
+                .chunks_exact(4)
+                .position(|turn| turn == [0, 0, high, low]);
+            told.map(|port| port as u32)
+        }
+        _ => None,
+    }
+}
+
+impl<'d, D: Desk> Scene<'d, D> {
+    pub fn new(desk: &'d D, bytes: usize) -> Scene<'d, D> {
+        Scene {
+            desk,
+            memory: vec![0; bytes],
+            rounds: 0,
+            watch: None,
+        }
+    }
+
+    /// What the bytes picture now.
+    pub fn ledger(&self) -> Result<Ledger, String> {
+        reader::ledger(&self.memory)
+    }
+
+    pub fn bytes(&self) -> usize {
+        self.memory.len()
+    }
+
+    /// One call, and a look at the packet. The error is a promise broken.
+    pub fn call(&mut self, call: &Call) -> Result<Reply, String> {
+        let line = self.line_ahead(call)?;
+        let before = self.rounds;
+        let reply = (self.desk)(&mut self.memory, call)?;
+        let in_round = matches!(reply, Reply::Turns(_));
+        self.rounds += u32::from(in_round);
+        if let Some(mut watch) = self.watch.take() {
+            if watch.left.is_none() {
+                let left = left_by(call, &reply, watch.entry);
+                self.look(&mut watch, line, before, in_round, left)
+                    .map_err(|why| format!("{why}, after {call:?}: {watch:?}"))?;
+            }
+            self.watch = Some(watch);
+        }
+        Ok(reply)
+    }
+
+    /// The packet of this entry id, which has just arrived at the port.
+    pub fn begin(&mut self, entry: u16, port: u32) -> Result<(), String> {
+        let mut watch = Watch {
+            entry,
+            port,
+            ahead: 0,
+            since: self.rounds,
+            position: 0,
+            due: u32::MAX,
+            stitched: None,
+            left: None,
+        };
+        self.look(&mut watch, None, self.rounds, false, None)?;
+        watch.ahead = watch.position;
+        self.watch = Some(watch);
+        Ok(())
+    }
+
+    /// Where the packet goes if this call stitches it, and who is ahead there.
+    pub fn line_ahead(&self, call: &Call) -> Result<Option<Line>, String> {
+        let watch = match &self.watch {
+            Some(watch) if watch.stitched.is_none() && watch.position == 0 => watch,
+            _ => return Ok(None),
+        };
+        let lower_ports = match call {
+            Call::Stitch { port } if *port == watch.port => 0,
+            // Lower ports are stitched before it.
+            Call::Round { room } if room.len() >= ROUND_BYTES => watch.port as usize,
+            _ => return Ok(None),
+        };
+        let ledger = self.ledger()?;
+        let packet = *ledger.packet(watch.entry).ok_or("the packet is gone")?;
+        let port = ledger.map[usize::from(packet.destination)];
+        let at = &ledger.ports[port as usize];
+        let queue = usize::from(packet.queue);
+        let joins = |other: &Packet| {
+            other.queue == packet.queue && ledger.map[usize::from(other.destination)] == port
+        };
+        let joining = ledger.ports[..lower_ports]
+            .iter()
+            .filter_map(|lower| ledger.packet(*lower.ingress.front()?))
+            .filter(|other| joins(other));
+        let prices: Vec<u32> = at.prefetch[queue]
+            .iter()
+            .chain(&at.egress[queue])
+            .filter_map(|&entry| ledger.packet(entry))
+            .chain(joining)
+            .map(|other| other.price)
+            .collect();
+        let all = prices.iter().sum::<u32>() + packet.price;
+        Ok(Some(Line {
+            port,
+            queue: packet.queue.into(),
+            ahead: prices.len() as u32,
+            covered: queue == 0 || all <= at.outward_credit[queue],
+            lacking: all.saturating_sub(at.outward_credit[queue]),
+            from: self.rounds,
+        }))
+    }
+
+    /// The packet after a call, before which so many rounds were over.
+    fn look(
+        &mut self,
+        watch: &mut Watch,
+        line: Option<Line>,
+        before: u32,
+        in_round: bool,
+        left: Option<u32>,
+    ) -> Result<(), String> {
+        // What happened in a round happened before it was over.
+        let now = before + u32::from(in_round);
+        let place = match left {
+            Some(_) => None,
+            None => Some(self.place(watch.entry)?),
+        };
+        if watch.stitched.is_none() {
+            if let Some(ListKind::Ingress { port }) = place.map(|(list, _)| list) {
+                watch.position = place.map_or(0, |(_, position)| position);
+                watch.due = watch.due.min(now + watch.position + 1);
+                return if port != watch.port {
+                    Err("it stands in another port's ingress".into())
+                } else if now >= watch.due {
+                    Err("it is not stitched in time".into())
+                } else {
+                    Ok(())
+                };
+            }
+            let line = line.ok_or("it left ingress without a stitch")?;
+            let wait = Wait {
+                rounds: now - watch.since,
+                most: watch.ahead + 1,
+            };
+            watch.stitched = Some((line, wait));
+        }
+        let (line, _) = watch.stitched.ok_or("not stitched")?;
+        if let Some(port) = left {
+            watch.left = Some(Wait {
+                rounds: now - line.from,
+                most: line.most(),
+            });
+            if port != line.port {
+                return Err("it leaves by another port".into());
+            }
+        } else {
+            let (port, queue) = (line.port, line.queue);
+            let lists = [
+                ListKind::Egress { port, queue },
+                ListKind::Prefetch { port, queue },
+            ];
+            if !place.map_or(false, |(list, _)| lists.contains(&list)) {
+                return Err(format!("it stands at {place:?}, not in its line"));
+            }
+        }
+        // The rounds that were over before it left are too many by one.
+        let over = match left {
+            Some(_) => before,
+            None => now,
+        };
+        if line.covered && over >= line.from + line.most() {
+            return Err("it does not leave in time".into());
+        }
+        Ok(())
+    }
+
+    fn place(&mut self, entry: u16) -> Result<(ListKind, u32), String> {
+        let call = Call::Where {
+            entry: entry.into(),
+        };
+        match (self.desk)(&mut self.memory, &call)? {
+            Reply::Found(list, position) => Ok((list, position)),
+            other => Err(format!("{call:?} answers {other:?}")),
+        }
+    }
+}
