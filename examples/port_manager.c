@@ -1,4 +1,5 @@
-/* A port manager in C: packets arrive at two ports, go to port 3 by way of the map, and leave it turn by turn. Each step is printed. */
+/* A port manager in C: packets arrive at two ports, go to port 3 by way of the map, and leave it: one is taken through by single calls,
+ * the others by rounds. Each step is printed. */
 #include <inttypes.h>
 #include <stdio.h>
 #include <stdlib.h>
@@ -51,23 +52,45 @@ static int done(const char *step, uint32_t answer)
     return 0;
 }
 
-static void bring(struct packet p)
+static void arrive(struct packet p)
 {
-    uint8_t header[10], record[10];
+    uint8_t header[10];
     uint16_t entry;
     make_header(p, header);
-    if (!done("arrive", vr_arrive(mem, len, p.source, header, sizeof header, &entry))) return;
-    printf("arrive: port %" PRIu32 ", queue %" PRIu32 ", length %" PRIu32 ": entry %u\n", p.source, p.queue, p.length, (unsigned)entry);
-    if (!done("stitch", vr_stitch(mem, len, p.source, record))) return;
-    printf("stitch: entry %" PRIu32 " to port %u, queue %u\n", be(record, 2), record[5], record[4]);
+    if (done("arrive", vr_arrive(mem, len, p.source, header, sizeof header, &entry)))
+        printf("arrive: port %" PRIu32 ", queue %" PRIu32 ", length %" PRIu32 ": entry %u\n", p.source, p.queue, p.length, (unsigned)entry);
 }
 
-/* Fills the slots of a queue of the port that packets leave by. */
+/* The oldest packet of the port where it arrived goes to the port that the map names. */
+static void stitch(uint32_t port)
+{
+    uint8_t record[10];
+    if (done("stitch", vr_stitch(mem, len, port, record)))
+        printf("stitch: entry %" PRIu32 " to port %u, queue %u\n", be(record, 2), record[5], record[4]);
+}
+
+/* The oldest packet of a queue goes to a slot of the port that packets leave by. */
 static void fetch(uint32_t queue)
 {
     uint16_t entry;
-    while (done("prefetch", vr_prefetch(mem, len, OUT, queue, &entry)))
+    if (done("prefetch", vr_prefetch(mem, len, OUT, queue, &entry)))
         printf("prefetch: queue %" PRIu32 ": entry %u\n", queue, (unsigned)entry);
+}
+
+/* All ports at once: a stitch at each, a prefetch for each queue, a turn at each. Whether a packet left. */
+static int run_round(void)
+{
+    uint8_t turns[16];
+    int sent = 0;
+    if (!done("round", vr_round(mem, len, turns, sizeof turns))) return 0;
+    for (int port = 0; port < 4; port++) {
+        const uint8_t *t = turns + 4 * port;
+        if (t[0] != 0 || t[1] != 0) continue; /* refused or idle */
+        printf("round: port %d: entry %" PRIu32 "\n", port, be(t + 2, 2));
+        sent = 1;
+    }
+    if (!sent) puts("round: nothing leaves");
+    return sent;
 }
 
 static void show_ready(void)
@@ -86,18 +109,16 @@ static void show_place(uint32_t entry)
         printf("where: entry %" PRIu32 ": %s of port %u, queue %u, position %" PRIu32 "\n", be(at, 2), kinds[at[2]], at[3], at[4], be(at + 6, 2));
 }
 
-/* Turns until the port is idle. */
-static void send_all(void)
+/* A single turn, with all that is recorded for the packet. */
+static void turn(void)
 {
     uint8_t s[16];
-    while (done("turn", vr_turn(mem, len, OUT, s))) {
-        if (s[0] == 0) {
-            puts("turn: idle");
-            return;
-        }
+    if (!done("turn", vr_turn(mem, len, OUT, s))) return;
+    if (s[0] == 0)
+        puts("turn: idle");
+    else
         printf("turn: %s: queue %u, entry %" PRIu32 ", length %" PRIu32 ", destination %" PRIu32 ", time %" PRIu32 ", transaction %u, price %" PRIu32 "\n",
                s[0] == 1 ? "inside" : "outside", s[1], be(s + 2, 2), be(s + 4, 2), be(s + 6, 2), be(s + 8, 4), s[13], be(s + 14, 2));
-    }
 }
 
 int main(void)
@@ -106,21 +127,24 @@ int main(void)
     mem = calloc(len, 1);
     if (mem == NULL) return 1;
     printf("size: %zu bytes\n", len);
-    send_all(); /* zero bytes are no switch state */
+    run_round(); /* zero bytes are no switch state */
     if (!done("setup", vr_setup(mem, len, NODES, BEAT, SLOTS, CREDIT))) return 1;
     if (!done("map", vr_map(mem, len, 1, OUT))) return 1;
-    bring((struct packet){1, 0, 5, 77, 1000, 1});
-    bring((struct packet){1, 0, 0, 12, 1001, 2});
-    bring((struct packet){1, 2, 5, 140, 1002, 3});
-    bring((struct packet){1, 2, 5, 8191, 1003, 4}); /* costs more than the arrival credit */
-    show_place(2 * 2048);
-    fetch(0);
+    arrive((struct packet){1, 0, 5, 77, 1000, 1});
+    arrive((struct packet){1, 0, 0, 12, 1001, 2});
+    arrive((struct packet){1, 2, 5, 140, 1002, 3});
+    arrive((struct packet){1, 2, 5, 8191, 1003, 4}); /* costs more than the arrival credit */
+    stitch(0);
     fetch(5);
-    show_ready();
-    send_all(); /* queue 5 has no outward credit yet */
+    turn(); /* queue 5 has no outward credit yet */
+    while (run_round()) {
+    }
+    show_place(2 * 2048);
     if (!done("credit", vr_credit(mem, len, OUT, 5, 5))) return 1;
     show_ready();
-    send_all();
+    turn();
+    while (run_round()) {
+    }
     show_place(2 * 2048);
     show_place(70000);
     free(mem);

@@ -6,6 +6,7 @@
 //! of their own.
 
 mod acts;
+mod rounds;
 mod sums;
 
 use std::time::Instant;
@@ -52,15 +53,15 @@ fn valid_traffic(seed: u64, nodes: u32, calls: usize, wanted: fn(&Call) -> bool)
     list
 }
 
-/// All but setup.
-fn no_setup(call: &Call) -> bool {
-    !matches!(call, Call::Setup(_))
+/// All but setup, and but the round, which is timed by itself.
+fn single(call: &Call) -> bool {
+    !matches!(call, Call::Setup(_) | Call::Round { .. })
 }
 
 /// Memory after traffic: nodes in many lists, in no particular order.
 fn used_memory(seed: u64, nodes: u32) -> Vec<u8> {
     let mut memory = vec![0; size(nodes)];
-    for call in valid_traffic(seed, nodes, 3000 + 20 * nodes as usize, no_setup) {
+    for call in valid_traffic(seed, nodes, 3000 + 20 * nodes as usize, single) {
         match call {
             // These change nothing.
             Call::Ready { .. } | Call::Where { .. } => continue,
@@ -409,7 +410,7 @@ fn main() {
     // The list is as long as it says: the same work on both sides.
     let mut memory = vec![0; size(4)];
     let mut model = Model::new(size(4));
-    for call in valid_traffic(1, 4, 2000, no_setup) {
+    for call in valid_traffic(1, 4, 2000, single) {
         let wanted = model.call(&call);
         assert_eq!(library::call(&mut memory, &call), Ok(wanted));
         assert_ne!(wanted, Reply::Refused(3));
@@ -425,7 +426,8 @@ fn main() {
     the_test_for_a_state();
     each_call_through_c();
     println!("### Whole public calls on the same valid traffic, ns a call\n");
-    beside_the_model(no_setup, quick);
+    beside_the_model(single, quick);
     println!("### The acts without the test on the same valid traffic, ns a call\n");
     beside_the_model(acts::has_act, bare_act);
+    rounds::a_round();
 }
