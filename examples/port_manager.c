@@ -77,20 +77,20 @@ static void fetch(uint32_t queue)
         printf("prefetch: queue %" PRIu32 ": entry %u\n", queue, (unsigned)entry);
 }
 
-/* All ports at once: a stitch at each, a prefetch for each queue, a turn at each. Whether a packet left. */
-static int run_round(void)
+/* All ports at once: a stitch at each, a prefetch for each queue, a turn at each. */
+static void run_round(void)
 {
     uint8_t turns[16];
-    int sent = 0;
-    if (!done("round", vr_round(mem, len, turns, sizeof turns))) return 0;
+    if (!done("round", vr_round(mem, len, turns, sizeof turns))) return;
+    printf("round:");
     for (int port = 0; port < 4; port++) {
         const uint8_t *t = turns + 4 * port;
-        if (t[0] != 0 || t[1] != 0) continue; /* refused or idle */
-        printf("round: port %d: entry %" PRIu32 "\n", port, be(t + 2, 2));
-        sent = 1;
+        if (t[0] == 0 && t[1] == 0)
+            printf(" port %d sends entry %" PRIu32, port, be(t + 2, 2));
+        else
+            printf(" port %d is idle", port); /* no port is refused */
+        putchar(port < 3 ? ',' : '\n');
     }
-    if (!sent) puts("round: nothing leaves");
-    return sent;
 }
 
 static void show_ready(void)
@@ -137,14 +137,14 @@ int main(void)
     stitch(0);
     fetch(5);
     turn(); /* queue 5 has no outward credit yet */
-    while (run_round()) {
-    }
+    run_round();
+    run_round();
     show_place(2 * 2048);
     if (!done("credit", vr_credit(mem, len, OUT, 5, 5))) return 1;
     show_ready();
     turn();
-    while (run_round()) {
-    }
+    run_round();
+    run_round();
     show_place(2 * 2048);
     show_place(70000);
     free(mem);

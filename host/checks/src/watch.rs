@@ -52,7 +52,74 @@ pub struct Watch {
     pub left: Option<Wait>,
 }
 
+/// What a call did, as far as a packet goes.
+struct Step {
+    /// Its line, if the call may have stitched it.
+    line: Option<Line>,
+    /// Rounds over before the call and after it.
+    before: u32,
+    now: u32,
+    /// The port by which it left.
+    left: Option<u32>,
+}
+
 impl Watch {
+    /// In ingress, where it may stand for as many rounds as there are packets
+    /// ahead of it.
+    fn waits(&mut self, port: u32, position: u32, now: u32) -> Result<(), String> {
+        self.position = position;
+        self.due = self.due.min(now + position + 1);
+        if port != self.port {
+            Err("it stands in another port's ingress".into())
+        } else if now >= self.due {
+            Err("it is not stitched in time".into())
+        } else {
+            Ok(())
+        }
+    }
+
+    fn is_stitched(&mut self, step: &Step) -> Result<(), String> {
+        let line = step.line.ok_or("it left ingress without a stitch")?;
+        let wait = Wait {
+            rounds: step.now - self.since,
+            most: self.ahead + 1,
+        };
+        self.stitched = Some((line, wait));
+        Ok(())
+    }
+
+    /// From the stitch on it stands in its line, until it leaves.
+    fn stands_or_leaves(
+        &mut self,
+        place: Option<(ListKind, u32)>,
+        step: &Step,
+    ) -> Result<(), String> {
+        let (line, _) = self.stitched.ok_or("not stitched")?;
+        let Line { port, queue, .. } = line;
+        // A round in which it leaves isn't over before it leaves.
+        let over = if let Some(by) = step.left {
+            if by != port {
+                return Err("it leaves by another port".into());
+            }
+            self.left = Some(Wait {
+                rounds: step.now - line.from,
+                most: line.most(),
+            });
+            step.before
+        } else {
+            let egress = ListKind::Egress { port, queue };
+            let slots = ListKind::Prefetch { port, queue };
+            if !matches!(place, Some((list, _)) if list == egress || list == slots) {
+                return Err(format!("it stands at {place:?}, not in its line"));
+            }
+            step.now
+        };
+        if line.covered && over >= line.from + line.most() {
+            return Err("it does not leave in time".into());
+        }
+        Ok(())
+    }
+
     /// Is there nothing left to wait for?
     pub fn is_over(&self) -> bool {
         let uncovered = matches!(self.stitched, Some((line, _)) if !line.covered);
@@ -117,12 +184,16 @@ impl<'d, D: Desk> Scene<'d, D> {
         let line = self.line_ahead(call)?;
         let before = self.rounds;
         let reply = (self.desk)(&mut self.memory, call)?;
-        let in_round = matches!(reply, Reply::Turns(_));
-        self.rounds += u32::from(in_round);
+        self.rounds += u32::from(matches!(reply, Reply::Turns(_)));
         if let Some(mut watch) = self.watch.take() {
             if watch.left.is_none() {
-                let left = left_by(call, &reply, watch.entry);
-                self.look(&mut watch, line, before, in_round, left)
+                let step = Step {
+                    line,
+                    before,
+                    now: self.rounds,
+                    left: left_by(call, &reply, watch.entry),
+                };
+                self.look(&mut watch, &step)
                     .map_err(|why| format!("{why}, after {call:?}: {watch:?}"))?;
             }
             self.watch = Some(watch);
@@ -142,7 +213,13 @@ impl<'d, D: Desk> Scene<'d, D> {
             stitched: None,
             left: None,
         };
-        self.look(&mut watch, None, self.rounds, false, None)?;
+        let step = Step {
+            line: None,
+            before: self.rounds,
+            now: self.rounds,
+            left: None,
+        };
+        self.look(&mut watch, &step)?;
         watch.ahead = watch.position;
         self.watch = Some(watch);
         Ok(())
@@ -190,68 +267,19 @@ impl<'d, D: Desk> Scene<'d, D> {
         }))
     }
 
-    /// The packet after a call, before which so many rounds were over.
-    fn look(
-        &mut self,
-        watch: &mut Watch,
-        line: Option<Line>,
-        before: u32,
-        in_round: bool,
-        left: Option<u32>,
-    ) -> Result<(), String> {
-        // What happened in a round happened before it was over.
-        let now = before + u32::from(in_round);
-        let place = match left {
+    /// The packet after a call.
+    fn look(&mut self, watch: &mut Watch, step: &Step) -> Result<(), String> {
+        let place = match step.left {
             Some(_) => None,
             None => Some(self.place(watch.entry)?),
         };
         if watch.stitched.is_none() {
-            if let Some(ListKind::Ingress { port }) = place.map(|(list, _)| list) {
-                watch.position = place.map_or(0, |(_, position)| position);
-                watch.due = watch.due.min(now + watch.position + 1);
-                return if port != watch.port {
-                    Err("it stands in another port's ingress".into())
-                } else if now >= watch.due {
-                    Err("it is not stitched in time".into())
-                } else {
-                    Ok(())
-                };
+            if let Some((ListKind::Ingress { port }, position)) = place {
+                return watch.waits(port, position, step.now);
             }
-            let line = line.ok_or("it left ingress without a stitch")?;
-            let wait = Wait {
-                rounds: now - watch.since,
-                most: watch.ahead + 1,
-            };
-            watch.stitched = Some((line, wait));
+            watch.is_stitched(step)?;
         }
-        let (line, _) = watch.stitched.ok_or("not stitched")?;
-        if let Some(port) = left {
-            watch.left = Some(Wait {
-                rounds: now - line.from,
-                most: line.most(),
-            });
-            if port != line.port {
-                return Err("it leaves by another port".into());
-            }
-        } else {
-            let (port, queue) = (line.port, line.queue);
-            let lists = [
-                ListKind::Egress { port, queue },
-                ListKind::Prefetch { port, queue },
-            ];
-            if !place.map_or(false, |(list, _)| lists.contains(&list)) {
-                return Err(format!("it stands at {place:?}, not in its line"));
-            }
-        }
-        // The rounds that were over before it left are too many by one.
-        let over = match left {
-            Some(_) => before,
-            None => now,
-        };
-        if line.covered && over >= line.from + line.most() {
-            return Err("it does not leave in time".into());
-        }
-        Ok(())
+        watch.stands_or_leaves(place, step)
     }
 
     fn place(&mut self, entry: u16) -> Result<(ListKind, u32), String> {
