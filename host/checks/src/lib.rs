@@ -9,6 +9,7 @@ pub mod damage;
 pub mod library;
 pub mod reader;
 pub mod run;
+pub mod search;
 pub mod waits;
 pub mod watch;
 pub mod workers;

@@ -3,7 +3,8 @@
 
 mod slips;
 
-use checks::waits::{run, Aim, Start, Tally};
+use checks::search::{run, Aim, Start};
+use checks::waits::Tally;
 use checks::{wrapper, Desk};
 use slips::{right, with_round, SLIPS};
 

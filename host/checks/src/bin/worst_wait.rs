@@ -4,7 +4,8 @@
 
 use std::time::Instant;
 
-use checks::waits::{run, Start, Tally};
+use checks::search::{run, Start};
+use checks::waits::Tally;
 use checks::workers::{number, on_all_processors};
 use checks::wrapper;
 
