@@ -148,9 +148,12 @@ impl<'d, D: Desk> Pair<'d, D> {
             }
         }
         self.made += 1;
-        // A round moves much at once, and tells of its turns alone.
-        let moved_much = matches!(answer, Reply::Turns(_));
-        if moved_much || self.made % self.ledger_every == 0 {
+        // More often after a round: it moves much, and tells of its turns alone.
+        let every = match answer {
+            Reply::Turns(_) => self.ledger_every.min(4),
+            _ => self.ledger_every,
+        };
+        if self.made % every == 0 {
             self.compare_ledgers()?;
         }
         Ok(answer)

@@ -151,7 +151,7 @@ fn a_round_is_its_calls_one_by_one() {
 
 /// A switch with as many packets in ingress as there are nodes, up to some.
 fn flooded<'d, D: Desk>(desk: &'d D, nodes: u32, queue: impl Fn(u32) -> u32) -> Pair<'d, D> {
-    let mut pair = Pair::new(desk, nodes.into(), size(nodes) + 3, 1 << 20);
+    let mut pair = Pair::new(desk, nodes.into(), size(nodes) + 3, 1);
     pair.call(&Call::Setup(settings(nodes))).unwrap();
     for number in 0..nodes.min(60) {
         for port in 0..PORTS {

@@ -873,6 +873,20 @@ fn a_round_moves_each_list_by_one() {
     }
 }
 
+/// One prefetch for a queue, however many slots are free.
+#[test]
+fn a_round_prefetches_one_packet_of_a_queue() {
+    let mut desk = Desk::new(SMALL);
+    for _ in 0..3 {
+        desk.arrive(0, &written(0, 0, 4, 12));
+        desk.stitch(0);
+    }
+    for fetched in 1..=3 {
+        assert_eq!(desk.round(), [None; 4]);
+        assert_eq!(desk.ledger().ports[0].prefetch[4].len(), fetched);
+    }
+}
+
 /// Every queue of every port has its prefetch, also behind refused ones.
 #[test]
 fn a_round_serves_all_queues_of_all_ports() {
