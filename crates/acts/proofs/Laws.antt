@@ -1,5 +1,5 @@
 -- On a state, what a memory is opened as is its shape, and the act on that shape is the call. Assumes nothing.
-use mathlib.Core.Path.{_≡_, sym, ap, _∙_, subst}
+use mathlib.Core.Path.{_≡_, sym, subst}
 use mathlib.Core.List.{List}
 use Prim.Native.Nat.{ℕ}
 use Rattle.ledger.specs.Settings.{Settings}
@@ -9,7 +9,8 @@ use Rattle.layout.specs.declared.Shape.{Shape}
 use Rattle.layout.specs.Tables.{settingsOf}
 use Rattle.layout.specs.Picture.{StateOf, State}
 use Rattle.memory.specs.Judged.{Works}
-use Rattle.memory.specs.Memory.{state-dec, acted, tested, M}
+use Rattle.memory.specs.Memory.{acted, M}
+use Rattle.memory.proofs.Demands.{on-settings}
 use Rattle.ranges.specs.declared.Opened.the-variants as opens
 use Rattle.ranges.specs.Opening.{opened}
 use Rattle.ranges.proofs.Opening.{opened-fine, opened-wrong}
@@ -22,12 +23,7 @@ module _ (m : List ℕ) (t : State m) where
       record { laid = o .laid; settings-are = o .settings-are; state = subst (λ (S : Settings). StateOf S m) (sym (o .settings-are)) t }
 
   pub on-open : (s : Shape) → opened m ≡ opens.Fine s → (a : Act) → acted (settingsOf s) m a ≡ M (act a) m
-  unfolding M
-  on-open s e a = go (state-dec m)
-    where
-      go : (d : Dec (State m)) → acted (settingsOf s) m a ≡ tested m d a
-      go (yes u) = ap (λ (S : Settings). acted S m a) (opened-fine m s e .settings-are)
-      go (no n) = absurd (n t)
+  on-open s e a = let w = works s e in on-settings (settingsOf s) m (sym (w .settings-are)) (w .state) a
 
   -- a state is never opened as none
   pub not-wrong : {A : Type 0} → opened m ≡ opens.Wrong → A

@@ -37,16 +37,15 @@ loop-again : tie.Need-loop-again Inv-loop μ-loop
 loop-again c =
     let back = c .before .before in
     let done = back .before in
-    let inside = done .before .before in
-    let head = inside .before in
+    let head = done .before .before .before in
     let went = ap (λ (o : Reply × List ℕ). o .1) (done .prefetch .ensures) in
-    rw (c .next .ensures) (passed-next (one (head .before .before .args .p)) (head .loop .inv) (inside .loop-test .taken) (back .m .given) went)
+    rw (c .next .ensures) (passed-next (one (head .before .before .args .p)) (head .loop .inv) (omega arith) (back .m .given) went)
 
 same-length : tie.Need-same-length Inv-loop μ-loop
 same-length c = c .before .loop .inv .same-length
 
 returns : tie.Need-returns Inv-loop μ-loop
-returns c = passed-all (one (c .before .before .before .args .p)) (c .before .loop .inv) (c .loop-test .left)
+returns c = passed-all (one (c .before .before .before .args .p)) (c .before .loop .inv) (omega arith)
 
 pub prefetch-port-spec : {M : Type 1} → statement M
 prefetch-port-spec =

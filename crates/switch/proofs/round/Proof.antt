@@ -1,5 +1,5 @@
 -- `switch::round` meets its contract: where the test says a state, the round on it; else refusal 3. Assumes nothing.
-use mathlib.Core.Path.{_≡_, sym, _∙_}
+use mathlib.Core.Path.{sym, _∙_}
 use borrow.Author.Needs.{needs}
 use Rattle.sound.proofs.Means.{tested-state}
 use Rattle.switch.proofs.Laws.{round-on-state, round-off-state}
