@@ -1,7 +1,6 @@
 -- `rounds::put` meets its contract: four stores side by side. Assumes nothing.
 use native.Mathlib.Omega.{arith}
 use mir.Syntax.{w8}
-use borrow.Author.Needs.{needs}
 use borrow.Kind.Array.{good-length, eInt}
 use lib.ListN.{length-set}
 use Rattle.rounds.proofs.Rounds.{four-stores}
@@ -9,40 +8,40 @@ use Rattle.rounds.proofs.put.Statement.{statement}
 use Rattle.rounds.proofs.put.Tie as tie
 
 array-read-room : tie.Need-array-read-room
-array-read-room c = search needs
+array-read-room c = omega arith
 
 slice-write-room : tie.Need-slice-write-room
-slice-write-room c = search needs
+slice-write-room c = omega arith
 
 array-read-room-2 : tie.Need-array-read-room-2
-array-read-room-2 c = search needs
+array-read-room-2 c = omega arith
 
 add-room : tie.Need-add-room
-add-room c = search needs
+add-room c = omega arith
 
 slice-write-room-2 : tie.Need-slice-write-room-2
 slice-write-room-2 c = simp length-set (omega arith)
 
 array-read-room-3 : tie.Need-array-read-room-3
-array-read-room-3 c = search needs
+array-read-room-3 c = omega arith
 
 add-room-2 : tie.Need-add-room-2
-add-room-2 c = search needs
+add-room-2 c = omega arith
 
 slice-write-room-3 : tie.Need-slice-write-room-3
 slice-write-room-3 c = simp length-set (omega arith)
 
 array-read-room-4 : tie.Need-array-read-room-4
-array-read-room-4 c = search needs
+array-read-room-4 c = omega arith
 
 add-room-3 : tie.Need-add-room-3
-add-room-3 c = search needs
+add-room-3 c = omega arith
 
 slice-write-room-4 : tie.Need-slice-write-room-4
 slice-write-room-4 c = simp length-set (omega arith)
 
 same-length : tie.Need-same-length
-same-length c = search needs
+same-length c = simp length-set
 
 returns : tie.Need-returns
 returns c = four-stores (c .args .t3) (good-length (eInt w8) 4 (c .args .t3) _ (c .good .1 .1 .0)) (c .args .room .now) (c .args .at) (c .pre)
