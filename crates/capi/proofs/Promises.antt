@@ -9,7 +9,9 @@ use Rattle.ledger.specs.Calls.{Reply, refused, done, entry, stitched, idle, lea
 use Rattle.ledger.specs.Desk.{Call}
 use Rattle.ledger.specs.Answers.{numberOf}
 use Rattle.ledger.specs.declared.Refusal.{Refusal}
-use Rattle.ledger.specs.declared.Refusal.the-variants.{ShortMemory, BadSetting, NoState, NoPort, NoQueue, HeaderSize, Checksum, Source, TooShort, NoCredit, NoFreeNode, NothingThere, SlotsInUse, TooMuchCredit, NoSuchId, HeaderQueue, ReservedBit, ShortRoom}
+use Rattle.ledger.specs.declared.Refusal.the-variants.{ShortMemory, BadSetting, NoState, NoPort, NoQueue, HeaderSize, Checksum, Source, TooShort}
+use Rattle.ledger.specs.declared.Refusal.the-variants.{NoCredit, NoFreeNode, NothingThere, SlotsInUse, TooMuchCredit, NoSuchId, HeaderQueue}
+use Rattle.ledger.specs.declared.Refusal.the-variants.{ReservedBit, ShortRoom}
 use Rattle.memory.specs.Memory.{M}
 use Rattle.memory.specs.Rounds.{roundOn}
 use Rattle.memory.proofs.Square.{refusal-keeps-bytes}

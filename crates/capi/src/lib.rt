@@ -22,7 +22,8 @@ ghost use Rattle.ledger.specs.Calls.{arrive, stitch, prefetch, credit, mapTo, t
 ghost use Rattle.ledger.specs.Desk.{setup, act};
 ghost use Rattle.memory.specs.Memory.{M};
 ghost use Rattle.memory.specs.Rounds.{roundOn};
-ghost use Rattle.capi.specs.Rooms.{numberIn, told, toldIn, toldRound, shown, entryRoom, recordRoom, sideByte, sentBytes, sentRoom, readyRoom, kindByte, queueByte, placeBytes, placeRoom, sizeFor};
+ghost use Rattle.capi.specs.Rooms.{numberIn, told, toldIn, toldRound, shown, entryRoom, recordRoom, sideByte, sentBytes, sentRoom, readyRoom};
+ghost use Rattle.capi.specs.Rooms.{kindByte, queueByte, placeBytes, placeRoom, sizeFor};
 
 // ---- what each answer writes
 

@@ -2,9 +2,9 @@
 -- Assumes nothing.
 use mathlib.Core.Path.{_≡_, refl, sym, ap, _∙_}
 use mathlib.Core.List.{List, [], _∷_, _++_, append-assoc}
-use Prim.Native.Nat.{ℕ, zero, suc, _+_, _*_, _≤_}
+use Prim.Native.Nat.{ℕ, zero, suc, _+_, _*_}
 use native.Mathlib.Omega.{arith}
-use lib.ListN.{length, take, drop, length-append, length-drop}
+use lib.ListN.{length, take, drop, length-append}
 use lib.Seq.{take-at, drop-append-add, drop-drop}
 use Rattle.ledger.specs.Calls.{Act, Reply, refused, done, entry, stitched, idle, leaves, word, found}
 use Rattle.ledger.specs.Rounds.{each, answerBytes, bytesOf, answersIn}
@@ -20,7 +20,7 @@ four-bytes (leaves k s) = refl
 four-bytes (word w n) = refl
 four-bytes (found v i) = refl
 
-pub bytes-length : (rs : List Reply) → length (bytesOf rs) ≡ 4 * length rs
+bytes-length : (rs : List Reply) → length (bytesOf rs) ≡ 4 * length rs
 unfolding bytesOf
 bytes-length [] = refl
 bytes-length (r ∷ rs) = length-append (answerBytes r) (bytesOf rs) ∙ omega (arith, four-bytes r, bytes-length rs)
@@ -34,18 +34,12 @@ bytes-next (x ∷ rs) r ys =
     ∙ ap (λ (l : List ℕ). answerBytes x ++ l) (bytes-next rs r ys)
     ∙ sym (append-assoc (answerBytes x) (bytesOf rs) (answerBytes r ++ ys))
 
-pub one-more : (rs : List Reply) (r : Reply) → length (rs ++ (r ∷ [])) ≡ length rs + 1
+one-more : (rs : List Reply) (r : Reply) → length (rs ++ (r ∷ [])) ≡ length rs + 1
 one-more rs r = length-append rs (r ∷ [])
 
 pub none-told : (room : List ℕ) → answersIn [] room ≡ room
 unfolding answersIn bytesOf
 none-told room = refl
-
--- a room that has place for the answers keeps its length
-pub room-length : (rs : List Reply) (room : List ℕ) → 4 * length rs ≤ length room → length (answersIn rs room) ≡ length room
-unfolding answersIn
-room-length rs room h =
-    length-append (bytesOf rs) (drop (4 * length rs) room) ∙ omega (arith, bytes-length rs, length-drop (4 * length rs) room)
 
 -- where n answers are told, the next takes the four bytes from 4 n on
 pub told-next : (rs : List Reply) (r : Reply) (room : List ℕ) (n : ℕ) → length rs ≡ n

@@ -30,12 +30,11 @@ fn stitch_each(m: &mut [u8], s: Shape)
     }
 }
 
-// The queue after q, whatever the prefetch at q answered: a refusal is passed over.
-fn next(_: Entry, q: usize) -> usize
-    requires { ⌜ q < 64 ⌝ }
-    ensures { λ r. ⌜ r ≡ q + 1 ⌝ }
+// How many queues a prefetch goes on: one, whatever it answered. A refusal is passed over.
+fn step(_: Entry) -> usize
+    ensures { λ r. ⌜ r ≡ 1 ⌝ }
 {
-    q + 1
+    1
 }
 
 // One prefetch for each queue of port p, from 0 on.
@@ -46,8 +45,7 @@ fn prefetch_port(m: &mut [u8], s: Shape, p: u32)
     let queues = s.queues;
     let mut q = 0;
     while q < queues {
-        let answer = moves::prefetch(m, s, p, q as u32);
-        q = next(answer, q);
+        q += step(moves::prefetch(m, s, p, q as u32));
     }
 }
 
@@ -93,7 +91,8 @@ fn put(room: &mut [u8], at: usize, bytes: [u8; 4])
 // The turn of port p, told in its four bytes of the room.
 fn turn_port(m: &mut [u8], s: Shape, p: usize, room: &mut [u8])
     requires { ⌜ Works s (now m) × (p < s .ports) × (4 * s .ports ≤ length (now room)) ⌝ }
-    ensures { λ _. ⌜ (now (m .exit) ≡ acted (settingsOf s) (now (m .entry)) (turn p) .1) × (now (room .exit) ≡ take (4 * p) (now (room .entry)) ++ (answerBytes (acted (settingsOf s) (now (m .entry)) (turn p) .0) ++ drop (4 * p + 4) (now (room .entry)))) ⌝ }
+    ensures { λ _. ⌜ now (m .exit) ≡ acted (settingsOf s) (now (m .entry)) (turn p) .1 ⌝ }
+    ensures { λ _. ⌜ now (room .exit) ≡ take (4 * p) (now (room .entry)) ++ (answerBytes (acted (settingsOf s) (now (m .entry)) (turn p) .0) ++ drop (4 * p + 4) (now (room .entry))) ⌝ }
 {
     let bytes = told(turns::turn(m, s, p as u32));
     put(room, 4 * p, bytes);
@@ -102,7 +101,8 @@ fn turn_port(m: &mut [u8], s: Shape, p: usize, room: &mut [u8])
 // One turn at each port, in order.
 fn turn_each(m: &mut [u8], s: Shape, room: &mut [u8])
     requires { ⌜ Works s (now m) × (4 * s .ports ≤ length (now room)) ⌝ }
-    ensures { λ _. ⌜ (now (m .exit) ≡ afterActs (settingsOf s) (now (m .entry)) (turns (settingsOf s))) × Works s (now (m .exit)) × (now (room .exit) ≡ answersIn (answersTo (settingsOf s) (now (m .entry)) (turns (settingsOf s))) (now (room .entry))) ⌝ }
+    ensures { λ _. ⌜ (now (m .exit) ≡ afterActs (settingsOf s) (now (m .entry)) (turns (settingsOf s))) × Works s (now (m .exit)) ⌝ }
+    ensures { λ _. ⌜ now (room .exit) ≡ answersIn (answersTo (settingsOf s) (now (m .entry)) (turns (settingsOf s))) (now (room .entry)) ⌝ }
 {
     let ports = s.ports;
     let mut p = 0;

@@ -4,6 +4,7 @@ use mathlib.Core.Path.{ap}
 use mathlib.Core.List.{List, [], _∷_}
 use Prim.Native.Nat.{ℕ, _-_}
 use native.Mathlib.Omega.{arith}
+use borrow.Author.Needs.{needs}
 use Rattle.ledger.specs.Calls.{Act, Reply, prefetch}
 use Rattle.rounds.proofs.Rounds.{Passed, passed-none, passed-next, passed-all}
 use Rattle.rounds.proofs.prefetch_port.Statement.{statement}
@@ -27,8 +28,11 @@ cast-prefetch c = omega arith
 prefetch-requires : tie.Need-prefetch-requires Inv-loop μ-loop
 prefetch-requires c κs = c .before .before .loop .inv .works
 
-next-requires : tie.Need-next-requires Inv-loop μ-loop
-next-requires c κs = omega arith
+step-requires : tie.Need-step-requires Inv-loop μ-loop
+step-requires c κs = search needs
+
+add-q : tie.Need-add-q Inv-loop μ-loop
+add-q c = omega arith
 
 loop-less : tie.Need-loop-less Inv-loop μ-loop
 loop-less c = omega arith
@@ -39,7 +43,7 @@ loop-again c =
     let done = back .before in
     let head = done .before .before .before in
     let went = ap (λ (o : Reply × List ℕ). o .1) (done .prefetch .ensures) in
-    rw (c .next .ensures) (passed-next (one (head .before .before .args .p)) (head .loop .inv) (omega arith) (back .m .given) went)
+    rw (c .step .ensures) (passed-next (one (head .before .before .args .p)) (head .loop .inv) (omega arith) (back .m .given) went)
 
 same-length : tie.Need-same-length Inv-loop μ-loop
 same-length c = c .before .loop .inv .same-length
@@ -56,7 +60,8 @@ prefetch-port-spec =
     loop-holds
     cast-prefetch
     prefetch-requires
-    next-requires
+    step-requires
+    add-q
     loop-less
     loop-again
     same-length

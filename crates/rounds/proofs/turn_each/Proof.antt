@@ -40,7 +40,7 @@ same-length-2 : tie.Need-same-length-2 Inv-loop μ-loop
 same-length-2 c = c .before .loop .inv .room-length
 
 returns : tie.Need-returns Inv-loop μ-loop
-returns c = told-all (c .before .loop .inv) (c .loop-test .left)
+returns c = let t = told-all (c .before .loop .inv) (c .loop-test .left) in ((t .0, t .1), t .2)
 
 pub turn-each-spec : {M : Type 1} → statement M
 turn-each-spec =
