@@ -59,7 +59,7 @@ Quiet p acts = All (λ a. isTurn p a ≡ false) acts
 pub quiet-stitches : (S : Settings) (p : ℕ) → Quiet p (stitches S)
 quiet-stitches S p = all-each (λ a. isTurn p a ≡ false) (λ r. stitch r ∷ []) (S .ports) (λ r. (refl, tt))
 
-quiet-prefetches : (S : Settings) (p : ℕ) → Quiet p (prefetches S)
+pub quiet-prefetches : (S : Settings) (p : ℕ) → Quiet p (prefetches S)
 quiet-prefetches S p =
     all-each (λ a. isTurn p a ≡ false) (λ r. each (λ t. prefetch r t ∷ []) (S .queues)) (S .ports)
     (λ r. all-each (λ a. isTurn p a ≡ false) (λ t. prefetch r t ∷ []) (S .queues) (λ t. (refl, tt)))

@@ -16,7 +16,7 @@ use Rattle.ledger.specs.Calls.{Act, stitch, turn, ready, Reply, isEmpty}
 use Rattle.ledger.specs.Calls.{step, run}
 use Rattle.ledger.specs.Desk.{Desk, has, Call, act, desk, afterCalls, SetupsRefused}
 use Rattle.ledger.specs.Sound.{All, Orderly, Roomy}
-use Rattle.ledger.specs.Rounds.{roundActs, roundRules, Deed, one, round, Done, nothing, wholeRound, doneBy}
+use Rattle.ledger.specs.Rounds.{roundActs, roundRules, Deed, one, round, Carried, nothing, wholeRound, doneBy}
 use Rattle.ledger.specs.Door.{lineOf, lineFor, roundsFor, callsOf, roundsIn, roundsBefore, doneFrom}
 use Rattle.ledger.specs.Door.{ShowsIngress, ShowsLine, LeavesAt, LeavesWithinRounds}
 use Rattle.ledger.specs.Door.{StitchedSoonFrom, LeavesSoonFrom, DoorToDoorFrom, NobodyStarvesInRoundsFrom}
@@ -34,14 +34,14 @@ use Rattle.ledger.proofs.Ingress.{isStitch, Stitching, stitching-now, H
 -- ---- what is left to do after call t
 
 -- of a deed, after its call number t
-abbrev cut : ℕ → Done → Done
+abbrev cut : ℕ → Carried → Carried
 cut t d = record { a-round = d .a-round; calls = drop (suc t) (d .calls) }
 
-rest : ℕ → List Done → List Done
+rest : ℕ → List Carried → List Carried
 rest t [] = []
 rest t (d ∷ ds) = cond (ltb t (length (d .calls))) (cut t d ∷ ds) (rest (t - length (d .calls)) ds)
 
-rest-calls : (t : ℕ) (ds : List Done) → callsOf (rest t ds) ≡ drop (suc t) (callsOf ds)
+rest-calls : (t : ℕ) (ds : List Carried) → callsOf (rest t ds) ≡ drop (suc t) (callsOf ds)
 unfolding rest
 rest-calls t [] = refl
 rest-calls t (d ∷ ds) = go (ltb t (length (d .calls))) refl (rest-calls (t - length (d .calls)) ds)
@@ -57,7 +57,7 @@ rest-calls t (d ∷ ds) = go (ltb t (length (d .calls))) refl (rest-calls (t - l
         let is : suc t ≡ n + suc (t - n) = omega arith in
         rec ∙ sym (drop-append-add (d .calls) (callsOf ds) (suc (t - n))) ∙ ap (λ (m : ℕ). drop m (d .calls ++ callsOf ds)) (sym is)
 
-rest-before : (t i : ℕ) (ds : List Done) → roundsBefore ds (suc t + i) ≡ roundsBefore ds t + roundsBefore (rest t ds) i
+rest-before : (t i : ℕ) (ds : List Carried) → roundsBefore ds (suc t + i) ≡ roundsBefore ds t + roundsBefore (rest t ds) i
 unfolding rest
 rest-before t i [] = omega arith
 rest-before t i (d ∷ ds) = go (ltb t n) refl (rest-before (t - n) i ds)
@@ -85,7 +85,7 @@ rest-before t i (d ∷ ds) = go (ltb t n) refl (rest-before (t - n) i ds)
         let same : suc t + i - n ≡ suc (t - n) + i = omega arith in
         rw (ltb-not (suc t + i) n (omega arith), same) (omega (arith, rec))
 
-rest-rounds : (t : ℕ) (ds : List Done) → roundsBefore ds t + roundsIn (rest t ds) ≡ roundsIn ds
+rest-rounds : (t : ℕ) (ds : List Carried) → roundsBefore ds t + roundsIn (rest t ds) ≡ roundsIn ds
 unfolding rest
 rest-rounds t [] = omega arith
 rest-rounds t (d ∷ ds) = go (ltb t (length (d .calls))) (rest-rounds (t - length (d .calls)) ds)
@@ -100,9 +100,9 @@ rest-rounds t (d ∷ ds) = go (ltb t (length (d .calls))) (rest-rounds (t - leng
     go false rec = omega (arith, rec)
 
 -- what holds of every deed, and of the one in which call t stands once it is cut there, holds of what is left
-module _ (P Q : Done → Type 0) (whole : (d : Done) → P d → Q d) (b : Call)
-    (cuts : (d : Done) → P d → (j : ℕ) → j < length (d .calls) → getD (d .calls) j (act (ready 0)) ≡ b → Q (cut j d)) where
-  rest-all : (t : ℕ) (ds : List Done) → All P ds → t < length (callsOf ds) → getD (callsOf ds) t (act (ready 0)) ≡ b → All Q (rest t ds)
+module _ (P Q : Carried → Type 0) (whole : (d : Carried) → P d → Q d) (b : Call)
+    (cuts : (d : Carried) → P d → (j : ℕ) → j < length (d .calls) → getD (d .calls) j (act (ready 0)) ≡ b → Q (cut j d)) where
+  rest-all : (t : ℕ) (ds : List Carried) → All P ds → t < length (callsOf ds) → getD (callsOf ds) t (act (ready 0)) ≡ b → All Q (rest t ds)
   unfolding rest
   rest-all t [] f h e = tt
   rest-all t (d ∷ ds) f h e = go (ltb t n) refl (rest-all (t - n) ds (f .1))
@@ -133,7 +133,7 @@ drop-map (suc n) (a ∷ acts) = drop-map n acts
 -- ---- on whatever answers and shows as the desk does
 
 -- a deed is no round, or a whole one of these settings
-abbrev RoundOrNot : Settings → Done → Type 0
+abbrev RoundOrNot : Settings → Carried → Type 0
 RoundOrNot S d = (d .a-round ≡ false) ⊎ (d ≡ wholeRound S)
 
 round-or-not : (S : Settings) (L : Ledger) (d : Deed) → RoundOrNot S (doneBy (has S L) d)
@@ -142,7 +142,7 @@ round-or-not S L (round n) = guarded (RoundOrNot S) (roundRules S n) (λ r. noth
 
 module _ {X : Type 0} (call : X → Call → Reply × X) (shows : X → Desk) (long : X → ℕ) (faithful : Faithful call shows long)
     (S : Settings) (ok : Roomy S) where
-  abbrev did : X → List Deed → List Done
+  abbrev did : X → List Deed → List Carried
   did x deeds = doneFrom call shows x deeds
 
   -- the settings stay, so every round is one of these settings
@@ -159,7 +159,7 @@ module _ {X : Type 0} (call : X → Call → Reply × X) (shows : X → Desk) (l
   -- where each whole round has an act that counts, every deed does as many as it has rounds
   module _ (W : ℕ → Ledger → Type 0) (c : Ledger → Act → Bool) (E : Ledger → Act → Type 0) (course : Course S W c E)
       (in-round : (n : ℕ) (L : Ledger) → Orderly S L → W n L → 1 ≤ countIn S c L (roundActs S)) where
-    deed-counts : (d : Done) → RoundOrNot S d → Counts call shows long faithful S ok W c E course d
+    deed-counts : (d : Carried) → RoundOrNot S d → Counts call shows long faithful S ok W c E course d
     deed-counts d (inl e) n x w = rw e zero-le
     deed-counts d (inr e) n x w =
         rw (e, count-acts call shows long faithful S c x (w .ledger) (w .shown) (roundActs S)) (in-round n (w .ledger) (w .orderly) (w .waits))
@@ -187,7 +187,7 @@ module _ {X : Type 0} (call : X → Call → Reply × X) (shows : X → Desk) (l
 
   pub stitched-soon-from : (x : X) (L : Ledger) → shows x ≡ has S L → Orderly S L → StitchedSoonFrom call shows S L x
   stitched-soon-from x L e s r hr ahead k here deeds f h =
-      let ds : List Done = did x deeds in
+      let ds : List Carried = did x deeds in
       let course = door-course S ok r hr k in
       let each-deed = deed-counts (Heads S ok r hr k) (λ M a. isStitch r a) (Stitching S r k) course
       (λ n M u w. round-stitches S ok r hr M) in
@@ -227,23 +227,23 @@ module _ {X : Type 0} (call : X → Call → Reply × X) (shows : X → Desk) (l
 
   -- of deeds, that in which the stitch stands still has its chance for the line after it, if it is a round
   module _ (r p q : ℕ) (hp : p < S .ports) (hq : q < S .queues) (d : ℕ) (k : Packet) where
-    abbrev LineCounts : Done → Type 0
+    abbrev LineCounts : Carried → Type 0
     LineCounts = Counts call shows long faithful S ok (Waits S ok p q hp hq d k) (isChance S p q) (Leaving S p q k) (line-course S ok p q hp hq d k)
 
     line-some : (n : ℕ) (N : Ledger) → Waits S ok p q hp hq d k n N → isEmpty (lineOf S N p q) ≡ false
     line-some n N w = some-line S ok p q hp hq N (w .ahead) k (w .behind) (w .stands)
 
-    whole-counts : (b : Done) → RoundOrNot S b → LineCounts b
+    whole-counts : (b : Carried) → RoundOrNot S b → LineCounts b
     whole-counts =
         deed-counts _ _ _ (line-course S ok p q hp hq d k) (λ n N s w. round-has-chance S ok p q hp hq N s (line-some n N w))
 
-    cut-counts : (b : Done) → RoundOrNot S b → (j : ℕ) → j < length (b .calls) → getD (b .calls) j (act (ready 0)) ≡ act (stitch r)
+    cut-counts : (b : Carried) → RoundOrNot S b → (j : ℕ) → j < length (b .calls) → getD (b .calls) j (act (ready 0)) ≡ act (stitch r)
         → LineCounts (cut j b)
     cut-counts b (inl e) j h i n x w = rw e zero-le
     cut-counts b (inr e) j h i n x w =
         let acts : List Act = roundActs S in
-        let same : b .calls ≡ map act acts = ap (λ (o : Done). o .calls) e in
-        let one-round : bit (b .a-round) ≡ 1 = ap (λ (o : Done). bit (o .a-round)) e in
+        let same : b .calls ≡ map act acts = ap (λ (o : Carried). o .calls) e in
+        let one-round : bit (b .a-round) ≡ 1 = ap (λ (o : Carried). bit (o .a-round)) e in
         let short : j < length acts = omega (arith, h, ap length same, length-map acts act) in
         let there : act (getD acts j (ready 0)) ≡ act (stitch r) =
         sym (List·getD-map act acts j (ready 0)) ∙ ap (λ (l : List Call). getD l j (act (ready 0))) (sym same) ∙ i in
@@ -255,7 +255,7 @@ module _ {X : Type 0} (call : X → Call → Reply × X) (shows : X → Desk) (l
         omega (arith, some, left, one-round)
 
   -- what comes among the calls that are left after call t comes after it among all
-  module _ (x : X) (ds : List Done) (t : ℕ) (short : t < length (callsOf ds)) (p q : ℕ) (hp : p < S .ports) (hq : q < S .queues) (d : ℕ)
+  module _ (x : X) (ds : List Carried) (t : ℕ) (short : t < length (callsOf ds)) (p q : ℕ) (hp : p < S .ports) (hq : q < S .queues) (d : ℕ)
       (k : Packet) where
     abbrev all : List Call
     all = callsOf ds
@@ -315,7 +315,7 @@ module _ {X : Type 0} (call : X → Call → Reply × X) (shows : X → Desk) (l
 
   pub leaves-soon-from : (x : X) (L : Ledger) → shows x ≡ has S L → Orderly S L → LeavesSoonFrom call shows S x
   leaves-soon-from x L e s r hr k deeds f t M at hand h =
-      let ds : List Done = did x deeds in
+      let ds : List Carried = did x deeds in
       let p : ℕ = mapOf M (k .dest) in
       let q : ℕ = k .queue in
       let d : ℕ = length (lineFor S M k) + 1 in

@@ -53,7 +53,7 @@ raise-ge S xs p (suc r) n p′ (suc s) = go xs (cell S p r) (cell S p′ s)
     go (y ∷ ys) (suc i) (suc j) = go ys i j
 
 -- a list with more behind it is no emptier
-pub still-some : (xs ys : List Packet) → isEmpty xs ≡ false → isEmpty (xs ++ ys) ≡ false
+still-some : (xs ys : List Packet) → isEmpty xs ≡ false → isEmpty (xs ++ ys) ≡ false
 still-some [] ys e = absurd (true≢false e)
 still-some (x ∷ xs) ys e = refl
 
@@ -417,11 +417,11 @@ module _ (S : Settings) (ok : Roomy S) (p q : ℕ) (hp : p < S .ports) (hq : q <
 
   -- ---- any other act
 
-  pub record Aside (L M : Ledger) : Type 0 where
+  record Aside (L M : Ledger) : Type 0 where
     spared : Spared L M
     mark : lastOf M p ≡ lastOf L p
 
-  pub aside-refl : (L : Ledger) → Aside L L
+  aside-refl : (L : Ledger) → Aside L L
   aside-refl L = record { spared = spared-refl L; mark = refl }
 
   module _ (L : Ledger) (s : Orderly S L) where
@@ -472,7 +472,7 @@ module _ (S : Settings) (ok : Roomy S) (p q : ℕ) (hp : p < S .ports) (hq : q <
     aside-result (ready r) i c = aside-refl L
     aside-result (whereIs y) i c = aside-refl L
 
-    pub aside-step : (a : Act) → isTurn p a ≡ false → Aside L (step S L a .1)
+    aside-step : (a : Act) → isTurn p a ≡ false → Aside L (step S L a .1)
     aside-step a i =
         guarded (λ out. Aside L (out .1)) (rules S L a) (λ n. (refused n, L)) (result S L a) (λ n. aside-refl L) (aside-result a i)
 
@@ -494,7 +494,7 @@ module _ (S : Settings) (ok : Roomy S) (p q : ℕ) (hp : p < S .ports) (hq : q <
       go true e = wait-le M
       go false e = let v : wait M ≡ gap (lastOf L p) q (S .queues) = rw (some-spared L M (a .spared) e, a .mark) in omega arith
 
-  pub turn-is : (a : Act) → isTurn p a ≡ true → a ≡ turn p
+  turn-is : (a : Act) → isTurn p a ≡ true → a ≡ turn p
   turn-is (arrive r h) i = absurd (true≢false (sym i))
   turn-is (stitch r) i = absurd (true≢false (sym i))
   turn-is (prefetch r t) i = absurd (true≢false (sym i))

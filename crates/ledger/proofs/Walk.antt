@@ -15,17 +15,13 @@ use Rattle.ledger.specs.Ready.{bit}
 use Rattle.ledger.specs.Calls.{Act, ready, Reply, isRefused, step, run}
 use Rattle.ledger.specs.Desk.{Desk, none, has, Call, setup, act, isSetup, afterCalls, SetupsRefused}
 use Rattle.ledger.specs.Sound.{All, Roomy, Orderly}
-use Rattle.ledger.specs.Rounds.{Done}
+use Rattle.ledger.specs.Rounds.{Carried}
 use Rattle.ledger.specs.Door.{callsOf, roundsIn, roundsBefore}
 use Rattle.ledger.proofs.Tests.{ltb-is, ltb-not}
 use Rattle.ledger.proofs.Steps.{keep-step}
 use Rattle.ledger.proofs.Courses.{calls-append, refused-parts, Faithful, act-shows, refused-shows}
 
 -- ---- acts
-
-pub run-append : (S : Settings) (L : Ledger) (xs ys : List Act) → run S L (xs ++ ys) ≡ run S (run S L xs) ys
-run-append S L [] ys = refl
-run-append S L (a ∷ xs) ys = run-append S (step S L a .1) xs ys
 
 -- how many of the acts count, where c says which do
 abbrev pub countIn : Settings → (Ledger → Act → Bool) → Ledger → List Act → ℕ
@@ -61,7 +57,7 @@ module _ {X : Type 0} (shows : X → Desk) (S : Settings) (W : ℕ → Ledger �
   Standing x = (n : ℕ) × Waiting n x
 
 -- a call counts if it is an act that does, in the ledger that the desk has
-abbrev pub countsAt : (Ledger → Act → Bool) → Desk → Call → Bool
+abbrev countsAt : (Ledger → Act → Bool) → Desk → Call → Bool
 countsAt c D (setup N b s k) = false
 countsAt c none (act a) = false
 countsAt c (has S L) (act a) = c L a
@@ -103,12 +99,12 @@ module _ {X : Type 0} (call : X → Call → Reply × X) (shows : X → Desk) (l
   counted x cs = countCalls call shows c x cs
 
   -- the end of the wait comes; or it does not, and all along it waits
-  pub data Fate (n : ℕ) (x : X) (cs : List Call) : Type 0 where
+  data Fate (n : ℕ) (x : X) (cs : List Call) : Type 0 where
     comes : Comes call shows S W E (λ t. counted x (take t cs)) n x cs → Fate n x cs
     stays : (m : ℕ) → counted x cs + m ≤ n → W′ m (afterCalls call x cs)
         → ((i : ℕ) → i ≤ length cs → Standing shows S W (afterCalls call x (take i cs))) → Fate n x cs
 
-  pub some-left : (n : ℕ) (x : X) → W′ n x → 1 ≤ n
+  some-left : (n : ℕ) (x : X) → W′ n x → 1 ≤ n
   some-left n x w = course .some n (w .ledger) (w .orderly) (w .waits)
 
   module _ (n : ℕ) (x : X) (w : W′ n x) (b : Call) (cs : List Call) where
@@ -180,7 +176,7 @@ module _ {X : Type 0} (call : X → Call → Reply × X) (shows : X → Desk) (l
             waits = v;
           }))
 
-  pub walk : (cs : List Call) (n : ℕ) (x : X) → SetupsRefused call x cs → W′ n x → Fate n x cs
+  walk : (cs : List Call) (n : ℕ) (x : X) → SetupsRefused call x cs → W′ n x → Fate n x cs
   walk [] n x f w = stays n (omega arith) w (λ i. elim i as (λ j. j ≤ 0 → Standing shows S W (afterCalls call x (take j []))) [
     | zero ↦ λ h. (n, w)
     | suc j ↦ λ h. absurd (omega arith)
@@ -198,10 +194,10 @@ module _ {X : Type 0} (call : X → Call → Reply × X) (shows : X → Desk) (l
 
   -- ---- rounds among what is done, each with a call that counts while it waits
 
-  abbrev pub Counts : Done → Type 0
+  abbrev pub Counts : Carried → Type 0
   Counts d = (n : ℕ) (x : X) → W′ n x → bit (d .a-round) ≤ counted x (d .calls)
 
-  module _ (d : Done) (ds : List Done) (n : ℕ) (x : X) where
+  module _ (d : Carried) (ds : List Carried) (n : ℕ) (x : X) where
     abbrev first : List Call
     first = d .calls
 
@@ -258,7 +254,7 @@ module _ {X : Type 0} (call : X → Call → Reply × X) (shows : X → Desk) (l
             let is : i ≡ length first + j = omega arith in
             rw (is, upto j) (o .until-then j (omega arith))
 
-  pub comes-in-rounds : (ds : List Done) → All Counts ds → (n : ℕ) (x : X) → SetupsRefused call x (callsOf ds) → W′ n x → n ≤ roundsIn ds
+  pub comes-in-rounds : (ds : List Carried) → All Counts ds → (n : ℕ) (x : X) → SetupsRefused call x (callsOf ds) → W′ n x → n ≤ roundsIn ds
       → Comes call shows S W E (roundsBefore ds) n x (callsOf ds)
   comes-in-rounds [] k n x f w h = absurd (omega (arith, some-left n x w))
   comes-in-rounds (d ∷ ds) k n x f w h =

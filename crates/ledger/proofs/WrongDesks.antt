@@ -5,15 +5,15 @@ use mathlib.Core.List.{List, [], _∷_, _++_, map, reverse}
 use Prim.Native.Nat.{ℕ, zero, suc, _+_, _*_, _≤_, _<_}
 use native.Mathlib.Omega.{arith}
 use lib.ListN.{length, getD, replicate}
-use lib.Dec.{ltb}
 use Rattle.ledger.specs.Settings.{Settings, settings, row}
 use Rattle.ledger.specs.Ledger.{owner, Packet, free, place#, placeOf, Ledger, pop, start}
-use Rattle.ledger.specs.Calls.{Act, arrive, turn, ready, Side, outside, Reply, refused, entry, stitched, idle, leaves, isRefused, sideOf}
-use Rattle.ledger.specs.Desk.{Desk, none, has, Call, act, desk, afterCalls, SetupsRefused}
+use Rattle.ledger.specs.Calls.{Act, arrive, stitch, prefetch, credit, mapTo, turn, ready, whereIs, Side, outside, Reply, refused, entry}
+use Rattle.ledger.specs.Calls.{stitched, idle, leaves, isRefused, sideOf}
+use Rattle.ledger.specs.Desk.{Desk, none, has, Call, setup, act, desk, afterCalls, SetupsRefused}
 use Rattle.ledger.specs.Demand.{turnsIn, Stands, InHand, NobodyStarvesFrom}
 use Rattle.ledger.specs.Order.{idsAt, KeepsOrder, GoesAlong}
 use Rattle.ledger.specs.Night.{Arrival, turned-away, taken, PoolKept}
-use Rattle.ledger.specs.Rounds.{roundActs, Deed, round, Done, wholeRound, ofTurn}
+use Rattle.ledger.specs.Rounds.{roundActs, Deed, round, Carried, wholeRound}
 use Rattle.ledger.specs.Door.{InIngress, CreditFor, roundsFor, callsOf, roundsIn, roundsBefore, doneFrom, StitchedAt, StitchedSoonFrom, LeavesSoonFrom}
 use Rattle.ledger.proofs.Tests.{true≢false, eqb-is, ltb-not}
 
@@ -62,7 +62,7 @@ module _ (S : Settings) (L : Ledger) (r : ℕ) (hr : r < S .ports) (ahead : List
   abbrev rounds : ℕ → List Deed
   rounds n = replicate n (round (4 * S .ports))
 
-  abbrev did : ℕ → List Done
+  abbrev did : ℕ → List Carried
   did n = doneFrom alike (λ D. D) (has S L) (rounds n)
 
   nothing-changed : (cs : List Call) (D : Desk) → afterCalls alike D cs ≡ D
@@ -81,7 +81,7 @@ module _ (S : Settings) (L : Ledger) (r : ℕ) (hr : r < S .ports) (ahead : List
   all-acts : (n : ℕ) → SetupsRefused alike (has S L) (callsOf (did n))
   all-acts zero = tt
   all-acts (suc n) =
-      subst (λ (ds : List Done). SetupsRefused alike (has S L) (callsOf ds)) (sym (one-more n))
+      subst (λ (ds : List Carried). SetupsRefused alike (has S L) (callsOf ds)) (sym (one-more n))
       (no-setups alike (roundActs S) (callsOf (did n)) (has S L)
       (rw (nothing-changed (map act (roundActs S)) (has S L)) (all-acts n)))
 
@@ -90,9 +90,17 @@ module _ (S : Settings) (L : Ledger) (r : ℕ) (hr : r < S .ports) (ahead : List
       let o = f r hr ahead k here (rounds (length ahead + 1)) (all-acts (length ahead + 1)) (omega (arith, all-rounds (length ahead + 1))) in
       other _ (o .it-is .answer)
 
--- a desk at which everything goes right but the turns, which are idle: who is stitched does not leave
+-- a desk at which all goes right but the turns, which are idle: who is stitched does not leave
 abbrev pub idleTurns : ℕ → Desk → Call → Reply × Desk
-idleTurns n D c = cond (ltb (length (ofTurn c idle)) 1) (desk n D c) (idle, D)
+idleTurns n D (setup N b s c) = desk n D (setup N b s c)
+idleTurns n D (act (arrive p h)) = desk n D (act (arrive p h))
+idleTurns n D (act (stitch p)) = desk n D (act (stitch p))
+idleTurns n D (act (prefetch p q)) = desk n D (act (prefetch p q))
+idleTurns n D (act (credit p q k)) = desk n D (act (credit p q k))
+idleTurns n D (act (mapTo d p)) = desk n D (act (mapTo d p))
+idleTurns n D (act (turn p)) = (idle, D)
+idleTurns n D (act (ready p)) = desk n D (act (ready p))
+idleTurns n D (act (whereIs y)) = desk n D (act (whereIs y))
 
 pub never-leaves : (n : ℕ) (S : Settings) (D : Desk) (r : ℕ) → r < S .ports → (k : Packet)
     → (deeds : List Deed) → SetupsRefused (idleTurns n) D (callsOf (doneFrom (idleTurns n) (λ E. E) D deeds))

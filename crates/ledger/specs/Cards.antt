@@ -190,6 +190,8 @@ cards =
     ∷ one-by-one 24 ∷ one-by-one 31
     ∷ crossing
     ∷ rounds [] (zeros 15) (refused 3) (zeros 15)
+    ∷ rounds (setup 2 64 1 0 ∷ act (arrive 1 (header 0 1 0 12)) ∷ act (arrive 0 twelve) ∷ []) (zeros 16) done
+    (0 ∷ 0 ∷ 0 ∷ 0 ∷ 0 ∷ 1 ∷ 0 ∷ 0 ∷ 0 ∷ 1 ∷ 0 ∷ 0 ∷ 0 ∷ 1 ∷ 0 ∷ 0 ∷ [])
     ∷ rounds waiting (zeros 15) (refused 27) (zeros 15)
     ∷ rounds waiting (zeros 16) done sixteen
     ∷ rounds waiting (zeros 16 ++ (7 ∷ 7 ∷ [])) done (sixteen ++ (7 ∷ 7 ∷ []))

@@ -13,7 +13,7 @@ use Rattle.ledger.specs.Calls.{stitch, turn, ready, Reply, stitched, lea
 use Rattle.ledger.specs.Desk.{Desk, has, Call, act, desk, afterCalls, SetupsRefused}
 use Rattle.ledger.specs.Sound.{Roomy, Orderly}
 use Rattle.ledger.specs.Demand.{InHand, Stands, turnsIn, LeavesAmong}
-use Rattle.ledger.specs.Rounds.{Deed, Done, doneBy}
+use Rattle.ledger.specs.Rounds.{Deed, Carried, doneBy}
 
 -- ---- where a packet stands
 
@@ -46,17 +46,17 @@ roundsFor S L k = S .queues * (length (lineFor S L k) + 1)
 -- ---- moments and rounds
 
 -- the calls of all that is done, one by one
-abbrev pub callsOf : List Done → List Call
+abbrev pub callsOf : List Carried → List Call
 callsOf [] = []
 callsOf (d ∷ ds) = d .calls ++ callsOf ds
 
 -- how many rounds there are
-abbrev pub roundsIn : List Done → ℕ
+abbrev pub roundsIn : List Carried → ℕ
 roundsIn [] = 0
 roundsIn (d ∷ ds) = bit (d .a-round) + roundsIn ds
 
 -- how many of them are over before call number t; a round in which call t stands isn't
-abbrev pub roundsBefore : List Done → ℕ → ℕ
+abbrev pub roundsBefore : List Carried → ℕ → ℕ
 roundsBefore [] t = 0
 roundsBefore (d ∷ ds) t = cond (ltb t (length (d .calls))) 0 (bit (d .a-round) + roundsBefore ds (t - length (d .calls)))
 
@@ -64,7 +64,7 @@ roundsBefore (d ∷ ds) t = cond (ltb t (length (d .calls))) 0 (bit (d .a-round)
 
 module _ {X : Type 0} (call : X → Call → Reply × X) (shows : X → Desk) where
   -- what deeds do, one after another
-  abbrev pub doneFrom : X → List Deed → List Done
+  abbrev pub doneFrom : X → List Deed → List Carried
   doneFrom x [] = []
   doneFrom x (d ∷ ds) = doneBy (shows x) d ∷ doneFrom (afterCalls call x (doneBy (shows x) d .calls)) ds
 
@@ -102,7 +102,7 @@ module _ {X : Type 0} (call : X → Call → Reply × X) (shows : X → Desk) wh
     pub it-leaves : call (atCall x cs t) (act (turn p)) .0 ≡ leaves k (sideOf q)
 
   -- packet k is stitched at a call before which fewer than n rounds are over, and up to then it stands in the ingress list
-  pub record StitchedWithin (S : Settings) (r : ℕ) (k : Packet) (n : ℕ) (x : X) (ds : List Done) : Type 0 where
+  pub record StitchedWithin (S : Settings) (r : ℕ) (k : Packet) (n : ℕ) (x : X) (ds : List Carried) : Type 0 where
     pub moment : ℕ
     pub found : Ledger
     pub it-is : StitchedAt S r k found x (callsOf ds) moment
@@ -111,7 +111,7 @@ module _ {X : Type 0} (call : X → Call → Reply × X) (shows : X → Desk) wh
 
   -- after call t packet k leaves, at a call before which fewer than n rounds are over of those that weren't over before call t, and
   -- between the two it stands in the line
-  pub record LeavesWithinRounds (S : Settings) (p q : ℕ) (k : Packet) (n t : ℕ) (x : X) (ds : List Done) : Type 0 where
+  pub record LeavesWithinRounds (S : Settings) (p q : ℕ) (k : Packet) (n t : ℕ) (x : X) (ds : List Carried) : Type 0 where
     pub moment : ℕ
     pub after : t < moment
     pub it-does : LeavesAt p q k x (callsOf ds) moment
@@ -140,7 +140,7 @@ module _ {X : Type 0} (call : X → Call → Reply × X) (shows : X → Desk) wh
       → LeavesWithinRounds S (mapOf M (k .dest)) (k .queue) k (roundsFor S M k) t x (doneFrom x deeds)
 
   -- Both joined: from door to door.
-  pub record DoorToDoor (S : Settings) (r : ℕ) (k : Packet) (s : ℕ) (x : X) (ds : List Done) : Type 0 where
+  pub record DoorToDoor (S : Settings) (r : ℕ) (k : Packet) (s : ℕ) (x : X) (ds : List Carried) : Type 0 where
     pub in-line : StitchedWithin S r k (s + 1) x ds
     pub and-out : CreditFor S (in-line .found) k
         → roundsBefore ds (in-line .moment) + roundsFor S (in-line .found) k ≤ roundsIn ds

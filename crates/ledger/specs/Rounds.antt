@@ -67,18 +67,18 @@ pub data Deed : Type 0 where
   round : ℕ → Deed
 
 -- the calls that a deed is, one by one; and whether it is a round, a refused one being none
-pub record Done : Type 0 where
+pub record Carried : Type 0 where
   pub a-round : Bool
   pub calls : List Call
 
-abbrev pub nothing : Done
+abbrev pub nothing : Carried
 nothing = record { a-round = false; calls = [] }
 
 -- "refusals inside are passed over": the round goes on with its next call
-abbrev pub wholeRound : Settings → Done
+abbrev pub wholeRound : Settings → Carried
 wholeRound S = record { a-round = true; calls = map act (roundActs S) }
 
-abbrev pub doneBy : Desk → Deed → Done
+abbrev pub doneBy : Desk → Deed → Carried
 doneBy D (one c) = record { a-round = false; calls = c ∷ [] }
 doneBy none (round n) = nothing
 doneBy (has S L) (round n) = guard (roundRules S n) (λ r. nothing) (wholeRound S)

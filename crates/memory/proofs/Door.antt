@@ -11,7 +11,7 @@ use Rattle.ledger.proofs.Door.{leaves-soon-from, door-to-door-from, nobody-star
 use lib.ListN.{length}
 use Rattle.memory.specs.Memory.{picture, M}
 use Rattle.memory.specs.Demands.{onMemory}
-use Rattle.memory.specs.Rounds.{roundOn, roundCalls, RoundIsCalls, a-call, a-round, deedOf, DeedsAreCalls}
+use Rattle.memory.specs.Rounds.{roundOn, roundCalls, RoundIsCalls, lent-call, lent-round, deedOf, DeedsAreCalls}
 use Rattle.memory.specs.Rounds.{LeavesSoonInMemory, DoorToDoorInMemory, NobodyStarvesInRoundsInMemory}
 use Rattle.memory.proofs.Demands.{pictured-state, memory-faithful}
 use Rattle.memory.proofs.Rounds.{round-is-calls}
@@ -24,8 +24,8 @@ left-by-round m room = ap (λ (out : Reply × List ℕ × List ℕ). out .1) (ro
 pub deeds-are-calls : DeedsAreCalls
 unfolding DeedsAreCalls
 deeds-are-calls m [] = refl
-deeds-are-calls m (a-call c ∷ ds) = deeds-are-calls (M c m .1) ds
-deeds-are-calls m (a-round room ∷ ds) =
+deeds-are-calls m (lent-call c ∷ ds) = deeds-are-calls (M c m .1) ds
+deeds-are-calls m (lent-round room ∷ ds) =
     let cs = roundCalls m room in
     let later = callsOf (doneFrom onMemory picture (afterCalls onMemory m cs) (map deedOf ds)) in
     deeds-are-calls (roundOn m room .1) ds

@@ -2,36 +2,43 @@
 use mathlib.Core.Path.{_≡_, refl, sym, ap, _∙_, subst}
 use mathlib.Core.Bool.{Bool, true, false}
 use mathlib.Core.List.{List, [], _∷_, _++_, map, append-assoc}
-use Prim.Native.Nat.{ℕ, zero, suc, _+_, _*_, _≤_, _<_}
+use Prim.Native.Nat.{ℕ, zero, suc, _+_, _-_, _*_, _≤_, _<_}
+use native.Mathlib.Nat.{le-of-suc-le-suc, not-suc-le-zero}
+use native.Mathlib.Omega.{arith}
+use native.Mathlib.Decide.{decLe}
 use native.Mathlib.Numerals.{add-one}
-use lib.ListN.{length}
+use lib.ListN.{length, getD, take, drop, length-append, length-map, List·getD-append, List·getD-map}
+use lib.Seq.{take-append-add, getD-append-add}
 use lib.Dec.{ltb}
 use Rattle.ledger.specs.Settings.{Settings}
-use Rattle.ledger.specs.Calls.{Act, stitch, prefetch, turn, Reply, refused, done, isRefused}
-use Rattle.ledger.specs.Desk.{Desk, has, act, afterCalls, answersOf}
+use Rattle.ledger.specs.Calls.{Act, stitch, prefetch, turn, ready, Reply, refused, done, isRefused}
+use Rattle.ledger.specs.Desk.{Desk, has, Call, act, afterCalls, answersOf}
+use Rattle.ledger.specs.Demand.{isTurn}
 use Rattle.ledger.specs.Rounds.{each, stitches, prefetches, turns, roundActs, roundRules, roundReply, answersIn, round, doneBy, ofTurn}
-use Rattle.ledger.specs.Rounds.{turnAnswers}
-use Rattle.ledger.proofs.Tests.{true≢false, ltb-is, ltb-not}
+use Rattle.ledger.specs.Rounds.{turnAnswers, answerBytes}
+use Rattle.ledger.proofs.Tests.{true≢false, ltb-is, ltb-not, eqb-is}
+use Rattle.ledger.proofs.Lists.{All-append, All-at}
 use Rattle.ledger.proofs.Steps.{guarded}
-use Rattle.ledger.proofs.Told.{none-told, each-length}
+use Rattle.ledger.proofs.Chances.{quiet-stitches, quiet-prefetches}
+use Rattle.ledger.proofs.Told.{none-told, read-told, each-length, each-at}
 use Rattle.layout.specs.declared.Shape.{Shape}
 use Rattle.layout.specs.Tables.{settingsOf}
 use Rattle.layout.specs.Picture.{settingsIn, ledgerIn, StateOf, State}
 use Rattle.memory.specs.Judged.{Works}
-use Rattle.memory.specs.Memory.{state-dec, deskOf, picture, acted}
+use Rattle.memory.specs.Memory.{state-dec, deskOf, picture, acted, M}
 use Rattle.memory.specs.Demands.{onMemory}
-use Rattle.memory.specs.Rounds.{afterActs, answersTo, turnsTold, rounded, roundTested, roundOn, RoundIsCalls}
+use Rattle.memory.specs.Rounds.{afterActs, answersTo, turnsTold, rounded, roundTested, roundOn, RoundIsCalls, RoomTells}
 use Rattle.memory.proofs.Square.{act-keeps}
 use Rattle.memory.proofs.Demands.{on-settings}
 
 -- ---- acts one after another
 
 module _ (S : Settings) where
-  pub after-append : (m : List ℕ) (xs ys : List Act) → afterActs S m (xs ++ ys) ≡ afterActs S (afterActs S m xs) ys
+  after-append : (m : List ℕ) (xs ys : List Act) → afterActs S m (xs ++ ys) ≡ afterActs S (afterActs S m xs) ys
   after-append m [] ys = refl
   after-append m (a ∷ xs) ys = after-append (acted S m a .1) xs ys
 
-  pub answers-append : (m : List ℕ) (xs ys : List Act) → answersTo S m (xs ++ ys) ≡ answersTo S m xs ++ answersTo S (afterActs S m xs) ys
+  answers-append : (m : List ℕ) (xs ys : List Act) → answersTo S m (xs ++ ys) ≡ answersTo S m xs ++ answersTo S (afterActs S m xs) ys
   answers-append m [] ys = refl
   answers-append m (a ∷ xs) ys = ap (λ (l : List Reply). acted S m a .0 ∷ l) (answers-append (acted S m a .1) xs ys)
 
@@ -63,7 +70,7 @@ module _ (S : Settings) where
     unfolding roundActs
     round-leaves = after-append m (stitches S) (prefetches S ++ turns S) ∙ after-append m₁ (prefetches S) (turns S)
 
-    pub round-tells : turnsTold S m ≡ answersTo S m₂ (turns S)
+    round-tells : turnsTold S m ≡ answersTo S m₂ (turns S)
     round-tells = ap (λ (n : List ℕ). answersTo S n (turns S)) (after-append m (stitches S) (prefetches S))
 
     pub round-short : (room : List ℕ) → length room < 4 * S .ports → rounded S m room ≡ (refused 27, m, room)
@@ -189,6 +196,107 @@ module _ (m room : List ℕ) where
       go : (d : Dec (State m)) → roundTested m d room ≡ (refused 3, m, room)
       go (yes t) = absurd (n t)
       go (no k) = refl
+
+-- ---- what the caller of a round sees
+
+module _ (S : Settings) where
+  -- what comes before a round's turns
+  abbrev first : List Act
+  first = stitches S ++ prefetches S
+
+  parts : roundActs S ≡ first ++ turns S
+  unfolding roundActs
+  parts = sym (append-assoc (stitches S) (prefetches S) (turns S))
+
+  -- the only turn of port p stands behind them, in its order
+  turn-seat : (j p : ℕ) → j < length (roundActs S) → getD (roundActs S) j (ready 0) ≡ turn p → (p < S .ports) × (j ≡ length first + p)
+  turn-seat j p h e = go (decLe (suc j) (length first))
+    where
+      many : length (turns S) ≡ S .ports
+      many = each-length turn (S .ports)
+
+      is-turn : getD (first ++ turns S) j (ready 0) ≡ turn p
+      is-turn = ap (λ (l : List Act). getD l j (ready 0)) (sym parts) ∙ e
+
+      go : Dec (suc j ≤ length first) → (p < S .ports) × (j ≡ length first + p)
+      go (yes l) =
+          let quiet = All-append (λ a. isTurn p a ≡ false) (stitches S) (prefetches S) (quiet-stitches S p) (quiet-prefetches S p) in
+          let none = All-at (λ a. isTurn p a ≡ false) first (ready 0) quiet j l in
+          let here : getD first j (ready 0) ≡ turn p = sym (List·getD-append first (turns S) (ready 0) j l) ∙ is-turn in
+          absurd (true≢false (sym (ap (isTurn p) here ∙ eqb-is p p refl) ∙ none))
+      go (no l) =
+          let i : ℕ = j - length first in
+          let at : j ≡ length first + i = omega arith in
+          let short : i < S .ports = omega (arith, h, ap length parts, length-append first (turns S), many) in
+          let here : turn i ≡ turn p =
+          sym (each-at turn (S .ports) i (ready 0) short)
+          ∙ sym (getD-append-add first (turns S) i (ready 0))
+          ∙ ap (λ (k : ℕ). getD (first ++ turns S) k (ready 0)) (sym at)
+          ∙ is-turn in
+          let same : i ≡ p = cc in
+          (omega arith, omega arith)
+
+  answer-at : (xs : List Act) (m : List ℕ) (i : ℕ) (d : Reply) (e : Act) → i < length xs
+      → getD (answersTo S m xs) i d ≡ acted S (afterActs S m (take i xs)) (getD xs i e) .0
+  answer-at [] m i d e h = absurd (not-suc-le-zero h)
+  answer-at (a ∷ xs) m zero d e h = refl
+  answer-at (a ∷ xs) m (suc i) d e h = answer-at xs (acted S m a .1) i d e (le-of-suc-le-suc h)
+
+  -- so its answer is the one that is told for p
+  turn-told : (m : List ℕ) (j p : ℕ) → p < S .ports → j ≡ length first + p
+      → getD (turnsTold S m) p done ≡ acted S (afterActs S m (take j (roundActs S))) (turn p) .0
+  turn-told m j p hp e =
+      let m₂ : List ℕ = afterActs S m first in
+      let upto : take j (roundActs S) ≡ first ++ take p (turns S) =
+      ap (λ (l : List Act). take j l) parts ∙ ap (λ (k : ℕ). take k (first ++ turns S)) e ∙ take-append-add first (turns S) p in
+      answer-at (turns S) m₂ p done (ready 0) (omega (arith, each-length turn (S .ports)))
+      ∙ ap (λ (a : Act). acted S (afterActs S m₂ (take p (turns S))) a .0) (each-at turn (S .ports) p (ready 0) hp)
+      ∙ ap (λ (n : List ℕ). acted S n (turn p) .0)
+      (sym (after-append S m first (take p (turns S))) ∙ ap (λ (l : List Act). afterActs S m l) (sym upto))
+
+  -- on a state, what an act answers after others is what the call does
+  call-after : (m : List ℕ) → settingsIn m ≡ S → StateOf S m → (xs : List Act) (a : Act)
+      → acted S (afterActs S m xs) a .0 ≡ M (act a) (afterCalls onMemory m (map act xs)) .0
+  call-after m e s [] a = ap (λ (out : Reply × List ℕ). out .0) (on-settings S m e s a)
+  call-after m e s (b ∷ xs) a =
+      let k = act-keeps S m e s b in
+      call-after (acted S m b .1) (k .settings) (k .state) xs a
+      ∙ ap (λ (out : Reply × List ℕ). M (act a) (afterCalls onMemory (out .1) (map act xs)) .0) (on-settings S m e s b)
+
+take-map : (n : ℕ) (xs : List Act) → take n (map act xs) ≡ map act (take n xs)
+take-map zero xs = refl
+take-map (suc n) [] = refl
+take-map (suc n) (a ∷ xs) = ap (λ (l : List Call). act a ∷ l) (take-map n xs)
+
+pub room-tells : RoomTells
+unfolding RoomTells roundOn picture rounded
+room-tells m room j p = go (state-dec m)
+  where
+    S : Settings
+    S = settingsIn m
+
+    Tells : Desk → Reply × List ℕ × List ℕ → Type 0
+    Tells D out =
+        let cs = doneBy D (round (length room)) .calls in
+        j < length cs → getD cs j (act (ready 0)) ≡ act (turn p)
+        → take 4 (drop (4 * p) (out .2)) ≡ answerBytes (M (act (turn p)) (afterCalls onMemory m (take j cs)) .0)
+
+    told : State m → (b : Bool) → ltb (length room) (4 * S .ports) ≡ b → Tells (has S (ledgerIn S m)) (rounded S m room)
+    told s true e = rw e (λ h i. absurd (not-suc-le-zero h))
+    told s false e = rw e (λ h i.
+        let acts : List Act = roundActs S in
+        let is : act (getD acts j (ready 0)) ≡ act (turn p) = sym (List·getD-map act acts j (ready 0)) ∙ i in
+        let same : getD acts j (ready 0) ≡ turn p = cc in
+        let at = turn-seat S j p (omega (arith, h, length-map acts act)) same in
+        read-told (turnsTold S m) room p done (omega (arith, at .0, as-many-answers S turn (S .ports) (afterActs S m (stitches S ++ prefetches S))))
+        ∙ ap answerBytes
+        (turn-told S m j p (at .0) (at .1)
+        ∙ call-after S m refl s (take j acts) (turn p)
+        ∙ ap (λ (cs : List Call). M (act (turn p)) (afterCalls onMemory m cs) .0) (sym (take-map j acts))))
+
+    go : (d : Dec (State m)) → Tells (deskOf m d) (roundTested m d room)
+    go (yes s) = told s (ltb (length room) (4 * S .ports)) refl
+    go (no n) = λ h i. absurd (not-suc-le-zero h)
 
 -- a refused round leaves memory and room as they were
 pub refused-round-keeps : (m room : List ℕ) → isRefused (roundOn m room .0) ≡ true → (roundOn m room .1 ≡ m) × (roundOn m room .2 ≡ room)

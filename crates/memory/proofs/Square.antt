@@ -426,18 +426,17 @@ past-kept a m = go (state-dec m)
         (λ c. let w = painted S (roomy S (s .sound .rows)) m s a c in (w .kept .past, w .kept .same-length))
     go (no n) = (refl, refl)
 
--- an act on a state leaves a state of the same settings, as long as it was
-pub record StillOf (S : Settings) (m m′ : List ℕ) : Type 0 where
+-- an act on a state leaves a state of the same settings
+pub record StillOf (S : Settings) (m′ : List ℕ) : Type 0 where
   pub settings : settingsIn m′ ≡ S
   pub state : StateOf S m′
-  pub same-length : length m′ ≡ length m
 
-pub act-keeps : (S : Settings) (m : List ℕ) → settingsIn m ≡ S → StateOf S m → (a : Act) → StillOf S m (acted S m a .1)
+pub act-keeps : (S : Settings) (m : List ℕ) → settingsIn m ≡ S → StateOf S m → (a : Act) → StillOf S (acted S m a .1)
 unfolding acted
 act-keeps S m e s a =
     let ok = roomy S (s .sound .rows) in
-    guarded {X = Reply × List ℕ} (λ out. StillOf S m (out .1)) (rules S (ledgerIn S m) a) (λ n. (refused n, m)) (result S (ledgerIn S m) a .0, write S m a)
-    (λ n. record { settings = e; state = s; same-length = refl })
+    guarded {X = Reply × List ℕ} (λ out. StillOf S (out .1)) (rules S (ledgerIn S m) a) (λ n. (refused n, m)) (result S (ledgerIn S m) a .0, write S m a)
+    (λ n. record { settings = e; state = s })
     (λ c.
     let w = painted S ok m s a c in
-    record { settings = w .kept .settings ∙ e; state = write-state S ok m s a c; same-length = w .kept .same-length })
+    record { settings = w .kept .settings ∙ e; state = write-state S ok m s a c })

@@ -2,15 +2,15 @@
 -- answer one by one is `round-is-calls` (proofs/Rounds.antt). Assumes nothing.
 use mathlib.Core.Path.{_≡_}
 use mathlib.Core.List.{List, [], _∷_, _++_, map}
-use Prim.Native.Nat.{ℕ}
-use lib.ListN.{length}
+use Prim.Native.Nat.{ℕ, _*_, _<_}
+use lib.ListN.{length, getD, take, drop}
 use Rattle.ledger.specs.Settings.{Settings}
 use Rattle.ledger.specs.Rules.{guard}
 use Rattle.ledger.specs.Ledger.{Ledger}
-use Rattle.ledger.specs.Calls.{Act, Reply, refused, done}
-use Rattle.ledger.specs.Desk.{has, Call, afterCalls, answersOf}
+use Rattle.ledger.specs.Calls.{Act, turn, ready, Reply, refused, done}
+use Rattle.ledger.specs.Desk.{has, Call, act, afterCalls, answersOf}
 use Rattle.ledger.specs.Rounds.{stitches, prefetches, turns, roundActs, roundRules, roundReply, answersIn, Deed, one, round, doneBy}
-use Rattle.ledger.specs.Rounds.{turnAnswers}
+use Rattle.ledger.specs.Rounds.{turnAnswers, answerBytes}
 use Rattle.ledger.specs.Door.{callsOf, doneFrom, LeavesSoonFrom, DoorToDoorFrom, NobodyStarvesInRoundsFrom}
 use Rattle.layout.specs.Picture.{settingsIn, State}
 use Rattle.memory.specs.Memory.{state-dec, picture, acted, M}
@@ -56,27 +56,34 @@ RoundIsCalls =
       answersIn (turnAnswers (roundCalls m room) (answersOf onMemory m (roundCalls m room))) room,
     )
 
+-- What the caller of a round sees: where call number j of it is the turn of port p, four bytes of the room, from 4 × p on, tell what that
+-- call answers.
+unfoldable pub RoomTells : Type 0
+RoomTells =
+    (m room : List ℕ) (j p : ℕ) → j < length (roundCalls m room) → getD (roundCalls m room) j (act (ready 0)) ≡ act (turn p)
+    → take 4 (drop (4 * p) (roundOn m room .2)) ≡ answerBytes (M (act (turn p)) (afterCalls onMemory m (take j (roundCalls m room))) .0)
+
 -- ---- rounds among calls
 
 -- what is done on a memory: a call, or a round into a room that is lent to it
 pub data LentDeed : Type 0 where
-  a-call : Call → LentDeed
-  a-round : List ℕ → LentDeed
+  lent-call : Call → LentDeed
+  lent-round : List ℕ → LentDeed
 
 abbrev pub deedOf : LentDeed → Deed
-deedOf (a-call c) = one c
-deedOf (a-round room) = round (length room)
+deedOf (lent-call c) = one c
+deedOf (lent-round room) = round (length room)
 
 -- what is left of the memory, by the functions that the contracts name
 abbrev pub leftBy : List ℕ → LentDeed → List ℕ
-leftBy m (a-call c) = M c m .1
-leftBy m (a-round room) = roundOn m room .1
+leftBy m (lent-call c) = M c m .1
+leftBy m (lent-round room) = roundOn m room .1
 
 abbrev pub afterDeeds : List ℕ → List LentDeed → List ℕ
 afterDeeds m [] = m
 afterDeeds m (d ∷ ds) = afterDeeds (leftBy m d) ds
 
--- that is what the calls leave which the promises below speak of, and all that is promised of calls
+-- deeds leave the memory that their calls leave one by one; so what is promised of calls holds after deeds
 unfoldable pub DeedsAreCalls : Type 0
 DeedsAreCalls = (m : List ℕ) (ds : List LentDeed) → afterDeeds m ds ≡ afterCalls onMemory m (callsOf (doneFrom onMemory picture m (map deedOf ds)))
 
