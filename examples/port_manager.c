@@ -85,10 +85,12 @@ static void run_round(void)
     printf("round:");
     for (int port = 0; port < 4; port++) {
         const uint8_t *t = turns + 4 * port;
-        if (t[0] == 0 && t[1] == 0)
-            printf(" port %d sends entry %" PRIu32, port, be(t + 2, 2));
+        if (t[0] != 0)
+            printf(" port %d is refused %u", port, t[0]); /* not on a switch state */
+        else if (t[1] != 0)
+            printf(" port %d is idle", port);
         else
-            printf(" port %d is idle", port); /* no port is refused */
+            printf(" port %d sends entry %" PRIu32, port, be(t + 2, 2));
         putchar(port < 3 ? ',' : '\n');
     }
 }

@@ -81,7 +81,8 @@ uint32_t vr_turn(uint8_t *mem, size_t len, uint32_t port, uint8_t sent[16]);
  * turn at each port, from 0 on. Memory and turns are as of the same calls one by one, but the memory is tested once. A refusal inside
  * (12, 13) changes nothing and is passed over.
  * Writes four bytes for each port's turn, port by port: refusal number (1), 1 if idle (1), entry id (2, big-endian) or 0. Four ports have
- * sixteen; what is lent past them stays. Refused 3, then 27 if less is lent; then neither the memory nor the room changes. */
+ * sixteen; what is lent past them stays. Refused 3, then 27 if less is lent; then neither the memory nor the room changes. So look at the
+ * answer first: in a room that was lent as zeros a refused round reads as four turns that sent node 0, whose bytes are 0 0 0 0. */
 uint32_t vr_round(uint8_t *mem, size_t len, uint8_t *turns, size_t turns_len);
 
 /* Writes the port's ready word, bit q for queue q, and the number of ones in it. */

@@ -90,6 +90,20 @@ impl Tally {
 
 impl fmt::Display for Tally {
     fn fmt(&self, f: &mut fmt::Formatter<'_>) -> fmt::Result {
+        self.say_stitched(f)?;
+        self.say_left(f)?;
+        let waits = || self.door_to_door.values().flatten();
+        let all: u64 = waits().map(|w| w.times).sum();
+        let reached: u64 = waits().map(|w| w.reached).sum();
+        write!(
+            f,
+            "\nfrom arrival to departure: {all}, of which {reached} took all the rounds that they may"
+        )
+    }
+}
+
+impl Tally {
+    fn say_stitched(&self, f: &mut fmt::Formatter<'_>) -> fmt::Result {
         writeln!(
             f,
             "{} packets watched, {} of them stitched without credit for all",
@@ -108,6 +122,10 @@ impl fmt::Display for Tally {
                 all.reached
             )?;
         }
+        Ok(())
+    }
+
+    fn say_left(&self, f: &mut fmt::Formatter<'_>) -> fmt::Result {
         writeln!(
             f,
             "\nrounds from the stitch on, by packets ahead in the line:\n"
@@ -130,16 +148,6 @@ impl fmt::Display for Tally {
             }
             writeln!(f)?;
         }
-        let all: u64 = self.door_to_door.values().flatten().map(|w| w.times).sum();
-        let reached: u64 = self
-            .door_to_door
-            .values()
-            .flatten()
-            .map(|w| w.reached)
-            .sum();
-        write!(
-            f,
-            "\nfrom arrival to departure: {all}, of which {reached} took all the rounds that they may"
-        )
+        Ok(())
     }
 }

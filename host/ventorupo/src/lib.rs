@@ -183,7 +183,7 @@ impl<M: AsRef<[u8]> + AsMut<[u8]>> Switch<M> {
     /// Answers each port's turn.
     ///
     /// ```
-    /// use ventorupo::{EntryId, Refusal, RoundTurn, Settings, Switch};
+    /// use ventorupo::{Refusal, RoundTurn, Settings, Switch};
     ///
     /// let settings = Settings { nodes: 1, beat: 64, slots: 1, credit: 16 };
     /// let mut switch = Switch::setup([0; 2040], settings).map_err(|(why, _)| why)?;
@@ -207,8 +207,9 @@ impl<M: AsRef<[u8]> + AsMut<[u8]>> Switch<M> {
     }
 
     /// A round that writes its turns into lent room, four bytes a port:
-    /// refusal number, 1 if idle, entry id (2, big-endian) or 0. Refused 27 if
-    /// there is less room; what is past them stays.
+    /// refusal number, 1 if idle, entry id (2, big-endian) or 0. Four zero
+    /// bytes are node 0 that left. Refused 27 if there is less room; what is
+    /// past them stays.
     pub fn round_into(&mut self, room: &mut [u8]) -> Result<(), Refusal> {
         done(calls::round(self.memory.as_mut(), room))
     }
