@@ -3,8 +3,9 @@ use layout::Shape;
 use layout::Table;
 use ledger::Finding;
 ghost use mathlib.Core.Path.{_≡_};
-ghost use Prim.Native.Nat.{_≤_};
+ghost use Prim.Native.Nat.{_^_, _≤_, _<_};
 ghost use lib.Dec.{eqb};
+ghost use Rattle.ledger.specs.Header.{price as priceOf};
 ghost use Rattle.ledger.specs.Ledger.{owner};
 ghost use Rattle.layout.specs.Tables.{settingsOf, get};
 ghost use Rattle.layout.specs.Picture.{slot, packetAt};
@@ -19,7 +20,7 @@ pub enum NodeRule {
 }
 
 // What a table has for a node: a read for each width.
-fn field1(m: &[u8], s: Shape, t: Table, x: u16) -> u8
+pub fn field1(m: &[u8], s: Shape, t: Table, x: u16) -> u8
     requires { ⌜ FieldOf 1 s t x (now m) ⌝ }
     ensures { λ r. ⌜ r ≡ get (settingsOf s) (now (m .entry)) t (slot (settingsOf s) x) ⌝ }
 {
@@ -45,7 +46,7 @@ fn spares(rule: NodeRule, column: usize) -> bool
 }
 
 // (d): a node in a free or an ingress list is its port's.
-fn own_port(port: usize, x: u16) -> bool
+pub fn own_port(port: usize, x: u16) -> bool
     ensures { λ r. ⌜ r ≡ eqb (owner x) port ⌝ }
 {
     let owner = (x / 2048) as usize;
@@ -53,7 +54,7 @@ fn own_port(port: usize, x: u16) -> bool
 }
 
 // (e): a node in an egress or a prefetch list has the list's queue.
-fn own_queue(s: Shape, column: usize, queue: usize) -> bool
+pub fn own_queue(s: Shape, column: usize, queue: usize) -> bool
     requires { ⌜ 2 ≤ column ⌝ }
     ensures { λ r. ⌜ r ≡ eqb queue (queueAt (settingsOf s) column) ⌝ }
 {
@@ -85,8 +86,24 @@ fn in_range(s: Shape, len: u32, queue: u32, dest: u8, poisoned: u8) -> bool
     poisoned < 2
 }
 
+// (f): whether a price is that of the queue and the length, by multiplying, which costs less than to divide: so many beats hold the packet,
+// and no fewer do.
+fn fair(beat: u32, queue: u32, len: u32, price: u32) -> bool
+    requires { ⌜ (1 ≤ beat) × (beat ≤ 512) × (len < 2 ^ 13) × (price < 256) ⌝ }
+    ensures { λ r. ⌜ r ≡ eqb price (priceOf beat queue len) ⌝ }
+{
+    if queue == 0 {
+        return price == 0;
+    }
+    let held = price * beat;
+    if held < len {
+        return false;
+    }
+    held < len + beat
+}
+
 // (f): every field is in range, and the price is that of the queue and the length.
-fn proper(m: &[u8], s: Shape, x: u16) -> bool
+pub fn proper(m: &[u8], s: Shape, x: u16) -> bool
     requires { ⌜ NodeOf s x (now m) ⌝ }
     ensures { λ r. ⌜ r ≡ properTest (settingsOf s) (packetAt (settingsOf s) (now (m .entry)) x) ⌝ }
 {
@@ -98,8 +115,7 @@ fn proper(m: &[u8], s: Shape, x: u16) -> bool
     if !in_range(s, len, queue, dest, poisoned) {
         return false;
     }
-    let fair = header::price_of(s.beat as u32, queue, len);
-    price == fair
+    fair(s.beat as u32, queue, len, price)
 }
 
 // The rule's test of one node in a list that it speaks of.

@@ -21,7 +21,7 @@ use Rattle.once.proofs.Marks.{length-mark}
 -- ---- the nodes of a list
 
 module _ (S : Settings) (m : List ℕ) where
-  chain-more : (n x : ℕ) → 0 < n → chain S m n x ≡ x ∷ chain S m (n - 1) (get S m Next (slot S x))
+  pub chain-more : (n x : ℕ) → 0 < n → chain S m n x ≡ x ∷ chain S m (n - 1) (get S m Next (slot S x))
   unfolding chain
   chain-more n x h = let e : n ≡ suc (n - 1) = omega arith in ap (λ (k : ℕ). chain S m k x) e
 

@@ -24,7 +24,7 @@ fn is_node(s: Shape, x: u16) -> bool
 }
 
 // Marks x, where it is a node that is not marked yet, and answers whether it is.
-fn meet(s: Shape, x: u16, marks: &mut [u8]) -> bool
+pub fn meet(s: Shape, x: u16, marks: &mut [u8]) -> bool
     requires { ⌜ Marks s (now marks) ⌝ }
     ensures { λ r. ⌜ Met s (now (marks .entry)) x (now (marks .exit)) r ⌝ }
 {

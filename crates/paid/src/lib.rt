@@ -21,7 +21,7 @@ fn cell_of(s: Shape, x: u16, queue: usize) -> usize
 }
 
 // Adds the price of node x to the sum of its cell, and answers the node after x.
-fn add_node(m: &[u8], s: Shape, sums: &mut [u64], x: u16) -> u16
+pub fn add_node(m: &[u8], s: Shape, sums: &mut [u64], x: u16) -> u16
     requires { ⌜ Adds s (now m) (now sums) x ⌝ }
     ensures { λ r. ⌜ Added (settingsOf s) (now (m .entry)) (now (sums .entry)) x (now (sums .exit)) r ⌝ }
 {
@@ -80,7 +80,7 @@ fn settled(m: &[u8], s: Shape, sums: &[u64], c: usize) -> bool
 }
 
 // The first cell that isn't settled.
-fn first_due(m: &[u8], s: Shape, sums: &[u64]) -> Finding
+pub fn first_due(m: &[u8], s: Shape, sums: &[u64]) -> Finding
     requires { ⌜ Settles s (now m) (now sums) ⌝ }
     ensures { λ r. ⌜ r ≡ dueFound (settingsOf s) (now (m .entry)) (now (sums .entry)) ⌝ }
 {

@@ -56,7 +56,7 @@ module _ (S : Settings) (m : List ℕ) where
   unfolding prefetchAt
   prefetch-lt j some h = place#-lt S (prefetched (j / S .queues) (j % S .queues)) (div-lt-iff-lt-mul some .1 h, mod-lt j some)
 
-  prefetch-is : (p q : ℕ) → q < S .queues → prefetchAt S (p * S .queues + q) ≡ place# S (prefetched p q)
+  pub prefetch-is : (p q : ℕ) → q < S .queues → prefetchAt S (p * S .queues + q) ≡ place# S (prefetched p q)
   unfolding prefetchAt
   prefetch-is p q h = rw (row-div (S .queues) p q h, row-mod (S .queues) p q h)
 

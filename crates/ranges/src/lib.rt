@@ -9,6 +9,7 @@ ghost use lib.ListN.{length};
 ghost use Rattle.ledger.specs.Settings.{isBeat, inRows};
 ghost use Rattle.layout.specs.Tables.{settingsOf, Laid};
 ghost use Rattle.layout.specs.Picture.{settingsIn};
+ghost use Rattle.ranges.specs.First.{first};
 ghost use Rattle.ranges.specs.Opening.{settingsRaw, opened};
 ghost use Rattle.ranges.specs.Ranges.{items, fitsAt, prefetchAt, rangesFound, Held, Item};
 
@@ -133,13 +134,11 @@ fn in_range(m: &[u8], s: Shape, i: usize) -> bool
     count <= slots
 }
 
-// Rule (b): the first item that is out of range.
-pub fn ranges(m: &[u8], s: Shape) -> Finding
-    requires { ⌜ Held s (now m) ⌝ }
-    ensures { λ r. ⌜ r ≡ rangesFound (settingsOf s) (now (m .entry)) ⌝ }
+// The first of the first n items that is out of range: the marks and the map come first, so they can be tested by themselves.
+pub fn first_outside(m: &[u8], s: Shape, n: usize) -> Finding
+    requires { ⌜ Held s (now m) × (n ≤ items (settingsOf s)) ⌝ }
+    ensures { λ r. ⌜ r ≡ first (fitsAt (settingsOf s) (now (m .entry))) n ⌝ }
 {
-    let ports = s.ports;
-    let n = ports + 4 + ports * s.queues;
     let mut i = 0;
     while i < n {
         if !in_range(m, s, i) {
@@ -148,4 +147,14 @@ pub fn ranges(m: &[u8], s: Shape) -> Finding
         i += 1;
     }
     Finding::Whole
+}
+
+// Rule (b): the first item that is out of range.
+pub fn ranges(m: &[u8], s: Shape) -> Finding
+    requires { ⌜ Held s (now m) ⌝ }
+    ensures { λ r. ⌜ r ≡ rangesFound (settingsOf s) (now (m .entry)) ⌝ }
+{
+    let ports = s.ports;
+    let n = ports + 4 + ports * s.queues;
+    first_outside(m, s, n)
 }

@@ -12,6 +12,7 @@ use Rattle.layout.specs.Picture.{settingsIn}
 use Rattle.ranges.specs.Opening.{Open}
 use Rattle.ranges.proofs.Opening.{open-held}
 use Rattle.once.specs.Walks.{Blank}
+use Rattle.whole.specs.Walks.{AllLent}
 
 -- this build has four ports of 24 queues and at most 2,048 nodes
 pub few : {m : List ℕ} {s : Shape} → Open m s → (s .all ≤ 8192) × (s .cells ≤ 92)
@@ -35,4 +36,14 @@ blank o k h = record {
   laid = o .laid;
   long = open-held o .long;
   clear = part-zeros _ k h ∙ ap (λ (n : ℕ). replicate n 0) (o .laid .all-are);
+}
+
+-- and the sums of 92 with them
+pub all-lent : {m : List ℕ} {s : Shape} → Open m s → (k : ℕ) → s .all ≤ k
+    → AllLent s m (take (s .all) (replicate k 0)) (take (s .cells) (replicate 92 0))
+all-lent o k h = record {
+  laid = o .laid;
+  long = open-held o .long;
+  clear = blank o k h .clear;
+  zeros = part-zeros _ 92 (few o .1) ∙ ap (λ (n : ℕ). replicate n 0) (o .laid .cells-are);
 }

@@ -27,6 +27,7 @@ use Rattle.ranges.proofs.Opening.{shape-is, opened-is, opened-fine}
 use Rattle.ranges.proofs.Items.{ranges-means}
 use Rattle.once.specs.Once.{onceFound}
 use Rattle.once.proofs.Means.{found-whole, whole-found}
+use Rattle.fits.specs.declared.NodeRule.{NodeRule}
 use Rattle.fits.specs.declared.NodeRule.the-variants.{OwnPort, OwnQueue, Record}
 use Rattle.fits.specs.Fits.{fitsFound}
 use Rattle.fits.proofs.Means.{own-port-means, own-queue-means, record-means}
@@ -35,7 +36,7 @@ use Rattle.paid.proofs.Owing.{paid-means}
 use Rattle.sound.specs.declared.Broken.{Broken}
 use Rattle.sound.specs.declared.Broken.the-variants.{Whole, A, B, C, D, E, F, G}
 use Rattle.sound.specs.declared.Tested.the-variants.{State, NoState}
-use Rattle.sound.specs.Sound.{orNext, nodesBroken, openBroken, brokenBy, brokenIn, testedBy, testedIn}
+use Rattle.sound.specs.Sound.{Clean, orNext, nodesBroken, openBroken, brokenBy, brokenIn, testedBy, testedIn}
 
 -- ---- one rule and the next
 
@@ -71,19 +72,17 @@ shaped S m = record {
   mapped-long = length-tabulate (get S m Mapped) 0 ids;
 }
 
--- every rule from (b) on finds nothing
-record Clean (S : Settings) (m : List ℕ) : Type 0 where
-  b : rangesFound S m ≡ whole
-  c : onceFound S m ≡ whole
-  d : fitsFound OwnPort S m ≡ whole
-  e : fitsFound OwnQueue S m ≡ whole
-  f : fitsFound Record S m ≡ whole
-  g : paidFound S m ≡ whole
+-- the three rules that are asked of nodes
+by-rule : (S : Settings) (m : List ℕ) → fitsFound OwnPort S m ≡ whole → fitsFound OwnQueue S m ≡ whole → fitsFound Record S m ≡ whole
+    → (rule : NodeRule) → fitsFound rule S m ≡ whole
+by-rule S m d e f OwnPort = d
+by-rule S m d e f OwnQueue = e
+by-rule S m d e f Record = f
 
 module _ (m : List ℕ) (s : Shape) where
   clean-whole : Clean (settingsOf s) m → openBroken s m ≡ Whole s
   unfolding openBroken nodesBroken
-  clean-whole k = rw (k .b, k .c, k .d, k .e, k .f, k .g)
+  clean-whole k = rw (k .ranges, k .once, k .fits OwnPort, k .fits OwnQueue, k .fits Record, k .paid)
 
   whole-clean : (t : Shape) → openBroken s m ≡ Whole t → Clean (settingsOf s) m × (s ≡ t)
   unfolding openBroken nodesBroken isWhole
@@ -96,7 +95,7 @@ module _ (m : List ℕ) (s : Shape) where
       let g = or-passed (fitsFound Record S m) F _ t (λ i. refl) (f .1) in
       let h = or-passed (paidFound S m) G _ t (λ i. refl) (g .1) in
       let same : s ≡ t = cc (h .1) in
-      (record { b = b .0; c = c .0; d = d .0; e = f .0; f = g .0; g = h .0 }, same)
+      (record { ranges = b .0; once = c .0; fits = by-rule S m (d .0) (f .0) (g .0); paid = h .0 }, same)
 
   module _ (o : Open m s) where
     pub passed-once : onceFound (settingsOf s) m ≡ whole → Tidy (settingsOf s) m
@@ -104,12 +103,12 @@ module _ (m : List ℕ) (s : Shape) where
         let w = found-whole (settingsOf s) m e in
         record { long = rw (o .settings-are) (o .long); hangs = w .0; once = λ y. omega (arith, w .1 y) }
 
-    clean-state : Clean (settingsOf s) m → StateOf (settingsOf s) m
+    pub clean-state : Clean (settingsOf s) m → StateOf (settingsOf s) m
     clean-state k =
         let S : Settings = settingsOf s in
-        let w = found-whole S m (k .c) in
-        let proper = record-means S m .0 (k .f) in
-        let tidy = passed-once (k .c) in
+        let w = found-whole S m (k .once) in
+        let proper = record-means S m .0 (k .fits Record) in
+        let tidy = passed-once (k .once) in
         record {
           long = tidy .long;
           hangs = w .0;
@@ -117,27 +116,25 @@ module _ (m : List ℕ) (s : Shape) where
             rows = rw (o .settings-are) (o .rows);
             orderly = record {
               shaped = shaped S m;
-              ranges = ranges-means S m (o .laid .roomy) .0 (k .b);
+              ranges = ranges-means S m (o .laid .roomy) .0 (k .ranges);
               once = w .1;
-              owned = own-port-means S m .0 (k .d);
-              queued = own-queue-means S m .0 (k .e);
+              owned = own-port-means S m .0 (k .fits OwnPort);
+              queued = own-queue-means S m .0 (k .fits OwnQueue);
               proper = proper;
-              paid = paid-means S m (o .laid .roomy) (record { tidy = tidy; proper = proper }) .0 (k .g);
+              paid = paid-means S m (o .laid .roomy) (record { tidy = tidy; proper = proper }) .0 (k .paid);
             };
           };
         }
 
-state-clean : (S : Settings) (m : List ℕ) → StateOf S m → Clean S m
+pub state-clean : (S : Settings) (m : List ℕ) → StateOf S m → Clean S m
 state-clean S m t =
     let R = roomy S (t .sound .rows) in
     let o = t .sound .orderly in
     record {
-      b = ranges-means S m R .1 (o .ranges);
-      c = whole-found S m R (t .hangs, o .once);
-      d = own-port-means S m .1 (o .owned);
-      e = own-queue-means S m .1 (o .queued);
-      f = record-means S m .1 (o .proper);
-      g = paid-means S m R (record { tidy = state-tidy S m t; proper = o .proper }) .1 (o .paid);
+      ranges = ranges-means S m R .1 (o .ranges);
+      once = whole-found S m R (t .hangs, o .once);
+      fits = by-rule S m (own-port-means S m .1 (o .owned)) (own-queue-means S m .1 (o .queued)) (record-means S m .1 (o .proper));
+      paid = paid-means S m R (record { tidy = state-tidy S m t; proper = o .proper }) .1 (o .paid);
     }
 
 -- ---- no rule is broken exactly in a switch state
@@ -172,6 +169,10 @@ module _ (m : List ℕ) where
       go (yes t) = ap State (shape-is s (w .laid) ∙ ap shapeFor (w .settings-are))
       go (no n) = absurd (n (works-state s w))
 
+  -- the one walk decides: where the memory opens, by whether it is clean; and where it does not
+  pub clean-tested : (s : Shape) → Open m s → Clean (settingsOf s) m → State s ≡ testedIn m
+  clean-tested s o k = tested-is s (record { laid = o .laid; settings-are = o .settings-are; state = clean-state m s o k })
+
   pub tested-not : (picture.State m → ⊥) → NoState ≡ testedIn m
   unfolding testedIn
   tested-not n = go (state-dec m)
@@ -179,6 +180,12 @@ module _ (m : List ℕ) where
       go : (d : Dec (picture.State m)) → NoState ≡ testedBy m d
       go (yes t) = absurd (n t)
       go (no k) = refl
+
+  pub unclean-tested : (s : Shape) → Open m s → (Clean (settingsOf s) m → ⊥) → NoState ≡ testedIn m
+  unclean-tested s o n = tested-not (λ t. n (rw (o .settings-are) (state-clean (settingsIn m) m t)))
+
+  pub unopened-tested : opened m ≡ Wrong → NoState ≡ testedIn m
+  unopened-tested e = tested-not (λ t. let p = opened-is m (t .sound .rows) (t .long) in let z : _≡_ {A = ℕ} 0 1 = cc in omega arith)
 
   pub tested-state : (s : Shape) → testedIn m ≡ State s → Works s m
   unfolding testedIn

@@ -1,8 +1,10 @@
 -- Which rule a memory breaks first, and whether it is a switch state. Assumes nothing.
+use mathlib.Core.Path.{_≡_}
 use mathlib.Core.List.{List}
 use Prim.Native.Nat.{ℕ}
 use Rattle.ledger.specs.declared.Finding.{Finding}
 use Rattle.ledger.specs.declared.Finding.the-variants.{Whole as whole, At}
+use Rattle.ledger.specs.Settings.{Settings}
 use Rattle.layout.specs.declared.Shape.{Shape}
 use Rattle.layout.specs.Tables.{settingsOf}
 use Rattle.layout.specs.Picture as picture
@@ -14,6 +16,7 @@ use Rattle.ranges.specs.declared.Opened.the-variants.{Fine, Wrong}
 use Rattle.ranges.specs.Opening.{shapeFor, opened, Open}
 use Rattle.ranges.specs.Ranges.{rangesFound}
 use Rattle.once.specs.Once.{onceFound}
+use Rattle.fits.specs.declared.NodeRule.{NodeRule}
 use Rattle.fits.specs.declared.NodeRule.the-variants.{OwnPort, OwnQueue, Record}
 use Rattle.fits.specs.Fits.{fitsFound}
 use Rattle.paid.specs.Paid.{paidFound}
@@ -51,6 +54,13 @@ unfoldable pub brokenIn : List ℕ → Broken
 brokenIn m = brokenBy (opened m) m
 
 -- ---- whether it is a switch state
+
+-- every rule from (b) on finds nothing
+pub record Clean (S : Settings) (m : List ℕ) : Type 0 where
+  pub ranges : rangesFound S m ≡ whole
+  pub once : onceFound S m ≡ whole
+  pub fits : (rule : NodeRule) → fitsFound rule S m ≡ whole
+  pub paid : paidFound S m ≡ whole
 
 abbrev pub testedBy : (m : List ℕ) → Dec (picture.State m) → Tested
 testedBy m (yes s) = State (shapeFor (settingsIn m))

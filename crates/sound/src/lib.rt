@@ -9,7 +9,8 @@ ghost use Rattle.layout.specs.Tables.{settingsOf};
 ghost use Rattle.ranges.specs.Opening.{Open};
 ghost use Rattle.once.specs.Once.{onceFound};
 ghost use Rattle.paid.specs.Paid.{paidFound};
-ghost use Rattle.sound.specs.Sound.{Tied, Recorded, nodesBroken, openBroken, brokenIn, testedIn};
+ghost use Rattle.whole.specs.Whole.{Says, Kept};
+ghost use Rattle.sound.specs.Sound.{Clean, Tied, Recorded, nodesBroken, openBroken, brokenIn, testedIn};
 
 // The first rule that a memory breaks, with the first item that shows it; or none, with the memory's shape.
 pub enum Broken {
@@ -114,12 +115,54 @@ pub fn first_broken(m: &[u8]) -> Broken
     }
 }
 
-// Whether a memory is a switch state.
+// The rules of lists in one walk where there are few nodes, with marks for 1,024.
+fn whole_among_few(m: &[u8], s: Shape) -> bool
+    requires { ⌜ Open (now m) s × (s .all ≤ 1024) ⌝ }
+    ensures { λ r. ⌜ Says (Kept (settingsOf s) (now (m .entry))) r ⌝ }
+{
+    let mut marks = [0u8; 1024];
+    let mut sums = [0u64; 92];
+    let all = s.all;
+    let cells = s.cells;
+    whole::whole(m, s, &mut marks[..all], &mut sums[..cells])
+}
+
+// The rules of lists in one walk, with marks for as many nodes as a state may have.
+fn whole_among_all(m: &[u8], s: Shape) -> bool
+    requires { ⌜ Open (now m) s ⌝ }
+    ensures { λ r. ⌜ Says (Kept (settingsOf s) (now (m .entry))) r ⌝ }
+{
+    let mut marks = [0u8; 8192];
+    let mut sums = [0u64; 92];
+    let all = s.all;
+    let cells = s.cells;
+    whole::whole(m, s, &mut marks[..all], &mut sums[..cells])
+}
+
+// Whether rules (b) to (g) are kept: of (b) the marks and the map first, and the prefetch lists where the lists are walked.
+fn whole_in(m: &[u8], s: Shape) -> bool
+    requires { ⌜ Open (now m) s ⌝ }
+    ensures { λ r. ⌜ Says (Clean (settingsOf s) (now (m .entry))) r ⌝ }
+{
+    let marks = s.ports + 4;
+    if let Finding::At(_) = ranges::first_outside(m, s, marks) {
+        return false;
+    }
+    let all = s.all;
+    if all <= 1024 {
+        return whole_among_few(m, s);
+    }
+    whole_among_all(m, s)
+}
+
+// Whether a memory is a switch state. Which rule it breaks isn't asked, so that one walk of the lists decides.
 pub fn test(m: &[u8]) -> Tested
     ensures { λ r. ⌜ r ≡ testedIn (now (m .entry)) ⌝ }
 {
-    if let Broken::Whole(s) = first_broken(m) {
-        return Tested::State(s);
+    if let Opened::Fine(s) = ranges::open(m) {
+        if whole_in(m, s) {
+            return Tested::State(s);
+        }
     }
     Tested::NoState
 }

@@ -53,14 +53,15 @@ returns : tie.Need-returns
 unfolding properTest
 returns c = rw (sym (ranges (c .before)) ∙ not-true (c .before .in-range .result) (c .if1 .taken))
 
-cast-price-of : tie.Need-cast-price-of
-cast-price-of c = search needs
+cast-fair : tie.Need-cast-fair
+cast-fair c = search needs
 
-price-of-requires : tie.Need-price-of-requires
-price-of-requires c κs =
+fair-requires : tie.Need-fair-requires
+fair-requires c κs =
     let w = c .before .before in
     let roomy = w .before .before .before .before .before .before .before .pre .laid .roomy in
-    (omega arith, omega arith, range-len _ _ _ _ _ (rw (w .in-range .ensures) at (not-false (w .in-range .result) (c .before .if1 .left))))
+    let long = range-len _ _ _ _ _ (rw (w .in-range .ensures) at (not-false (w .in-range .result) (c .before .if1 .left))) in
+    (omega arith, omega arith, long, omega arith)
 
 returns-2 : tie.Need-returns-2
 unfolding properTest packetAt
@@ -68,7 +69,7 @@ returns-2 c =
     let w = c .before .before .before in
     rw (
       sym (ranges w) ∙ not-false (w .in-range .result) (c .before .before .if1 .left),
-      c .price-of .ensures,
+      c .fair .ensures,
       w .before .field14 .ensures,
       w .before .before .before .before .field1 .ensures,
       w .before .before .before .before .before .field2 .ensures,
@@ -88,6 +89,6 @@ proper-spec =
     cast-price
     in-range-requires
     returns
-    cast-price-of
-    price-of-requires
+    cast-fair
+    fair-requires
     returns-2)

@@ -1,66 +1,26 @@
--- `ranges::ranges` meets its contract: what is found from item i on is what is found of all. Assumes nothing.
-use mathlib.Core.Path.{sym, _∙_}
-use Prim.Native.Nat.{_-_}
+-- `ranges::ranges` meets its contract: no number wraps, since a switch has few items. Assumes nothing.
 use native.Mathlib.Omega.{arith}
-use borrow.Author.Tests.{not-true, not-false}
-use Rattle.layout.specs.Tables.{settingsOf}
-use Rattle.ranges.specs.Ranges.{fitsAt, rangesFound}
+use Rattle.ranges.specs.Ranges.{rangesFound}
 use Rattle.ranges.proofs.Items.{few-items}
-use Rattle.ranges.proofs.First.{Searching, search-start, search-next, search-at, search-none}
 use Rattle.ranges.proofs.ranges.Statement.{statement}
 use Rattle.ranges.proofs.ranges.Tie as tie
 
-abbrev Inv-loop : tie.InvT-loop
-Inv-loop m s ports n i₀ i = Searching (fitsAt (settingsOf s) m) n i
-
-abbrev μ-loop : tie.MeasureT-loop
-μ-loop m s ports n i₀ i = n - i
-
-add-n : tie.Need-add-n Inv-loop μ-loop
+add-n : tie.Need-add-n
 add-n c = omega arith
 
-mul-n : tie.Need-mul-n Inv-loop μ-loop
+mul-n : tie.Need-mul-n
 mul-n c = omega (arith, few-items _ (c .before .before .pre .laid .roomy))
 
-add-n-2 : tie.Need-add-n-2 Inv-loop μ-loop
+add-n-2 : tie.Need-add-n-2
 add-n-2 c = omega (arith, few-items _ (c .before .before .pre .laid .roomy))
 
-loop-holds : tie.Need-loop-holds Inv-loop μ-loop
-loop-holds c = search-start _ _
+first-outside-requires : tie.Need-first-outside-requires
+first-outside-requires c κs = (c .before .before .pre, omega arith)
 
-in-range-requires : tie.Need-in-range-requires Inv-loop μ-loop
-in-range-requires c κs = record { held = c .before .before .before .before .pre; low = c .loop-test .taken }
-
-returns : tie.Need-returns Inv-loop μ-loop
+returns : tie.Need-returns
 unfolding rangesFound
-returns c = sym (search-at _ _ _ (c .before .before .before .loop .inv) (c .before .before .loop-test .taken) (sym (c .before .in-range .ensures) ∙ not-true _ (c .if1 .taken)))
-
-add-i : tie.Need-add-i Inv-loop μ-loop
-add-i c = omega (arith, few-items _ (c .before .before .before .before .before .before .pre .laid .roomy))
-
-loop-less : tie.Need-loop-less Inv-loop μ-loop
-loop-less c = omega arith
-
-loop-again : tie.Need-loop-again Inv-loop μ-loop
-loop-again c = search-next _ _ _ (c .before .before .before .loop .inv) (c .before .before .loop-test .taken) (sym (c .before .in-range .ensures) ∙ not-false _ (c .if1 .left))
-
-returns-2 : tie.Need-returns-2 Inv-loop μ-loop
-unfolding rangesFound
-returns-2 c = sym (search-none _ _ _ (c .before .loop .inv) (c .loop-test .left))
+returns c = c .first-outside .ensures
 
 pub ranges-spec : {M : Type 1} → statement M
 ranges-spec =
-    tie.close
-    (tie.spec
-    Inv-loop
-    μ-loop
-    add-n
-    mul-n
-    add-n-2
-    loop-holds
-    in-range-requires
-    returns
-    add-i
-    loop-less
-    loop-again
-    returns-2)
+    tie.close (tie.spec add-n mul-n add-n-2 first-outside-requires returns)

@@ -1,0 +1,79 @@
+-- `sound::whole_in` meets its contract: the marks and the map, and then what one walk decides. Assumes nothing.
+use mathlib.Core.Path.{_≡_, sym, _∙_}
+use mathlib.Core.Bool.{Bool, false≢true}
+use mathlib.Core.List.{List}
+use Prim.Native.Nat.{ℕ, _+_}
+use native.Mathlib.Omega.{arith}
+use borrow.Author.Needs.{needs}
+use Rattle.ledger.specs.declared.Finding.the-variants.{Whole}
+use Rattle.ledger.specs.Settings.{Settings, ids}
+use Rattle.ledger.specs.Sound.{Roomy}
+use Rattle.ranges.specs.First.{first}
+use Rattle.ranges.specs.Ranges.{fitsAt}
+use Rattle.ranges.proofs.Opening.{open-held}
+use Rattle.whole.specs.Whole.{Says, Kept}
+use Rattle.whole.proofs.Lists.{found}
+use Rattle.whole.proofs.Slots.{low-ranges, ranges-low, ranges-few}
+use Rattle.sound.specs.Sound.{Clean}
+use Rattle.sound.proofs.whole_in.Statement.{statement}
+use Rattle.sound.proofs.whole_in.Tie as tie
+
+-- where the marks and the map are in range, the walk decides
+walk-decides : (S : Settings) (m : List ℕ) {r : Bool} → Roomy S
+    → first (fitsAt S m) (S .ports + ids) ≡ Whole → Says (Kept S m) r → Says (Clean S m) r
+walk-decides S m R b k = record {
+  yes = λ e. let w = k .yes e in record { ranges = low-ranges S m R b (w .slots); once = w .once; fits = w .fits; paid = w .paid };
+  no = λ e c. k .no e (record { slots = ranges-few S m R (c .ranges); once = c .once; fits = c .fits; paid = c .paid });
+}
+
+add-marks : tie.Need-add-marks
+add-marks c = omega (arith, c .before .before .pre .laid .roomy)
+
+first-outside-requires : tie.Need-first-outside-requires
+first-outside-requires c κs = (open-held (c .before .before .pre), omega arith)
+
+enum-told : tie.Need-enum-told
+enum-told c = search needs
+
+returns : tie.Need-returns
+returns c =
+    let R = c .before .before .before .before .before .pre .laid .roomy in
+    record {
+      yes = λ e. absurd (false≢true e);
+      no = λ e k. found _ (sym (c .enum-told .given .1) ∙ c .before .before .first-outside .ensures ∙ ranges-low _ _ R (k .ranges));
+    }
+
+enum-told-2 : tie.Need-enum-told-2
+enum-told-2 c = search needs
+
+whole-among-few-requires : tie.Need-whole-among-few-requires
+whole-among-few-requires c κs = search needs
+
+returns-2 : tie.Need-returns-2
+returns-2 c =
+    let b = c .before .before in
+    let R = b .before .before .before .before .before .pre .laid .roomy in
+    walk-decides _ _ R (sym (b .before .before .first-outside .ensures) ∙ b .enum-told2 .given .1) (c .whole-among-few .ensures)
+
+whole-among-all-requires : tie.Need-whole-among-all-requires
+whole-among-all-requires c κs = search needs
+
+returns-3 : tie.Need-returns-3
+returns-3 c =
+    let b = c .before .before in
+    let R = b .before .before .before .before .before .pre .laid .roomy in
+    walk-decides _ _ R (sym (b .before .before .first-outside .ensures) ∙ b .enum-told2 .given .1) (c .whole-among-all .ensures)
+
+pub whole-in-spec : {M : Type 1} → statement M
+whole-in-spec =
+    tie.close
+    (tie.spec
+    add-marks
+    first-outside-requires
+    enum-told
+    returns
+    enum-told-2
+    whole-among-few-requires
+    returns-2
+    whole-among-all-requires
+    returns-3)

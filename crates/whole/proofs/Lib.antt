@@ -1,0 +1,6 @@
+pub mod Columns
+pub mod Here
+pub mod SetMarks
+pub mod Walk
+pub mod Lists
+pub mod Slots

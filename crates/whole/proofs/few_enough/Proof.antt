@@ -1,0 +1,23 @@
+-- `whole::few_enough` meets its contract. Assumes nothing.
+use borrow.Author.Needs.{needs}
+use borrow.Author.Tests.{lt-ltb, le-ltb}
+use Rattle.whole.specs.Whole.{fewAt}
+use Rattle.whole.proofs.few_enough.Statement.{statement}
+use Rattle.whole.proofs.few_enough.Tie as tie
+
+add-if1 : tie.Need-add-if1
+add-if1 c = search needs
+
+returns : tie.Need-returns
+unfolding fewAt
+returns c = rw (lt-ltb _ _ (c .if1 .taken))
+
+cast-slots : tie.Need-cast-slots
+cast-slots c = search needs
+
+returns-2 : tie.Need-returns-2
+unfolding fewAt
+returns-2 c = rw (le-ltb _ _ (c .before .if1 .left))
+
+pub few-enough-spec : {M : Type 1} → statement M
+few-enough-spec = tie.close (tie.spec add-if1 returns cast-slots returns-2)

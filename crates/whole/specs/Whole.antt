@@ -1,0 +1,62 @@
+-- Rules (c) to (g) in one walk of the lists: what is asked of a node, what is added for it, and what the answer says. Assumes nothing.
+use mathlib.Core.Path.{_≡_}
+use mathlib.Core.Bool.{Bool, true, false, cond, _&&_, _||_}
+use mathlib.Core.List.{List}
+use Prim.Native.Nat.{ℕ, _+_, _%_, _<_}
+use lib.Dec.{eqb, ltb, leb}
+use Rattle.ledger.specs.declared.Finding.the-variants.{Whole}
+use Rattle.ledger.specs.Settings.{Settings, row}
+use Rattle.layout.specs.declared.Table.the-variants.{Count}
+use Rattle.layout.specs.Tables.{lists, get}
+use Rattle.layout.specs.Picture.{packetAt}
+use Rattle.once.specs.Once.{right, onceFound}
+use Rattle.fits.specs.declared.NodeRule.{NodeRule}
+use Rattle.fits.specs.declared.NodeRule.the-variants.{OwnPort, OwnQueue, Record}
+use Rattle.fits.specs.Fits.{spared, ruleTest, listFound, fitsFound}
+use Rattle.paid.specs.Paid.{addNode, paidFound}
+
+-- ---- a node x in port p's column c
+
+-- what a rule asks, where it speaks of the list
+abbrev pub asks : NodeRule → Settings → List ℕ → ℕ → ℕ → ℕ → Bool
+asks rule S m p c x = spared rule c || ruleTest rule S p c (packetAt S m x)
+
+-- (d), (e) and (f)
+unfoldable pub fitsHere : Settings → List ℕ → ℕ → ℕ → ℕ → Bool
+fitsHere S m p c x = asks OwnPort S m p c x && (asks OwnQueue S m p c x && asks Record S m p c x)
+
+-- the sums with its price, unless it is free
+unfoldable pub addHere : Settings → List ℕ → ℕ → List ℕ → ℕ → List ℕ
+addHere S m c sums x = cond (eqb c 0) sums (addNode S m sums x)
+
+-- ---- a list in port p's column c
+
+-- n nodes are few enough for it: a prefetch list has no more than there are slots
+unfoldable pub fewAt : Settings → ℕ → ℕ → Bool
+fewAt S c n = ltb c (2 + S .queues) || leb n (S .slots)
+
+-- the place of the list after it, in rows of r columns
+abbrev pub columnAfter : ℕ → ℕ → ℕ
+columnAfter r c = cond (eqb (c + 1) r) 0 (c + 1)
+
+abbrev pub portAfter : ℕ → ℕ → ℕ → ℕ
+portAfter r p c = cond (eqb (c + 1) r) (p + 1) p
+
+-- ---- what is decided
+
+-- whether P, as a Boolean answer tells it
+pub record Says (P : Type 0) (r : Bool) : Type 0 where
+  pub yes : r ≡ true → P
+  pub no : r ≡ false → P → ⊥
+
+-- list l keeps the rules, where it is met with these marks
+pub record ListKept (S : Settings) (m ms : List ℕ) (l : ℕ) : Type 0 where
+  pub once : right S m ms l ≡ true
+  pub fits : (rule : NodeRule) → listFound rule S m l ≡ Whole
+
+-- a memory keeps them
+pub record Kept (S : Settings) (m : List ℕ) : Type 0 where
+  pub slots : (l : ℕ) → l < lists S → fewAt S (l % row S) (get S m Count l) ≡ true
+  pub once : onceFound S m ≡ Whole
+  pub fits : (rule : NodeRule) → fitsFound rule S m ≡ Whole
+  pub paid : paidFound S m ≡ Whole
