@@ -23,7 +23,7 @@ use Rattle.layout.proofs.Tables.{get-lt}
 use Rattle.memory.proofs.Chains.{length-lists, list-at}
 use Rattle.fits.specs.declared.NodeRule.{NodeRule}
 use Rattle.fits.specs.declared.NodeRule.the-variants.{OwnPort, OwnQueue, Record}
-use Rattle.fits.specs.Fits.{spared, rangeTest, properTest, ruleTest, nodeTest, firstBad, orElse, listFound, fitsFrom, fitsFound}
+use Rattle.fits.specs.Fits.{spared, rangeTest, fieldsTest, properTest, ruleTest, nodeTest, firstBad, orElse, listFound, fitsFrom, fitsFound}
 
 -- ---- a node in its place
 
@@ -43,7 +43,7 @@ silent e = (λ t. tt, λ u. e)
 
 -- the fields that no test asks are as small as the bytes that hold them
 tested-proper : (S : Settings) (m : List ℕ) (x : ℕ) → properTest S (packetAt S m x) ≡ true → Proper S (packetAt S m x)
-unfolding properTest rangeTest packetAt
+unfolding properTest fieldsTest rangeTest packetAt
 tested-proper S m x e =
     let k : Packet = packetAt S m x in
     let len = and-left (rangeTest S (k .len) (k .queue) (k .dest) (k .poisoned)) _ e in
@@ -62,7 +62,7 @@ tested-proper S m x e =
     }
 
 proper-tested : (S : Settings) (k : Packet) → Proper S k → properTest S k ≡ true
-unfolding properTest rangeTest
+unfolding properTest fieldsTest rangeTest
 proper-tested S k p =
     rw (
       leb-is leastLength (k .len) (p .len-low),

@@ -22,8 +22,9 @@ use Rattle.layout.specs.Access.{Reads}
 use Rattle.memory.specs.Ends.{Tidy}
 use Rattle.memory.proofs.Chains.{members, slot-lt}
 use Rattle.fits.specs.declared.NodeRule.{NodeRule}
-use Rattle.fits.specs.Fits.{spared, rangeTest, ruleTest, nodeTest, firstBad, orElse, listFound, fitsFrom, fitsFound}
-use Rattle.fits.specs.Walk.{FieldOf}
+use Rattle.fits.specs.declared.Note.{Note}
+use Rattle.fits.specs.Fits.{spared, rangeTest, fieldsTest, properTest, ruleTest, nodeTest, firstBad, orElse, listFound, fitsFrom, fitsFound}
+use Rattle.fits.specs.Walk.{FieldOf, NoteOf}
 
 -- ---- a node's element of a table
 
@@ -39,6 +40,12 @@ reads {k} {x} {s} f = record {
 pub range-len : (S : Settings) (len queue dest poisoned : ℕ) → rangeTest S len queue dest poisoned ≡ true → len < 2 ^ 13
 unfolding rangeTest
 range-len S len queue dest poisoned e = ltb-yes len (2 ^ 13) (and-left (ltb len (2 ^ 13)) _ (and-right (leb leastLength len) _ e))
+
+-- what was read of a record is tested as the packet is
+pub note-tests : {S : Settings} {m : List ℕ} {x : ℕ} {n : Note} → NoteOf S m x n
+    → fieldsTest S (n .len) (n .queue) (n .dest) (n .poisoned) (n .price) ≡ properTest S (packetAt S m x)
+unfolding properTest packetAt
+note-tests w = rw (w .len-is, w .queue-is, w .dest-is, w .poisoned-is, w .price-is)
 
 -- ---- a list of which the rule says nothing
 

@@ -31,9 +31,12 @@ unfoldable pub rangeTest : Settings → ℕ → ℕ → ℕ → ℕ → Bool
 rangeTest S len queue dest poisoned =
     leb leastLength len && (ltb len (2 ^ 13) && (ltb queue (S .queues) && (ltb dest (2 ^ 2) && ltb poisoned 2)))
 
+-- and the price is that of the queue and the length
+unfoldable pub fieldsTest : Settings → ℕ → ℕ → ℕ → ℕ → ℕ → Bool
+fieldsTest S len queue dest poisoned paid = rangeTest S len queue dest poisoned && eqb paid (price (S .beat) queue len)
+
 unfoldable pub properTest : Settings → Packet → Bool
-properTest S k =
-    rangeTest S (k .len) (k .queue) (k .dest) (k .poisoned) && eqb (k .price) (price (S .beat) (k .queue) (k .len))
+properTest S k = fieldsTest S (k .len) (k .queue) (k .dest) (k .poisoned) (k .price)
 
 -- what a rule asks in the other lists
 unfoldable pub ruleTest : NodeRule → Settings → ℕ → ℕ → Packet → Bool

@@ -4,13 +4,16 @@ use mathlib.Core.Bool.{true, false}
 use mathlib.Core.List.{List}
 use Prim.Native.Nat.{ℕ, _≤_, _<_}
 use lib.ListN.{length}
-use Rattle.ledger.specs.Settings.{size}
+use Rattle.ledger.specs.Settings.{Settings, size}
 use Rattle.ledger.specs.Ledger.{isNode}
 use Rattle.layout.specs.declared.Shape.{Shape}
 use Rattle.layout.specs.declared.Table.{Table}
-use Rattle.layout.specs.Tables.{width, many, lists, all, settingsOf, Laid}
+use Rattle.layout.specs.declared.Table.the-variants.{Length, Queue, Dest, Poisoned, Price}
+use Rattle.layout.specs.Tables.{width, many, lists, all, get, settingsOf, Laid}
+use Rattle.layout.specs.Picture.{slot}
 use Rattle.memory.specs.Ends.{Tidy}
 use Rattle.fits.specs.declared.NodeRule.{NodeRule}
+use Rattle.fits.specs.declared.Note.{Note}
 use Rattle.fits.specs.Fits.{spared}
 
 -- a whole memory of shape s, in which x is a node
@@ -24,6 +27,14 @@ pub record FieldOf (k : ℕ) (s : Shape) (t : Table) (x : ℕ) (m : List ℕ) : 
   pub seen : NodeOf s x m
   pub wide : width t ≡ k
   pub each : many (settingsOf s) t ≡ all (settingsOf s)
+
+-- what was read of its record
+pub record NoteOf (S : Settings) (m : List ℕ) (x : ℕ) (n : Note) : Type 0 where
+  pub len-is : n .len ≡ get S m Length (slot S x)
+  pub queue-is : n .queue ≡ get S m Queue (slot S x)
+  pub dest-is : n .dest ≡ get S m Dest (slot S x)
+  pub poisoned-is : n .poisoned ≡ get S m Poisoned (slot S x)
+  pub price-is : n .price ≡ get S m Price (slot S x)
 
 -- and a list, a port's column c, of which the rule says something
 pub record Spoken (rule : NodeRule) (c : ℕ) (s : Shape) (x : ℕ) (m : List ℕ) : Type 0 where

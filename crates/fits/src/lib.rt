@@ -7,10 +7,10 @@ ghost use Prim.Native.Nat.{_^_, _≤_, _<_};
 ghost use lib.Dec.{eqb};
 ghost use Rattle.ledger.specs.Header.{price as priceOf};
 ghost use Rattle.ledger.specs.Ledger.{owner};
-ghost use Rattle.layout.specs.Tables.{settingsOf, get};
+ghost use Rattle.layout.specs.Tables.{settingsOf, get, Laid};
 ghost use Rattle.layout.specs.Picture.{slot, packetAt};
-ghost use Rattle.fits.specs.Fits.{spared, queueAt, rangeTest, properTest, ruleTest, listFound, fitsFound};
-ghost use Rattle.fits.specs.Walk.{NodeOf, FieldOf, Spoken, Walkable, ListOf};
+ghost use Rattle.fits.specs.Fits.{spared, queueAt, rangeTest, fieldsTest, properTest, ruleTest, listFound, fitsFound};
+ghost use Rattle.fits.specs.Walk.{NodeOf, FieldOf, NoteOf, Spoken, Walkable, ListOf};
 
 // Which of the three rules is tested.
 pub enum NodeRule {
@@ -20,7 +20,7 @@ pub enum NodeRule {
 }
 
 // What a table has for a node: a read for each width.
-pub fn field1(m: &[u8], s: Shape, t: Table, x: u16) -> u8
+fn field1(m: &[u8], s: Shape, t: Table, x: u16) -> u8
     requires { ⌜ FieldOf 1 s t x (now m) ⌝ }
     ensures { λ r. ⌜ r ≡ get (settingsOf s) (now (m .entry)) t (slot (settingsOf s) x) ⌝ }
 {
@@ -102,20 +102,47 @@ fn fair(beat: u32, queue: u32, len: u32, price: u32) -> bool
     held < len + beat
 }
 
+// What the memory has of a node's record, of the fields that can be out of range.
+pub struct Note {
+    pub len: u16,
+    pub queue: u8,
+    pub dest: u8,
+    pub poisoned: u8,
+    pub price: u8,
+}
+
+pub fn noted(m: &[u8], s: Shape, x: u16) -> Note
+    requires { ⌜ NodeOf s x (now m) ⌝ }
+    ensures { λ r. ⌜ NoteOf (settingsOf s) (now (m .entry)) x r ⌝ }
+{
+    Note {
+        len: field2(m, s, Table::Length, x),
+        queue: field1(m, s, Table::Queue, x),
+        dest: field1(m, s, Table::Dest, x),
+        poisoned: field1(m, s, Table::Poisoned, x),
+        price: field1(m, s, Table::Price, x),
+    }
+}
+
 // (f): every field is in range, and the price is that of the queue and the length.
-pub fn proper(m: &[u8], s: Shape, x: u16) -> bool
+pub fn note_proper(s: Shape, n: Note) -> bool
+    requires { ⌜ Laid s ⌝ }
+    ensures { λ r. ⌜ r ≡ fieldsTest (settingsOf s) (n .len) (n .queue) (n .dest) (n .poisoned) (n .price) ⌝ }
+{
+    let len = n.len as u32;
+    let queue = n.queue as u32;
+    if !in_range(s, len, queue, n.dest, n.poisoned) {
+        return false;
+    }
+    fair(s.beat as u32, queue, len, n.price as u32)
+}
+
+// The same of what the memory has.
+fn proper(m: &[u8], s: Shape, x: u16) -> bool
     requires { ⌜ NodeOf s x (now m) ⌝ }
     ensures { λ r. ⌜ r ≡ properTest (settingsOf s) (packetAt (settingsOf s) (now (m .entry)) x) ⌝ }
 {
-    let len = field2(m, s, Table::Length, x) as u32;
-    let queue = field1(m, s, Table::Queue, x) as u32;
-    let dest = field1(m, s, Table::Dest, x);
-    let poisoned = field1(m, s, Table::Poisoned, x);
-    let price = field1(m, s, Table::Price, x) as u32;
-    if !in_range(s, len, queue, dest, poisoned) {
-        return false;
-    }
-    fair(s.beat as u32, queue, len, price)
+    note_proper(s, noted(m, s, x))
 }
 
 // The rule's test of one node in a list that it speaks of.

@@ -16,6 +16,7 @@ use Rattle.layout.specs.declared.Table.the-variants.{Head, Tail, Count, Next}
 use Rattle.layout.specs.Tables.{lists, all, get}
 use Rattle.layout.specs.Picture.{slot, chain, nodesOf}
 use Rattle.once.specs.Once.{isNew, mark, allNew, markAll, ends, right, unmarked, scan, onceFound}
+use Rattle.once.specs.Walks.{Scanning}
 use Rattle.once.proofs.Marks.{length-mark}
 
 -- ---- the nodes of a list
@@ -53,12 +54,6 @@ module _ {S : Settings} {m ms₀ : List ℕ} {l : ℕ} {ms : List ℕ} {left x l
   walk-end h = let e : left ≡ 0 = omega arith in (W .answer ∙ rw e, sym (W .after ∙ rw e))
 
 -- ---- the lists
-
--- the scan stands at list l
-pub record Scanning (S : Settings) (m ms : List ℕ) (l : ℕ) : Type 0 where
-  pub most : l ≤ lists S
-  pub fits : length ms ≡ all S
-  pub answer : onceFound S m ≡ scan S m ms l (lists S - l)
 
 pub scan-start : (S : Settings) (m ms : List ℕ) → ms ≡ replicate (all S) 0 → Scanning S m ms 0
 unfolding onceFound

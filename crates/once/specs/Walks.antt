@@ -2,20 +2,26 @@
 use mathlib.Core.Path.{_≡_}
 use mathlib.Core.Bool.{Bool, true}
 use mathlib.Core.List.{List}
-use Prim.Native.Nat.{ℕ, _≤_, _<_}
+use Prim.Native.Nat.{ℕ, _-_, _≤_, _<_}
 use lib.ListN.{length, replicate}
-use Rattle.ledger.specs.Settings.{size}
+use Rattle.ledger.specs.Settings.{Settings, size}
+use Rattle.ledger.specs.Ledger.{isNode}
 use Rattle.layout.specs.declared.Shape.{Shape}
 use Rattle.layout.specs.Tables.{lists, all, settingsOf, Laid}
 use Rattle.layout.specs.Picture.{nodesOf}
-use Rattle.once.specs.Once.{isNew, mark, markAll, right}
+use Rattle.once.specs.Once.{isNew, mark, markAll, right, scan, onceFound}
 
 -- there is a mark for each node
 pub record Marks (s : Shape) (ms : List ℕ) : Type 0 where
   pub laid : Laid s
   pub fits : length ms ≡ all (settingsOf s)
 
--- and the memory is long enough, and has a list l
+-- and x is a node
+pub record MarkOf (s : Shape) (ms : List ℕ) (x : ℕ) : Type 0 where
+  pub marks : Marks s ms
+  pub node : isNode (settingsOf s) x ≡ true
+
+-- or the memory is long enough, and has a list l
 pub record Walkable (s : Shape) (m ms : List ℕ) (l : ℕ) : Type 0 where
   pub marks : Marks s ms
   pub long : size (settingsOf s) ≤ length m
@@ -26,6 +32,12 @@ pub record Blank (s : Shape) (m ms : List ℕ) : Type 0 where
   pub laid : Laid s
   pub long : size (settingsOf s) ≤ length m
   pub clear : ms ≡ replicate (all (settingsOf s)) 0
+
+-- the walk stands at list l: what is found in all lists is what is found from there on
+pub record Scanning (S : Settings) (m ms : List ℕ) (l : ℕ) : Type 0 where
+  pub most : l ≤ lists S
+  pub fits : length ms ≡ all S
+  pub answer : onceFound S m ≡ scan S m ms l (lists S - l)
 
 -- whether a node was new, and a list right; and the marks where that is so
 pub record Met (s : Shape) (ms : List ℕ) (x : ℕ) (ms′ : List ℕ) (r : Bool) : Type 0 where

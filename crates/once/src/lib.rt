@@ -9,10 +9,10 @@ ghost use lib.ListN.{length};
 ghost use Rattle.ledger.specs.Ledger.{isNode};
 ghost use Rattle.layout.specs.Tables.{settingsOf, Laid};
 ghost use Rattle.once.specs.Once.{unmarked, onceFound};
-ghost use Rattle.once.specs.Walks.{Marks, Walkable, Blank, Met, Walked};
+ghost use Rattle.once.specs.Walks.{Marks, MarkOf, Walkable, Blank, Met, Walked};
 
 // Whether x is a node's id.
-fn is_node(s: Shape, x: u16) -> bool
+pub fn is_node(s: Shape, x: u16) -> bool
     ensures { λ r. ⌜ r ≡ isNode (settingsOf s) x ⌝ }
 {
     let id = x as usize;
@@ -23,17 +23,26 @@ fn is_node(s: Shape, x: u16) -> bool
     }
 }
 
+// Marks node x, where it is not marked yet, and answers whether it was not.
+pub fn fresh(s: Shape, x: u16, marks: &mut [u8]) -> bool
+    requires { ⌜ MarkOf s (now marks) x ⌝ }
+    ensures { λ r. ⌜ Met s (now (marks .entry)) x (now (marks .exit)) r ⌝ }
+{
+    let at = layout::slot_of(s, x);
+    if marks[at] == 0 {
+        marks[at] = 1;
+        return true;
+    }
+    false
+}
+
 // Marks x, where it is a node that is not marked yet, and answers whether it is.
-pub fn meet(s: Shape, x: u16, marks: &mut [u8]) -> bool
+fn meet(s: Shape, x: u16, marks: &mut [u8]) -> bool
     requires { ⌜ Marks s (now marks) ⌝ }
     ensures { λ r. ⌜ Met s (now (marks .entry)) x (now (marks .exit)) r ⌝ }
 {
     if is_node(s, x) {
-        let at = layout::slot_of(s, x);
-        if marks[at] == 0 {
-            marks[at] = 1;
-            return true;
-        }
+        return fresh(s, x, marks);
     }
     false
 }

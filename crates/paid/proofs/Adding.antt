@@ -20,7 +20,7 @@ use Rattle.layout.specs.Tables.{cells, lists, get}
 use Rattle.layout.specs.Picture.{slot, nodesOf, packetAt, nodeIn}
 use Rattle.layout.proofs.Tables.{get-lt, zeros}
 use Rattle.memory.proofs.Chains.{All-unmap, item-used, length-lists, list-at, nodes-length, members}
-use Rattle.paid.specs.Paid.{addNode, addAll, addList}
+use Rattle.paid.specs.Paid.{addPrice, addNode, addAll, addList}
 use Rattle.paid.specs.Passes.{Payable, Sums, Counted, listMost}
 
 -- ---- lists that are not free
@@ -44,10 +44,17 @@ pub place-free : (S : Settings) (l : ℕ) → l % row S ≡ 0 → placeOf S l �
 unfolding placeOf
 place-free S l e = ap (placeIn S (l / row S)) e
 
-at-cell : (S : Settings) (sums : List ℕ) (p q v : ℕ) → 0 < q → setCredit S sums p q (creditAt S sums p q + v) ≡ set sums (cell S p (q - 1)) (getD sums (cell S p (q - 1)) 0 + v)
-unfolding setCredit creditAt
-at-cell S sums p zero v h = absurd (omega arith)
-at-cell S sums p (suc r) v h = let e : suc r - 1 ≡ r = omega arith in rw e
+-- ---- adding, by the queue
+
+module _ (S : Settings) (sums : List ℕ) (x : ℕ) where
+  pub add-none : (n : ℕ) → addPrice S sums x 0 n ≡ sums
+  unfolding addPrice setCredit
+  add-none n = refl
+
+  pub add-some : (q n : ℕ) → 0 < q → addPrice S sums x q n ≡ set sums (cell S (owner x) (q - 1)) (getD sums (cell S (owner x) (q - 1)) 0 + n)
+  unfolding addPrice setCredit creditAt
+  add-some zero n h = absurd (omega arith)
+  add-some (suc r) n h = let e : suc r - 1 ≡ r = omega arith in rw e
 
 pub sums-more : (S : Settings) (sums : List ℕ) (b b′ : ℕ) → b ≤ b′ → Sums S sums b → Sums S sums b′
 sums-more S sums b b′ h s = record { many = s .many; low = λ p q. le-trans (s .low p q) h }
@@ -72,17 +79,6 @@ module _ (S : Settings) (m : List ℕ) where
           let r : Proper S (packetAt S m x) = by-place S (λ v. WellRecorded S v (packetAt S m x) → Proper S (packetAt S m x)) (λ p k. k) (λ p q k. k) (λ p q k. k) l n (rw (item-used S m l x n) at w) in
           record { node = e; queue-in = r .queue-in }
 
-  -- ---- adding, by the queue
-
-  pub add-none : (sums : List ℕ) (x : ℕ) → get S m Queue (slot S x) ≡ 0 → addNode S m sums x ≡ sums
-  unfolding addNode setCredit
-  add-none sums x e = rw e
-
-  pub add-some : (sums : List ℕ) (x q : ℕ) → get S m Queue (slot S x) ≡ q → 0 < q
-      → addNode S m sums x ≡ set sums (cell S (owner x) (q - 1)) (getD sums (cell S (owner x) (q - 1)) 0 + get S m Price (slot S x))
-  unfolding addNode
-  add-some sums x q e h = rw e (at-cell S sums (owner x) q (get S m Price (slot S x)) h)
-
   pub free-list : (sums : List ℕ) (l : ℕ) → l % row S ≡ 0 → addList S m sums l ≡ sums
   unfolding addList
   free-list sums l e = rw (eqb-is (l % row S) 0 e)
@@ -94,11 +90,11 @@ module _ (S : Settings) (m : List ℕ) where
   -- ---- no sum is large
 
   pub node-length : (sums : List ℕ) (x : ℕ) → length (addNode S m sums x) ≡ length sums
-  unfolding addNode
+  unfolding addNode addPrice
   node-length sums x = length-credit S sums (owner x) (get S m Queue (slot S x)) _
 
   pub add-sums : (sums : List ℕ) (x b : ℕ) → Sums S sums b → Sums S (addNode S m sums x) (b + 255)
-  unfolding addNode
+  unfolding addNode addPrice
   add-sums sums x b s = record {
     many = node-length sums x ∙ s .many;
     low = λ p q. credit-le S sums (owner x) (get S m Queue (slot S x)) _ p q (b + 255) (omega (arith, s .low (owner x) (get S m Queue (slot S x)), get-lt S m Price (slot S x))) (omega (arith, s .low p q));

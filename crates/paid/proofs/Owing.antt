@@ -21,7 +21,7 @@ use Rattle.layout.specs.Tables.{cells, lists, get}
 use Rattle.layout.specs.Picture.{slot, nodesOf, packetAt, nodeIn, tabulate, ledgerIn}
 use Rattle.memory.proofs.Chains.{getD-table, item-used, shown, node-from}
 use Rattle.ranges.proofs.First.{first-all}
-use Rattle.paid.specs.Paid.{addNode, addAll, addList, addFrom, sumsOf, settledAt, dueFound, paidFound}
+use Rattle.paid.specs.Paid.{addPrice, addNode, addAll, addList, addFrom, sumsOf, settledAt, dueFound, paidFound}
 use Rattle.paid.specs.Passes.{Payable, Counted}
 use Rattle.paid.proofs.Adding.{by-place, place-free, zero-sums, counted, free-list, used-list, node-length}
 
@@ -55,7 +55,7 @@ sum-none (x ∷ xs) = omega (arith, sum-none xs)
 module _ (S : Settings) (m : List ℕ) (p q : ℕ) (hp : p < S .ports) (some : 0 < q) (hq : q < S .queues) where
   node-owes : (sums : List ℕ) (x : ℕ) → length sums ≡ cells S → Counted S m x
       → creditAt S (addNode S m sums x) p q ≡ creditAt S sums p q + owes p q (packetAt S m x)
-  unfolding addNode packetAt
+  unfolding addNode addPrice packetAt
   node-owes sums x e c = go (ℕ-discrete (owner x) p) (ℕ-discrete (get S m Queue (slot S x)) q)
     where
       home : owner x < S .ports

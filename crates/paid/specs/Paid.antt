@@ -13,11 +13,13 @@ use Rattle.layout.specs.Tables.{cells, lists, get}
 use Rattle.layout.specs.Picture.{slot, nodesOf}
 use Rattle.ranges.specs.First.{first}
 
--- the price of node x added to the sum of its port and queue, of which queue 0 has none
+-- a price of n added to the sum of node x's port and of queue q, of which queue 0 has none
+unfoldable pub addPrice : Settings → List ℕ → ℕ → ℕ → ℕ → List ℕ
+addPrice S sums x q n = setCredit S sums (owner x) q (creditAt S sums (owner x) q + n)
+
+-- the price of node x added to the sum of its port and queue
 unfoldable pub addNode : Settings → List ℕ → List ℕ → ℕ → List ℕ
-addNode S m sums x =
-    let q = get S m Queue (slot S x) in
-    setCredit S sums (owner x) q (creditAt S sums (owner x) q + get S m Price (slot S x))
+addNode S m sums x = addPrice S sums x (get S m Queue (slot S x)) (get S m Price (slot S x))
 
 unfoldable pub addAll : Settings → List ℕ → List ℕ → List ℕ → List ℕ
 addAll S m sums [] = sums

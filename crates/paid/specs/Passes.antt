@@ -36,6 +36,13 @@ pub record InQueue (s : Shape) (x queue : ℕ) : Type 0 where
   pub some : 0 < queue
   pub inside : queue < s .queues
 
+pub record AddsPrice (s : Shape) (sums : List ℕ) (x queue price : ℕ) : Type 0 where
+  pub laid : Laid s
+  pub home : owner x < s .ports
+  pub inside : queue < s .queues
+  pub cheap : price < 256
+  pub held : Sums (settingsOf s) sums (2 ^ 63)
+
 pub record Counted (S : Settings) (m : List ℕ) (x : ℕ) : Type 0 where
   pub node : isNode S x ≡ true
   pub queue-in : get S m Queue (slot S x) < S .queues

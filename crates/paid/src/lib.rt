@@ -7,8 +7,8 @@ ghost use mathlib.Core.Path.{_≡_};
 ghost use Prim.Native.Nat.{_-_, _<_};
 ghost use Rattle.ledger.specs.Ledger.{owner, cell};
 ghost use Rattle.layout.specs.Tables.{settingsOf, Laid};
-ghost use Rattle.paid.specs.Paid.{addList, sumsOf, settledAt, dueFound, paidFound};
-ghost use Rattle.paid.specs.Passes.{InQueue, Adds, Added, AddsList, Pays, Settles, SettlesAt};
+ghost use Rattle.paid.specs.Paid.{addPrice, addList, sumsOf, settledAt, dueFound, paidFound};
+ghost use Rattle.paid.specs.Passes.{InQueue, AddsPrice, Adds, Added, AddsList, Pays, Settles, SettlesAt};
 
 // The credit cell of node x, which is of this queue and not of queue 0.
 fn cell_of(s: Shape, x: u16, queue: usize) -> usize
@@ -20,20 +20,28 @@ fn cell_of(s: Shape, x: u16, queue: usize) -> usize
     port * (queues - 1) + (queue - 1)
 }
 
+// Adds a price to the sum of node x's port and of a queue; queue 0 has none.
+pub fn add_price(s: Shape, sums: &mut [u64], x: u16, queue: usize, price: u64)
+    requires { ⌜ AddsPrice s (now sums) x queue price ⌝ }
+    ensures { λ _. ⌜ now (sums .exit) ≡ addPrice (settingsOf s) (now (sums .entry)) x queue price ⌝ }
+{
+    if queue == 0 {
+        return;
+    }
+    let c = cell_of(s, x, queue);
+    sums[c] = sums[c] + price;
+}
+
 // Adds the price of node x to the sum of its cell, and answers the node after x.
-pub fn add_node(m: &[u8], s: Shape, sums: &mut [u64], x: u16) -> u16
+fn add_node(m: &[u8], s: Shape, sums: &mut [u64], x: u16) -> u16
     requires { ⌜ Adds s (now m) (now sums) x ⌝ }
     ensures { λ r. ⌜ Added (settingsOf s) (now (m .entry)) (now (sums .entry)) x (now (sums .exit)) r ⌝ }
 {
     let at = layout::slot_of(s, x);
     let next = layout::get2(m, s, Table::Next, at);
     let queue = layout::get1(m, s, Table::Queue, at) as usize;
-    if queue == 0 {
-        return next;
-    }
     let price = layout::get1(m, s, Table::Price, at) as u64;
-    let c = cell_of(s, x, queue);
-    sums[c] = sums[c] + price;
+    add_price(s, sums, x, queue, price);
     next
 }
 

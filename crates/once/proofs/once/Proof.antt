@@ -7,7 +7,8 @@ use native.Mathlib.Omega.{arith}
 use lib.ListN.{length}
 use Rattle.layout.specs.Tables.{all, settingsOf}
 use Rattle.layout.proofs.Shapes.{few}
-use Rattle.once.proofs.Walk.{Scanning, scan-start, scan-no, scan-yes, scan-end}
+use Rattle.once.specs.Walks.{Scanning}
+use Rattle.once.proofs.Walk.{scan-start, scan-no, scan-yes, scan-end}
 use Rattle.once.proofs.once.Statement.{statement}
 use Rattle.once.proofs.once.Tie as tie
 
