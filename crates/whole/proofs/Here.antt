@@ -1,7 +1,7 @@
 -- What is asked of a node where it stands, by the column of its list. Assumes nothing.
-use mathlib.Core.Path.{_≡_}
+use mathlib.Core.Path.{_≡_, refl, sym, ap, ap₂, _∙_}
 use mathlib.Core.Logic.{_≢_}
-use mathlib.Core.Bool.{true, false}
+use mathlib.Core.Bool.{Bool, true, false, cond, _&&_, _||_}
 use mathlib.Core.List.{List}
 use Prim.Native.Nat.{ℕ, _^_, _≤_, _<_}
 use native.Mathlib.Omega.{arith}
@@ -9,14 +9,17 @@ use lib.Dec.{eqb, ltb, leb}
 use Rattle.ledger.specs.Settings.{Settings}
 use Rattle.ledger.specs.Header.{leastLength}
 use Rattle.ledger.specs.Ledger.{owner, Packet}
-use Rattle.ledger.proofs.Tests.{leb-is, leb-not, ltb-yes, ltb-is, ltb-not, eqb-not, and-left, and-right}
+use Rattle.ledger.proofs.Tests.{leb-is, leb-not, ltb-yes, ltb-no, eqb-not, and-left, and-right}
 use Rattle.layout.specs.declared.Table.the-variants.{Queue}
 use Rattle.layout.specs.Tables.{get}
 use Rattle.layout.specs.Picture.{slot, packetAt}
 use Rattle.fits.specs.declared.NodeRule.{NodeRule}
 use Rattle.fits.specs.declared.NodeRule.the-variants.{OwnPort, OwnQueue, Record}
-use Rattle.fits.specs.Fits.{queueAt, rangeTest, properTest, ruleTest}
-use Rattle.whole.specs.Whole.{asks, fitsHere}
+use Rattle.fits.specs.declared.Note.{Note}
+use Rattle.fits.specs.Fits.{queueAt, rangeTest, fieldsTest, properTest, ruleTest}
+use Rattle.fits.specs.Walk.{NoteOf}
+use Rattle.fits.proofs.Walk.{note-tests}
+use Rattle.whole.specs.Whole.{asks, fitsHere, ownPlace}
 
 module _ (S : Settings) (m : List ℕ) (p c x : ℕ) where
   -- what (d), (e) and (f) ask together is what each asks
@@ -30,34 +33,36 @@ module _ (S : Settings) (m : List ℕ) (p c x : ℕ) where
   unfolding fitsHere
   each-fits h = rw (h OwnPort, h OwnQueue, h Record)
 
-  -- ---- in the free list and the ingress list
+  -- ---- by the column
 
-  pub other-port : c < 2 → eqb (owner x) p ≡ false → false ≡ fitsHere S m p c x
+  pub free-fits : c ≡ 0 → eqb (owner x) p ≡ fitsHere S m p c x
   unfolding fitsHere ruleTest packetAt
-  other-port h e = rw (leb-not 2 c h, e)
+  free-fits z = rw z (go (eqb (owner x) p))
+    where
+      go : (b : Bool) → b ≡ (b && true)
+      go true = refl
+      go false = refl
 
-  pub free-fits : c ≡ 0 → eqb (owner x) p ≡ true → true ≡ fitsHere S m p c x
-  unfolding fitsHere ruleTest packetAt
-  free-fits z e = rw (z, e)
+  packet-fits : c ≢ 0 → (ownPlace S p c x (get S m Queue (slot S x)) && properTest S (packetAt S m x)) ≡ fitsHere S m p c x
+  unfolding fitsHere ownPlace ruleTest packetAt
+  packet-fits n = go (ltb c 2) refl
+    where
+      go : (b : Bool) → ltb c 2 ≡ b
+          → (cond b (eqb (owner x) p) (eqb (get S m Queue (slot S x)) (queueAt S c)) && properTest S (packetAt S m x))
+          ≡ ((leb 2 c || eqb (owner x) p) && ((b || eqb (get S m Queue (slot S x)) (queueAt S c)) && (eqb c 0 || properTest S (packetAt S m x))))
+      go true e = rw (leb-not 2 c (ltb-yes c 2 e), eqb-not c 0 n)
+      go false e = rw (leb-is 2 c (ltb-no c 2 e), eqb-not c 0 n)
 
-  pub ingress-fits : c < 2 → c ≢ 0 → eqb (owner x) p ≡ true → properTest S (packetAt S m x) ≡ fitsHere S m p c x
-  unfolding fitsHere ruleTest packetAt
-  ingress-fits h n e = rw (leb-not 2 c h, ltb-is c 2 h, eqb-not c 0 n, e)
-
-  -- ---- in the others
-
-  pub other-queue : 2 ≤ c → eqb (get S m Queue (slot S x)) (queueAt S c) ≡ false → false ≡ fitsHere S m p c x
-  unfolding fitsHere ruleTest packetAt
-  other-queue h e = rw (leb-is 2 c h, ltb-not c 2 h, e)
-
-  pub queue-fits : 2 ≤ c → eqb (get S m Queue (slot S x)) (queueAt S c) ≡ true → properTest S (packetAt S m x) ≡ fitsHere S m p c x
-  unfolding fitsHere ruleTest packetAt
-  queue-fits h e = rw (leb-is 2 c h, ltb-not c 2 h, eqb-not c 0 (λ z. omega arith), e)
+  -- by what was answered of its place, and of what was read of its record
+  pub note-fits : {n : Note} → c ≢ 0 → NoteOf S m x n → (a b : Bool) → ownPlace S p c x (n .queue) ≡ a
+      → fieldsTest S (n .len) (n .queue) (n .dest) (n .poisoned) (n .price) ≡ b → (a && b) ≡ fitsHere S m p c x
+  note-fits d w a b e f =
+      ap₂ _&&_ (sym e ∙ ap (ownPlace S p c x) (w .queue-is)) (sym f ∙ note-tests w) ∙ packet-fits d
 
   -- ---- a node that is not free has its queue in range
 
   tested-queue : (k : Packet) → properTest S k ≡ true → k .queue < S .queues
-  unfolding properTest rangeTest
+  unfolding properTest fieldsTest rangeTest
   tested-queue k e =
       let len = and-right (leb leastLength (k .len)) _ (and-left (rangeTest S (k .len) (k .queue) (k .dest) (k .poisoned)) _ e) in
       let queue = and-right (ltb (k .len) (2 ^ 13)) _ len in

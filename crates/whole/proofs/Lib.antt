@@ -1,4 +1,3 @@
-pub mod Columns
 pub mod Here
 pub mod SetMarks
 pub mod Walk

@@ -2,8 +2,7 @@
 use mathlib.Core.Path.{_≡_, refl, sym, ap, _∙_}
 use mathlib.Core.Bool.{Bool, true, false}
 use mathlib.Core.List.{List}
-use Prim.Native.Nat.{ℕ, suc, _+_, _-_, _*_, _%_, _≤_, _<_}
-use native.Mathlib.Nat.{div-lt-iff-lt-mul}
+use Prim.Native.Nat.{ℕ, suc, _+_, _-_, _*_, _/_, _%_, _≤_, _<_}
 use native.Mathlib.Decide.{ℕ-discrete}
 use native.Mathlib.Numerals.{add-one}
 use native.Mathlib.Omega.{arith}
@@ -12,12 +11,13 @@ use Rattle.ledger.specs.declared.Finding.{Finding}
 use Rattle.ledger.specs.declared.Finding.the-variants.{Whole, At}
 use Rattle.ledger.specs.Settings.{Settings, row, size}
 use Rattle.ledger.proofs.Tests.{true≢false}
+use Rattle.ledger.proofs.Places.{row-lt, row-div, row-mod}
 use Rattle.layout.specs.declared.Shape.{Shape}
 use Rattle.layout.specs.declared.Table.the-variants.{Count}
 use Rattle.layout.specs.Tables.{lists, all, get, settingsOf}
 use Rattle.layout.specs.Picture.{nodesOf}
 use Rattle.once.specs.Once.{markAll, right, onceFound}
-use Rattle.once.proofs.Walk.{Scanning, scan-start, scan-no, scan-yes, scan-end}
+use Rattle.once.proofs.Walk.{scan-start, scan-no, scan-yes, scan-end}
 use Rattle.once.proofs.Means.{found-whole}
 use Rattle.fits.specs.declared.NodeRule.{NodeRule}
 use Rattle.fits.specs.declared.NodeRule.the-variants.{Record}
@@ -28,48 +28,41 @@ use Rattle.paid.specs.Paid.{addList, addFrom, sumsOf}
 use Rattle.paid.specs.Passes.{Sums, Payable}
 use Rattle.paid.proofs.Adding.{sums-more}
 use Rattle.paid.proofs.Passing.{list-start}
-use Rattle.whole.specs.Whole.{fewAt, columnAfter, portAfter, ListKept, Kept}
-use Rattle.whole.specs.Walks.{most, AllLent}
-use Rattle.whole.proofs.Columns.{Stands, stands-start, stands-low, stands-next}
-use Rattle.whole.proofs.SetMarks.{setMarks, set-none, set-all, all-set, list-more}
+use Rattle.whole.specs.Whole.{fewAt, setMarks, ListKept, Kept}
+use Rattle.whole.specs.Walks.{most, AtList, AllLent, ListPassed}
+use Rattle.whole.proofs.SetMarks.{set-none, set-all, all-set, list-more}
 
--- the walk stands at list l, port p's column c, and has met n nodes
-pub record Scanned (S : Settings) (m ms sums : List ℕ) (l p c n : ℕ) : Type 0 where
-  pub scan : Scanning S m ms l
-  pub place : Stands (row S) l p c
-  pub met : setMarks ms ≡ n
-  pub slots : (i : ℕ) → i < l → fewAt S (i % row S) (get S m Count i) ≡ true
-  pub fits : (rule : NodeRule) → fitsFrom rule S m l (lists S - l) ≡ fitsFound rule S m
-  pub add : addFrom S m sums l (lists S - l) ≡ sumsOf S m
-  pub held : Sums S sums (most * l)
-
-pub row-some : (S : Settings) → 0 < row S
-unfolding row
-row-some S = omega arith
-
-pub lists-start : {s : Shape} {m ms sums : List ℕ} → AllLent s m ms sums → Scanned (settingsOf s) m ms sums 0 0 0 0
-lists-start {s} {m} {ms} {sums} a =
+pub lists-start : {s : Shape} {m ms sums : List ℕ} {l : ℕ} → AllLent s m ms sums → l ≡ 0 → AtList (settingsOf s) m ms sums l 0
+lists-start {s} {m} {ms} {sums} a e =
     let S = settingsOf s in
     let w = list-start S m sums (a .zeros) in
-    record {
+    rw e (record {
       scan = scan-start S m ms (a .clear);
-      place = stands-start (row S) (row-some S);
       met = ap setMarks (a .clear) ∙ set-none (all S);
       slots = λ i h. absurd (omega arith);
       fits = λ rule. fits-start rule S m;
       add = w .rest;
       held = sums-more S sums _ (most * 0) (omega arith) (w .held);
-    }
+    })
+
+-- ---- the place of a list, which is port p's column c
+
+module _ (S : Settings) (p c : ℕ) (hc : c < row S) where
+  pub list-in : p < S .ports → p * row S + c < lists S
+  list-in hp = row-lt (row S) (S .ports) p c hp hc
+
+  pub port-is : p ≡ (p * row S + c) / row S
+  port-is = sym (row-div (row S) p c hc)
+
+  pub column-is : c ≡ (p * row S + c) % row S
+  column-is = sym (row-mod (row S) p c hc)
 
 -- a place that is found is not none
 pub found : (x : ℕ) → At x ≡ Whole → ⊥
 found x e = let z : _≡_ {A = ℕ} 0 1 = cc in omega arith
 
-module _ {S : Settings} {m ms sums : List ℕ} {l p c n : ℕ} (W : Scanned S m ms sums l p c n) where
+module _ {S : Settings} {m ms sums : List ℕ} {l n : ℕ} (W : AtList S m ms sums l n) where
   module _ (some : l < lists S) where
-    pub lists-place : (p < S .ports) × (c < row S)
-    lists-place = (rw (W .place .port-is) (div-lt-iff-lt-mul (row-some S) .1 some), stands-low (row S) l p c (row-some S) (W .place))
-
     -- where a list is not kept, nor is the whole
     pub lists-no : (ListKept S m ms l → ⊥) → Kept S m → ⊥
     lists-no n k = n (record { once = once (right S m ms l) refl; fits = λ rule. fits rule (listFound rule S m l) refl })
@@ -83,31 +76,35 @@ module _ {S : Settings} {m ms sums : List ℕ} {l p c n : ℕ} (W : Scanned S m 
         fits rule (At x) e = absurd (found x (sym (fits-stop rule S m l some x e) ∙ W .fits rule ∙ k .fits rule))
 
     -- nor where it has too many nodes
-    pub lists-many : fewAt S c (get S m Count l) ≡ false → Kept S m → ⊥
-    lists-many e k = true≢false (sym (k .slots l some) ∙ rw (W .place .column-is) at e)
+    pub lists-many : fewAt S (l % row S) (get S m Count l) ≡ false → Kept S m → ⊥
+    lists-many e k = true≢false (sym (k .slots l some) ∙ e)
 
-    few-next : fewAt S c (get S m Count l) ≡ true → (i : ℕ) → i < l + 1 → fewAt S (i % row S) (get S m Count i) ≡ true
+    few-next : fewAt S (l % row S) (get S m Count l) ≡ true → (i : ℕ) → i < l + 1 → fewAt S (i % row S) (get S m Count i) ≡ true
     few-next e i h = go (ℕ-discrete l i)
       where
         go : Dec (l ≡ i) → fewAt S (i % row S) (get S m Count i) ≡ true
-        go (yes q) = rw (← q) (rw (W .place .column-is) at e)
+        go (yes q) = rw (← q) e
         go (no d) = W .slots i (omega arith)
 
-    pub lists-next : fewAt S c (get S m Count l) ≡ true → ListKept S m ms l → (ms′ sums′ : List ℕ) → length ms′ ≡ length ms
+    next : fewAt S (l % row S) (get S m Count l) ≡ true → ListKept S m ms l → (ms′ sums′ : List ℕ) → length ms′ ≡ length ms
         → ms′ ≡ markAll S ms (nodesOf S m l) → sums′ ≡ addList S m sums l → Sums S sums′ (most * (l + 1))
-        → Scanned S m ms′ sums′ (l + 1) (portAfter (row S) p c) (columnAfter (row S) c) (n + get S m Count l)
+        → AtList S m ms′ sums′ (l + 1) (n + get S m Count l)
     unfolding addFrom
-    lists-next f k ms′ sums′ long e a h =
+    next f k ms′ sums′ long e a h =
         let one : lists S - l ≡ suc (lists S - suc l) = omega arith in
         record {
           scan = scan-yes (W .scan) some (k .once) ms′ long e;
-          place = stands-next (row S) l p c (row-some S) (W .place);
           met = ap setMarks e ∙ list-more S m ms l (W .scan .fits) (k .once) ∙ ap (λ (j : ℕ). j + get S m Count l) (W .met);
           slots = few-next f;
           fits = λ rule. sym (fits-next rule S m l some (k .fits rule)) ∙ W .fits rule;
           add = rw (a, add-one l) (rw one at (W .add));
           held = h;
         }
+
+    -- where it is kept, the walk stands at the next
+    pub lists-next : {ms′ sums′ : List ℕ} {r : Bool} {l′ k : ℕ} → fewAt S (l % row S) (get S m Count l) ≡ true → length ms′ ≡ length ms
+        → ListPassed S m l ms sums ms′ sums′ r → r ≡ true → l′ ≡ l + 1 → k ≡ get S m Count l → AtList S m ms′ sums′ l′ (n + k)
+    lists-next f long t y at count = rw (at, count) (next f (t .answer .yes y) _ _ long (t .marks y) (t .added y) (t .held y))
 
   -- where all are kept, the marks and the sums tell the rest
   module _ (past : lists S ≤ l) where

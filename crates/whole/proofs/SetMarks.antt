@@ -17,10 +17,7 @@ use Rattle.layout.specs.Picture.{slot, nodesOf}
 use Rattle.memory.proofs.Chains.{slot-lt, nodes-length}
 use Rattle.once.specs.Once.{isNew, mark, allNew, markAll, ends, right, unmarked}
 use Rattle.once.proofs.Marks.{length-mark, New, new}
-
-unfoldable pub setMarks : List ℕ → ℕ
-setMarks [] = 0
-setMarks (k ∷ ks) = bit (ltb 0 k) + setMarks ks
+use Rattle.whole.specs.Whole.{setMarks}
 
 pub set-none : (n : ℕ) → setMarks (replicate n 0) ≡ 0
 unfolding setMarks

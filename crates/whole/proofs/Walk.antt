@@ -106,11 +106,10 @@ module _ {S : Settings} {m ms₀ sums₀ : List ℕ} {l : ℕ} {ms sums : List �
         go true n = true≢false (sym kept ∙ rw n at e)
         go false n = true≢false (sym (k .once) ∙ walk-stuck (W .walk) some n)
 
-    -- where it does, the walk goes on
-    pub pass-step : (isNew S ms x && fitsHere S m (l / row S) (l % row S) x) ≡ true
+    step : (isNew S ms x && fitsHere S m (l / row S) (l % row S) x) ≡ true
         → Passing S m ms₀ sums₀ l (mark S ms x) (addHere S m (l % row S) sums x) (left - 1) (get S m Next (slot S x)) x
     unfolding addEach
-    pass-step e =
+    step e =
         let fits = fits-each S m (l / row S) (l % row S) x (and-right (isNew S ms x) _ e) in
         record {
           walk = walk-step (W .walk) some (and-left (isNew S ms x) _ e);
@@ -121,6 +120,12 @@ module _ {S : Settings} {m ms₀ sums₀ : List ℕ} {l : ℕ} {ms sums : List �
               sums-more S _ (most * l + 255 * (get S m Count l - left) + 255) _ (omega (arith, W .low))
               (here-sums S m (l % row S) sums x _ (W .held));
         }
+
+    -- where it does, the walk goes on, with what was read and written on the way
+    pub pass-step : (isNew S ms x && fitsHere S m (l / row S) (l % row S) x) ≡ true → {ms′ sums′ : List ℕ} {next c : ℕ} → c ≡ l % row S
+        → ms′ ≡ mark S ms x → sums′ ≡ addHere S m c sums x → next ≡ get S m Next (slot S x)
+        → Passing S m ms₀ sums₀ l ms′ sums′ (left - 1) next x
+    pass-step e column marks added read = rw (marks, added, column, read) (step e)
 
   pub pass-end : left ≤ 0
       → (right S m ms₀ l ≡ eqb last (get S m Tail l)) × (ms ≡ markAll S ms₀ (nodesOf S m l)) × (sums ≡ addList S m sums₀ l)

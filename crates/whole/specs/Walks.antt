@@ -1,17 +1,22 @@
 -- What the functions of the walk ask and give. Assumes nothing.
 use mathlib.Core.Path.{_≡_}
-use mathlib.Core.Bool.{Bool, true, _&&_}
+use mathlib.Core.Bool.{Bool, true, false, _&&_}
 use mathlib.Core.List.{List}
-use Prim.Native.Nat.{ℕ, _+_, _*_, _/_, _%_, _≤_, _<_}
+use Prim.Native.Nat.{ℕ, _+_, _-_, _*_, _/_, _%_, _^_, _≤_, _<_}
 use lib.ListN.{length, replicate}
 use Rattle.ledger.specs.Settings.{Settings, row, size}
+use Rattle.ledger.specs.Ledger.{isNode}
 use Rattle.layout.specs.declared.Shape.{Shape}
-use Rattle.layout.specs.Tables.{cells, lists, all, settingsOf, Laid}
+use Rattle.layout.specs.declared.Table.the-variants.{Count}
+use Rattle.layout.specs.Tables.{cells, lists, all, get, settingsOf, Laid}
 use Rattle.layout.specs.Picture.{nodesOf}
 use Rattle.once.specs.Once.{isNew, mark, markAll}
-use Rattle.paid.specs.Paid.{addList}
+use Rattle.once.specs.Walks.{Scanning}
+use Rattle.fits.specs.declared.NodeRule.{NodeRule}
+use Rattle.fits.specs.Fits.{fitsFrom, fitsFound}
+use Rattle.paid.specs.Paid.{addList, addFrom, sumsOf}
 use Rattle.paid.specs.Passes.{Sums}
-use Rattle.whole.specs.Whole.{fitsHere, addHere, Says, ListKept}
+use Rattle.whole.specs.Whole.{fitsHere, addHere, fewAt, setMarks, Says, ListKept, Kept}
 
 -- what the nodes of a list may add, before it is known that none stands twice: 2^32 prices of a byte
 abbrev pub most : ℕ
@@ -25,12 +30,34 @@ pub record Lent (s : Shape) (m ms sums : List ℕ) (b : ℕ) : Type 0 where
   pub marks : length ms ≡ all (settingsOf s)
   pub held : Sums (settingsOf s) sums b
 
--- to a list l, which is port p's column c
-pub record ListLent (s : Shape) (m ms sums : List ℕ) (l p c : ℕ) : Type 0 where
+-- to a node
+pub record NodeLent (s : Shape) (m ms sums : List ℕ) (x : ℕ) : Type 0 where
+  pub lent : Lent s m ms sums (2 ^ 63)
+  pub node : isNode (settingsOf s) x ≡ true
+
+-- to list l of n nodes, which is port p's column c
+pub record ListLent (s : Shape) (m ms sums : List ℕ) (l n p c : ℕ) : Type 0 where
   pub lent : Lent s m ms sums (most * l)
   pub inside : l < lists (settingsOf s)
+  pub count-is : n ≡ get (settingsOf s) m Count l
   pub port-is : p ≡ l / row (settingsOf s)
   pub column-is : c ≡ l % row (settingsOf s)
+
+-- the walk stands at list l and has met n nodes: what is found in all lists is what is found from there on
+pub record AtList (S : Settings) (m ms sums : List ℕ) (l n : ℕ) : Type 0 where
+  pub scan : Scanning S m ms l
+  pub met : setMarks ms ≡ n
+  pub slots : (i : ℕ) → i < l → fewAt S (i % row S) (get S m Count i) ≡ true
+  pub fits : (rule : NodeRule) → fitsFrom rule S m l (lists S - l) ≡ fitsFound rule S m
+  pub add : addFrom S m sums l (lists S - l) ≡ sumsOf S m
+  pub held : Sums S sums (most * l)
+
+-- to port p, at its first list
+pub record PortLent (s : Shape) (m ms sums : List ℕ) (p n : ℕ) : Type 0 where
+  pub laid : Laid s
+  pub long : size (settingsOf s) ≤ length m
+  pub inside : p < s .ports
+  pub stands : AtList (settingsOf s) m ms sums (p * row (settingsOf s)) n
 
 -- and at first: no mark is set, and all sums are 0
 pub record AllLent (s : Shape) (m ms sums : List ℕ) : Type 0 where
@@ -51,3 +78,8 @@ pub record ListPassed (S : Settings) (m : List ℕ) (l : ℕ) (ms sums ms′ sum
   pub marks : r ≡ true → ms′ ≡ markAll S ms (nodesOf S m l)
   pub added : r ≡ true → sums′ ≡ addList S m sums l
   pub held : r ≡ true → Sums S sums′ (most * (l + 1))
+
+-- after port p the walk stands at the first list of the next, or some rule is broken
+pub record PortPassed (S : Settings) (m : List ℕ) (p : ℕ) (ms sums : List ℕ) (n : ℕ) (r : Bool) : Type 0 where
+  pub yes : r ≡ true → AtList S m ms sums ((p + 1) * row S) n
+  pub no : r ≡ false → Kept S m → ⊥

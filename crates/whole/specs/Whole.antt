@@ -1,18 +1,20 @@
 -- Rules (c) to (g) in one walk of the lists: what is asked of a node, what is added for it, and what the answer says. Assumes nothing.
 use mathlib.Core.Path.{_≡_}
 use mathlib.Core.Bool.{Bool, true, false, cond, _&&_, _||_}
-use mathlib.Core.List.{List}
+use mathlib.Core.List.{List, [], _∷_}
 use Prim.Native.Nat.{ℕ, _+_, _%_, _<_}
 use lib.Dec.{eqb, ltb, leb}
 use Rattle.ledger.specs.declared.Finding.the-variants.{Whole}
 use Rattle.ledger.specs.Settings.{Settings, row}
+use Rattle.ledger.specs.Ledger.{owner}
+use Rattle.ledger.specs.Ready.{bit}
 use Rattle.layout.specs.declared.Table.the-variants.{Count}
 use Rattle.layout.specs.Tables.{lists, get}
 use Rattle.layout.specs.Picture.{packetAt}
 use Rattle.once.specs.Once.{right, onceFound}
 use Rattle.fits.specs.declared.NodeRule.{NodeRule}
 use Rattle.fits.specs.declared.NodeRule.the-variants.{OwnPort, OwnQueue, Record}
-use Rattle.fits.specs.Fits.{spared, ruleTest, listFound, fitsFound}
+use Rattle.fits.specs.Fits.{spared, queueAt, ruleTest, listFound, fitsFound}
 use Rattle.paid.specs.Paid.{addNode, paidFound}
 
 -- ---- a node x in port p's column c
@@ -25,6 +27,10 @@ asks rule S m p c x = spared rule c || ruleTest rule S p c (packetAt S m x)
 unfoldable pub fitsHere : Settings → List ℕ → ℕ → ℕ → ℕ → Bool
 fitsHere S m p c x = asks OwnPort S m p c x && (asks OwnQueue S m p c x && asks Record S m p c x)
 
+-- (d) or (e) of a node of queue q that is not free
+unfoldable pub ownPlace : Settings → ℕ → ℕ → ℕ → ℕ → Bool
+ownPlace S p c x q = cond (ltb c 2) (eqb (owner x) p) (eqb q (queueAt S c))
+
 -- the sums with its price, unless it is free
 unfoldable pub addHere : Settings → List ℕ → ℕ → List ℕ → ℕ → List ℕ
 addHere S m c sums x = cond (eqb c 0) sums (addNode S m sums x)
@@ -35,19 +41,17 @@ addHere S m c sums x = cond (eqb c 0) sums (addNode S m sums x)
 unfoldable pub fewAt : Settings → ℕ → ℕ → Bool
 fewAt S c n = ltb c (2 + S .queues) || leb n (S .slots)
 
--- the place of the list after it, in rows of r columns
-abbrev pub columnAfter : ℕ → ℕ → ℕ
-columnAfter r c = cond (eqb (c + 1) r) 0 (c + 1)
-
-abbrev pub portAfter : ℕ → ℕ → ℕ → ℕ
-portAfter r p c = cond (eqb (c + 1) r) (p + 1) p
-
 -- ---- what is decided
 
 -- whether P, as a Boolean answer tells it
 pub record Says (P : Type 0) (r : Bool) : Type 0 where
   pub yes : r ≡ true → P
   pub no : r ≡ false → P → ⊥
+
+-- how many marks are set
+unfoldable pub setMarks : List ℕ → ℕ
+setMarks [] = 0
+setMarks (k ∷ ks) = bit (ltb 0 k) + setMarks ks
 
 -- list l keeps the rules, where it is met with these marks
 pub record ListKept (S : Settings) (m ms : List ℕ) (l : ℕ) : Type 0 where

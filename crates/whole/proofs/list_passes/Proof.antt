@@ -8,11 +8,13 @@ use borrow.Author.Needs.{needs}
 use borrow.Author.Tests.{not-true, not-false}
 use lib.Dec.{eqb}
 use Rattle.ledger.specs.Settings.{row}
-use Rattle.ledger.proofs.Tests.{true≢false, and-left}
-use Rattle.layout.specs.Tables.{settingsOf}
+use Rattle.ledger.specs.Ledger.{isNode}
+use Rattle.ledger.proofs.Tests.{true≢false}
+use Rattle.layout.specs.declared.Table.the-variants.{Next}
+use Rattle.layout.specs.Tables.{get, settingsOf}
+use Rattle.layout.specs.Picture.{slot}
 use Rattle.memory.proofs.Chains.{slot-lt}
 use Rattle.once.specs.Once.{isNew}
-use Rattle.once.proofs.Marks.{new}
 use Rattle.once.proofs.Walk.{walk-start}
 use Rattle.whole.specs.Whole.{fitsHere}
 use Rattle.whole.proofs.Walk.{Passing, pass-start, pass-held, pass-lent, pass-not, pass-step, pass-end}
@@ -20,57 +22,52 @@ use Rattle.whole.proofs.list_passes.Statement.{statement}
 use Rattle.whole.proofs.list_passes.Tie as tie
 
 abbrev Inv-loop : tie.InvT-loop
-Inv-loop m s l port column marks₀ sums₀ tail left₀ x₀ last₀ marks sums left x last =
+Inv-loop m s l count port column marks₀ sums₀ tail left₀ x₀ last₀ marks sums left x last =
     Passing (settingsOf s) m marks₀ sums₀ l marks sums left x last
 
 abbrev μ-loop : tie.MeasureT-loop
-μ-loop m s l port column marks₀ sums₀ tail left₀ x₀ last₀ marks sums left x last = left
+μ-loop m s l count port column marks₀ sums₀ tail left₀ x₀ last₀ marks sums left x last = left
+
+-- ---- the moments, each reached from the next
+
+abbrev begun : tie.At-loop Inv-loop μ-loop → tie.Start Inv-loop μ-loop
+begun c = c .before .before .before .before .before .before
+
+abbrev at-loop : tie.After-is-node Inv-loop μ-loop → tie.At-loop Inv-loop μ-loop
+at-loop c = c .before .before
+
+abbrev known : tie.After-node-passes Inv-loop μ-loop → tie.Else1 Inv-loop μ-loop
+known c = c .before .before .before .before .before
+
+abbrev tested : tie.After-slice-known4 Inv-loop μ-loop → tie.After-node-passes Inv-loop μ-loop
+tested c = c .before .before .before .before
+
+abbrev met-at : tie.After-node-passes Inv-loop μ-loop → tie.At-loop Inv-loop μ-loop
+met-at c = at-loop (known c .before)
+
+-- what was answered of the node, by the place of its list
+told : (c : tie.After-node-passes Inv-loop μ-loop)
+    → let a = begun (met-at c) .args in
+    let S = settingsOf (a .s) in
+    (isNew S (met-at c .loop .marks) (met-at c .loop .x) && fitsHere S (a .m .now) (a .l / row S) (a .l % row S) (met-at c .loop .x))
+    ≡ c .node-passes .result
+told c =
+    let p = begun (met-at c) .pre in
+    rw (← p .port-is, ← p .column-is) (sym (c .node-passes .ensures .answer))
 
 get2-requires : tie.Need-get2-requires Inv-loop μ-loop
 get2-requires c κs = search needs
-
-get4-requires : tie.Need-get4-requires Inv-loop μ-loop
-get4-requires c κs = search needs
 
 get2-requires-2 : tie.Need-get2-requires-2 Inv-loop μ-loop
 get2-requires-2 c κs = search needs
 
 loop-holds : tie.Need-loop-holds Inv-loop μ-loop
 loop-holds c =
-    let p = c .before .before .before .before .before .before .pre .lent in
-    rw (c .before .before .get2 .ensures, c .before .get4 .ensures, c .get22 .ensures)
-    (pass-start (walk-start _ _ _ _ (p .marks)) (p .held))
+    let p = c .before .before .before .before .before .pre in
+    rw (c .before .get2 .ensures, p .count-is, c .get22 .ensures) (pass-start (walk-start _ _ _ _ (p .lent .marks)) (p .lent .held))
 
-node-passes-requires : tie.Need-node-passes-requires Inv-loop μ-loop
-node-passes-requires c κs =
-    let p = c .before .before .before .before .before .before .before .before .before .before .pre in
-    let inv = c .before .before .before .loop .inv in
-    record { laid = p .lent .laid; long = p .lent .long; marks = inv .walk .fits; held = pass-lent inv (p .lent .laid .roomy) (p .inside) }
-
--- the node that was met, and where it passed
-abbrev at-loop : tie.After-node-passes Inv-loop μ-loop → tie.At-loop Inv-loop μ-loop
-at-loop c = c .before .before .before .before
-
-abbrev start : tie.After-node-passes Inv-loop μ-loop → tie.Start Inv-loop μ-loop
-start c = at-loop c .before .before .before .before .before .before .before
-
-went : (c : tie.Else1 Inv-loop μ-loop) → let w = c .before .before .before .before .before in
-    let a = start w .args in
-    let S = settingsOf (a .s) in
-    (isNew S (at-loop w .loop .marks) (at-loop w .loop .x)
-    && fitsHere S (a .m .now) (a .l / row S) (a .l % row S) (at-loop w .loop .x)) ≡ true
-went c =
-    let w = c .before .before .before .before .before in
-    rw (← start w .pre .port-is, ← start w .pre .column-is) (sym (w .node-passes .ensures .answer) ∙ not-false _ (c .if1 .left))
-
-stuck : (c : tie.Then1 Inv-loop μ-loop) → let w = c .before .before .before .before .before in
-    let a = start w .args in
-    let S = settingsOf (a .s) in
-    (isNew S (at-loop w .loop .marks) (at-loop w .loop .x)
-    && fitsHere S (a .m .now) (a .l / row S) (a .l % row S) (at-loop w .loop .x)) ≡ false
-stuck c =
-    let w = c .before .before .before .before .before in
-    rw (← start w .pre .port-is, ← start w .pre .column-is) (sym (w .node-passes .ensures .answer) ∙ not-true _ (c .if1 .taken))
+is-node-requires : tie.Need-is-node-requires Inv-loop μ-loop
+is-node-requires c κs = search needs
 
 same-length : tie.Need-same-length Inv-loop μ-loop
 same-length c = search needs
@@ -78,13 +75,16 @@ same-length c = search needs
 same-length-2 : tie.Need-same-length-2 Inv-loop μ-loop
 same-length-2 c = search needs
 
+-- an id that is no node is not new
 returns : tie.Need-returns Inv-loop μ-loop
+unfolding isNew
 returns c =
-    let w = c .before .before .before .before .before in
+    let w = c .before in
+    let none = sym (w .is-node .ensures) ∙ not-true _ (c .if1 .taken) in
     record {
       answer = record {
         yes = λ e. absurd (false≢true e);
-        no = λ e k. pass-not (at-loop w .loop .inv) (omega arith) (stuck c) k;
+        no = λ e. pass-not (at-loop w .loop .inv) (omega arith) (rw none);
       };
       marks = λ e. absurd (false≢true e);
       added = λ e. absurd (false≢true e);
@@ -94,28 +94,40 @@ returns c =
 slot-of-requires : tie.Need-slot-of-requires Inv-loop μ-loop
 slot-of-requires c κs = search needs
 
+node : (c : tie.Else1 Inv-loop μ-loop)
+    → let at = at-loop (c .before) in isNode (settingsOf (begun at .args .s)) (at .loop .x) ≡ true
+node c = sym (c .before .is-node .ensures) ∙ not-false _ (c .if1 .left)
+
 get2-requires-3 : tie.Need-get2-requires-3 Inv-loop μ-loop
 get2-requires-3 c κs = record {
   laid = search needs;
   long = search needs;
   wide = refl;
-  inside = rw (c .slot-of .ensures) (slot-lt _ _ (new _ _ _ (and-left (isNew _ _ _) _ (went (c .before))) .node));
+  inside = rw (c .slot-of .ensures) (slot-lt _ _ (node (c .before)));
 }
 
-sub-left : tie.Need-sub-left Inv-loop μ-loop
-sub-left c = omega arith
+next-is : (c : tie.After-get23 Inv-loop μ-loop)
+    → let at = at-loop (c .before .before .before) in
+    let a = begun at .args in
+    c .get23 .result ≡ get (settingsOf (a .s)) (a .m .now) Next (slot (settingsOf (a .s)) (at .loop .x))
+next-is c =
+    let a = begun (at-loop (c .before .before .before)) .args in
+    c .get23 .ensures ∙ ap (get (settingsOf (a .s)) (a .m .now) Next) (c .before .slot-of .ensures)
 
-loop-less : tie.Need-loop-less Inv-loop μ-loop
-loop-less c = omega arith
-
-loop-again : tie.Need-loop-again Inv-loop μ-loop
-loop-again c =
-    let arm = c .before .before in
-    let w = arm .before .before .before .before .before in
-    let yes = not-false _ (arm .if1 .left) in
-    let t = w .node-passes .ensures in
-    rw (c .get23 .ensures, c .before .slot-of .ensures, t .marks yes, t .added yes, start w .pre .column-is)
-    (pass-step (at-loop w .loop .inv) (omega arith) (went arm))
+node-passes-requires : tie.Need-node-passes-requires Inv-loop μ-loop
+node-passes-requires c κs =
+    let new = c .before .before .before .before in
+    let at = at-loop (new .before) in
+    let p = begun at .pre in
+    record {
+      lent = record {
+        laid = p .lent .laid;
+        long = p .lent .long;
+        marks = at .loop .inv .walk .fits;
+        held = pass-lent (at .loop .inv) (p .lent .laid .roomy) (p .inside);
+      };
+      node = node new;
+    }
 
 same-length-3 : tie.Need-same-length-3 Inv-loop μ-loop
 same-length-3 c = search needs
@@ -125,8 +137,41 @@ same-length-4 c = search needs
 
 returns-2 : tie.Need-returns-2 Inv-loop μ-loop
 returns-2 c =
+    let w = tested (c .before) in
+    record {
+      answer = record {
+        yes = λ e. absurd (false≢true e);
+        no = λ e. pass-not (met-at w .loop .inv) (omega arith) (told w ∙ not-true _ (c .if2 .taken));
+      };
+      marks = λ e. absurd (false≢true e);
+      added = λ e. absurd (false≢true e);
+      held = λ e. absurd (false≢true e);
+    }
+
+sub-left : tie.Need-sub-left Inv-loop μ-loop
+sub-left c = omega arith
+
+loop-less : tie.Need-loop-less Inv-loop μ-loop
+loop-less c = omega arith
+
+loop-again : tie.Need-loop-again Inv-loop μ-loop
+loop-again c =
+    let w = tested (c .before) in
+    let yes = not-false _ (c .if2 .left) in
+    let t = w .node-passes .ensures in
+    pass-step (met-at w .loop .inv) (omega arith) (told w ∙ yes) (begun (met-at w) .pre .column-is) (t .marks yes) (t .added yes)
+    (next-is (w .before .before .before))
+
+same-length-5 : tie.Need-same-length-5 Inv-loop μ-loop
+same-length-5 c = search needs
+
+same-length-6 : tie.Need-same-length-6 Inv-loop μ-loop
+same-length-6 c = search needs
+
+returns-3 : tie.Need-returns-3 Inv-loop μ-loop
+returns-3 c =
     let w = pass-end (c .before .loop .inv) (omega arith) in
-    let e = w .0 ∙ ap (eqb _) (sym (c .before .before .before .before .get2 .ensures)) in
+    let e = w .0 ∙ ap (eqb _) (sym (c .before .before .before .get2 .ensures)) in
     record {
       answer = record { yes = λ r. record { once = e ∙ r; fits = w .3 }; no = λ r k. true≢false (sym (k .once) ∙ e ∙ r) };
       marks = λ r. w .1;
@@ -141,18 +186,21 @@ list-passes-spec =
     Inv-loop
     μ-loop
     get2-requires
-    get4-requires
     get2-requires-2
     loop-holds
-    node-passes-requires
+    is-node-requires
     same-length
     same-length-2
     returns
     slot-of-requires
     get2-requires-3
+    node-passes-requires
+    same-length-3
+    same-length-4
+    returns-2
     sub-left
     loop-less
     loop-again
-    same-length-3
-    same-length-4
-    returns-2)
+    same-length-5
+    same-length-6
+    returns-3)

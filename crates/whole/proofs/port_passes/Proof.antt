@@ -1,0 +1,243 @@
+-- `whole::port_passes` meets its contract. The loop's invariant: the walk stands at the list of the port's column. Assumes nothing.
+use mathlib.Core.Path.{_≡_, refl, sym, ap₂, _∙_}
+use mathlib.Core.Bool.{false≢true}
+use Prim.Native.Nat.{_+_, _-_, _*_, _/_, _%_, _≤_, _<_}
+use native.Mathlib.Nat.{mul-le-mul}
+use native.Mathlib.Omega.{arith}
+use borrow.Author.Needs.{needs}
+use borrow.Author.Tests.{not-true, not-false}
+use lib.ListN.{length}
+use Rattle.ledger.specs.Settings.{row}
+use Rattle.ledger.proofs.Tests.{true≢false}
+use Rattle.layout.specs.declared.Table.the-variants.{Count}
+use Rattle.layout.specs.Tables.{cells, lists, all, get, settingsOf}
+use Rattle.layout.proofs.Shapes.{few}
+use Rattle.whole.specs.Whole.{fewAt}
+use Rattle.whole.specs.Walks.{AtList}
+use Rattle.whole.proofs.SetMarks.{set-le}
+use Rattle.whole.proofs.Lists.{list-in, port-is, column-is, lists-many, lists-no, lists-next}
+use Rattle.whole.proofs.port_passes.Statement.{statement}
+use Rattle.whole.proofs.port_passes.Tie as tie
+
+abbrev Inv-loop : tie.InvT-loop
+Inv-loop m s port marks₀ sums₀ met₀ row first column₀ marks sums met column =
+    (column ≤ row) × AtList (settingsOf s) m marks sums (first + column) met
+
+abbrev μ-loop : tie.MeasureT-loop
+μ-loop m s port marks₀ sums₀ met₀ row first column₀ marks sums met column = row - column
+
+-- ---- the moments, each reached from the next
+
+abbrev begun : tie.At-loop Inv-loop μ-loop → tie.Start Inv-loop μ-loop
+begun c = c .before .before .before .before .before
+
+abbrev at-loop : tie.After-get4 Inv-loop μ-loop → tie.At-loop Inv-loop μ-loop
+at-loop c = c .before .before
+
+abbrev counted : tie.After-list-passes Inv-loop μ-loop → tie.Else1 Inv-loop μ-loop
+counted c = c .before .before .before
+
+abbrev walked : tie.After-slice-known4 Inv-loop μ-loop → tie.After-list-passes Inv-loop μ-loop
+walked c = c .before .before .before .before
+
+-- ---- what is known at each
+
+-- how many marks and sums are lent, and are there
+lent : (b : tie.Start Inv-loop μ-loop)
+    → let S = settingsOf (b .args .s) in (length (b .args .marks .now) ≡ all S) × (length (b .args .sums .now) ≡ cells S)
+lent b = (b .pre .stands .scan .fits, b .pre .stands .held .many)
+
+stood : (c : tie.At-loop Inv-loop μ-loop)
+    → let S = settingsOf (begun c .args .s) in (length (c .loop .marks) ≡ all S) × (length (c .loop .sums) ≡ cells S)
+stood c = (c .loop .inv .1 .scan .fits, c .loop .inv .1 .held .many)
+
+-- the list that is met, by its port and its column
+inside : (c : tie.In-loop Inv-loop μ-loop)
+    → let b = begun (c .before) in
+    let S = settingsOf (b .args .s) in
+    let l = b .args .port * row S + c .before .loop .column in
+    (l < lists S) × (b .args .port ≡ l / row S) × (c .before .loop .column ≡ l % row S)
+unfolding row
+inside c =
+    let b = begun (c .before) in
+    let S = settingsOf (b .args .s) in
+    let low = c .loop-test .taken in
+    (list-in S _ _ low (b .pre .inside), port-is S (b .args .port) _ low, column-is S (b .args .port) _ low)
+
+-- what was answered of its count
+answered : (c : tie.After-few-enough Inv-loop μ-loop)
+    → let at = at-loop (c .before) in
+    let a = begun at .args in
+    let S = settingsOf (a .s) in
+    let l = a .port * row S + at .loop .column in
+    c .few-enough .result ≡ fewAt S (l % row S) (get S (a .m .now) Count l)
+unfolding row
+answered c =
+    let S = settingsOf (begun (at-loop (c .before)) .args .s) in
+    c .few-enough .ensures ∙ ap₂ (fewAt S) (inside (c .before .before) .2) (c .before .get4 .ensures)
+
+mul-row : tie.Need-mul-row Inv-loop μ-loop
+mul-row c = omega (arith, c .before .before .before .before .pre .laid .roomy)
+
+add-row : tie.Need-add-row Inv-loop μ-loop
+add-row c = omega (arith, c .before .before .before .before .pre .laid .roomy)
+
+mul-first : tie.Need-mul-first Inv-loop μ-loop
+unfolding row
+mul-first c =
+    let b = c .before .before .before .before in
+    omega (arith, b .pre .stands .scan .most, few _ (b .pre .laid .roomy))
+
+loop-holds : tie.Need-loop-holds Inv-loop μ-loop
+unfolding row
+loop-holds c =
+    let b = c .before .before .before .before in
+    let at : b .args .port * (2 + 2 * b .args .s .queues) ≡ b .args .port * (2 + 2 * b .args .s .queues) + 0 = omega arith in
+    (omega arith, rw (← at) (b .pre .stands))
+
+add-l : tie.Need-add-l Inv-loop μ-loop
+unfolding row
+add-l c = omega (arith, inside c .0, few _ (begun (c .before) .pre .laid .roomy))
+
+get4-requires : tie.Need-get4-requires Inv-loop μ-loop
+unfolding row
+get4-requires c κs =
+    let p = begun (c .before) .pre in
+    record { laid = p .laid; long = p .long; wide = refl; inside = inside c .0 }
+
+few-enough-requires : tie.Need-few-enough-requires Inv-loop μ-loop
+few-enough-requires c κs = begun (at-loop c) .pre .laid
+
+same-length : tie.Need-same-length Inv-loop μ-loop
+same-length c = let at = at-loop (c .before .before) in omega (arith, lent (begun at), stood at)
+
+same-length-2 : tie.Need-same-length-2 Inv-loop μ-loop
+same-length-2 c = let at = at-loop (c .before .before) in omega (arith, lent (begun at), stood at)
+
+returns : tie.Need-returns Inv-loop μ-loop
+unfolding row
+returns c =
+    let w = c .before in
+    record {
+      yes = λ e. absurd (false≢true e);
+      no = λ e. lists-many (at-loop (w .before) .loop .inv .1) (inside (w .before .before) .0) (sym (answered w) ∙ not-true _ (c .if1 .taken));
+    }
+
+list-passes-requires : tie.Need-list-passes-requires Inv-loop μ-loop
+unfolding row
+list-passes-requires c κs =
+    let few = c .before .before in
+    let read = few .before .before in
+    let at = at-loop read in
+    let p = begun at .pre in
+    let place = inside (read .before) in
+    record {
+      lent = record { laid = p .laid; long = p .long; marks = at .loop .inv .1 .scan .fits; held = at .loop .inv .1 .held };
+      inside = place .0;
+      count-is = read .get4 .ensures;
+      port-is = place .1;
+      column-is = place .2;
+    }
+
+same-length-3 : tie.Need-same-length-3 Inv-loop μ-loop
+same-length-3 c =
+    let w = walked (c .before) in
+    let at = at-loop (counted w .before .before) in
+    omega (arith, lent (begun at), stood at, w .list-passes .kept .1 .1 .1 .1 .1 .1 .0)
+
+same-length-4 : tie.Need-same-length-4 Inv-loop μ-loop
+same-length-4 c =
+    let w = walked (c .before) in
+    let at = at-loop (counted w .before .before) in
+    omega (arith, lent (begun at), stood at, w .list-passes .kept .1 .1 .1 .1 .1 .1 .1 .0)
+
+returns-2 : tie.Need-returns-2 Inv-loop μ-loop
+unfolding row
+returns-2 c =
+    let w = walked (c .before) in
+    let read = counted w .before .before in
+    record {
+      yes = λ e. absurd (false≢true e);
+      no = λ e. lists-no (at-loop read .loop .inv .1) (inside (read .before) .0) (w .list-passes .ensures .answer .no (not-true _ (c .if2 .taken)));
+    }
+
+-- the walk stands at the next list
+went : (c : tie.Else2 Inv-loop μ-loop)
+    → let w = walked (c .before) in
+    let read = counted w .before .before in
+    let at = at-loop read in
+    let a = begun at .args in
+    AtList (settingsOf (a .s)) (a .m .now) (w .list-passes .last .1 .1 .1 .1 .1 .1 .0) (w .list-passes .last .1 .1 .1 .1 .1 .1 .1 .0)
+    (a .port * row (settingsOf (a .s)) + (at .loop .column + 1)) (at .loop .met + read .get4 .result)
+unfolding row
+went c =
+    let w = walked (c .before) in
+    let short = counted w in
+    let read = short .before .before in
+    lists-next (at-loop read .loop .inv .1) (inside (read .before) .0) (sym (answered (short .before)) ∙ not-false _ (short .if1 .left))
+    (w .list-passes .kept .1 .1 .1 .1 .1 .1 .0) (w .list-passes .ensures) (not-false _ (c .if2 .left)) (omega arith) (read .get4 .ensures)
+
+-- no more nodes were met than there are
+add-met : tie.Need-add-met Inv-loop μ-loop
+add-met c =
+    let w = walked (c .before .before) in
+    let next = went (c .before) in
+    omega (
+      arith,
+      set-le (w .list-passes .last .1 .1 .1 .1 .1 .1 .0),
+      next .met,
+      next .scan .fits,
+      few _ (begun (at-loop (counted w .before .before)) .pre .laid .roomy),
+    )
+
+add-column : tie.Need-add-column Inv-loop μ-loop
+add-column c = omega (arith, begun (at-loop (counted (walked (c .before .before)) .before .before)) .pre .laid .roomy)
+
+loop-less : tie.Need-loop-less Inv-loop μ-loop
+loop-less c = omega arith
+
+loop-again : tie.Need-loop-again Inv-loop μ-loop
+unfolding row
+loop-again c = (omega arith, went (c .before))
+
+same-length-5 : tie.Need-same-length-5 Inv-loop μ-loop
+same-length-5 c = omega (arith, lent (begun (c .before)), stood (c .before))
+
+same-length-6 : tie.Need-same-length-6 Inv-loop μ-loop
+same-length-6 c = omega (arith, lent (begun (c .before)), stood (c .before))
+
+returns-3 : tie.Need-returns-3 Inv-loop μ-loop
+unfolding row
+returns-3 c =
+    let at = c .before in
+    let a = begun at .args in
+    let end : (a .port + 1) * (2 + 2 * a .s .queues) ≡ a .port * (2 + 2 * a .s .queues) + at .loop .column = omega (arith, at .loop .inv .0) in
+    record { yes = λ e. rw end (at .loop .inv .1); no = λ e. absurd (true≢false e) }
+
+pub port-passes-spec : {M : Type 1} → statement M
+port-passes-spec =
+    tie.close
+    (tie.spec
+    Inv-loop
+    μ-loop
+    mul-row
+    add-row
+    mul-first
+    loop-holds
+    add-l
+    get4-requires
+    few-enough-requires
+    same-length
+    same-length-2
+    returns
+    list-passes-requires
+    same-length-3
+    same-length-4
+    returns-2
+    add-met
+    add-column
+    loop-less
+    loop-again
+    same-length-5
+    same-length-6
+    returns-3)
