@@ -114,7 +114,7 @@ node-means rule S m l x = in-column S m (l / row S) x rule (l % row S)
 
 -- ---- findings: a test that finds nothing, and then another
 
-none : (x : ℕ) → At x ≡ Whole → ⊥
+pub none : (x : ℕ) → At x ≡ Whole → ⊥
 none x e = let z : _≡_ {A = ℕ} 0 1 = cc in omega arith
 
 first-step : {P R : Type 0} (b : Bool) (F : Finding) (x : ℕ) → (b ≡ true) ↔ P → (F ≡ Whole) ↔ R → (cond b F (At x) ≡ Whole) ↔ (P × R)

@@ -85,7 +85,7 @@ pub record Rows (S : Settings) : Type 0 where
   pub few-slots : S .slots ≤ 8
   pub low-credit : S .credit ≤ 65535
 
-and-true : (a : Bool) → (a && true) ≡ a
+pub and-true : (a : Bool) → (a && true) ≡ a
 and-true true = refl
 and-true false = refl
 

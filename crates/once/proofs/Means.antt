@@ -9,7 +9,7 @@ use native.Mathlib.Omega.{arith}
 use lib.ListN.{length, getD, set, replicate, length-replicate}
 use lib.Seq.{getD-set-same, getD-set-other}
 use lib.Dec.{eqb, ltb}
-use Rattle.ledger.specs.Settings.{Settings}
+use Rattle.ledger.specs.Settings.{Settings, size}
 use Rattle.ledger.specs.Ledger.{owner, index, entryId, isNode}
 use Rattle.ledger.specs.Ready.{bit}
 use Rattle.ledger.specs.Sound.{sum, weigh, one, Once, Roomy}
@@ -20,6 +20,7 @@ use Rattle.ledger.proofs.Places.{row-div, row-mod, node-of, node-is}
 use Rattle.layout.specs.Tables.{lists, all}
 use Rattle.layout.specs.Picture.{slot, nodesOf, nodeIn, tabulate, ledgerIn, Hangs}
 use Rattle.layout.proofs.Tables.{zeros}
+use Rattle.memory.specs.Ends.{Tidy}
 use Rattle.memory.proofs.Chains.{times, bit-same, bit-other, item-node, shown, slot-lt, slot-inj}
 use Rattle.once.specs.Once.{isNew, mark, allNew, markAll, ends, right, unmarked, scan, onceFound}
 use Rattle.once.proofs.Marks.{length-mark, New, new, new-is}
@@ -27,7 +28,7 @@ use Rattle.once.proofs.Marks.{length-mark, New, new, new-is}
 -- ---- marks that are set
 
 -- where a finding is whole, a test before it passed
-passed : (b : Bool) (f : Finding) (n : ℕ) → cond b f (At n) ≡ Whole → (b ≡ true) × (f ≡ Whole)
+pub passed : (b : Bool) (f : Finding) (n : ℕ) → cond b f (At n) ≡ Whole → (b ≡ true) × (f ≡ Whole)
 passed true f n e = (refl, e)
 passed false f n e = let z : _≡_ {A = ℕ} 0 1 = cc in absurd (omega arith)
 
@@ -199,6 +200,10 @@ module _ (S : Settings) (m : List ℕ) where
   found-whole e =
       let w = scan-says (lists S) 0 (replicate (all S) 0) (length-replicate (all S) 0) (λ y. omega (arith, clear y)) e in
       (λ l h. w .0 l (omega arith) (omega arith), λ y. omega (arith, w .1 y, clear y, stands-all y))
+
+  -- with the tails
+  pub found-tidy : size S ≤ length m → onceFound S m ≡ Whole → Tidy S m
+  found-tidy long e = let w = found-whole e in record { long = long; hangs = w .0; once = λ y. omega (arith, w .1 y) }
 
   pub whole-found : Roomy S → ((l : ℕ) → l < lists S → Hangs S m l) × Once S (ledgerIn S m .lists) → onceFound S m ≡ Whole
   unfolding onceFound

@@ -26,7 +26,7 @@ use Rattle.ranges.specs.Ranges.{rangesFound}
 use Rattle.ranges.proofs.Opening.{shape-is, opened-is, opened-fine}
 use Rattle.ranges.proofs.Items.{ranges-means}
 use Rattle.once.specs.Once.{onceFound}
-use Rattle.once.proofs.Means.{found-whole, whole-found}
+use Rattle.once.proofs.Means.{found-whole, found-tidy, whole-found}
 use Rattle.fits.specs.declared.NodeRule.{NodeRule}
 use Rattle.fits.specs.declared.NodeRule.the-variants.{OwnPort, OwnQueue, Record}
 use Rattle.fits.specs.Fits.{fitsFound}
@@ -36,7 +36,7 @@ use Rattle.paid.proofs.Owing.{paid-means}
 use Rattle.sound.specs.declared.Broken.{Broken}
 use Rattle.sound.specs.declared.Broken.the-variants.{Whole, A, B, C, D, E, F, G}
 use Rattle.sound.specs.declared.Tested.the-variants.{State, NoState}
-use Rattle.sound.specs.Sound.{Clean, orNext, nodesBroken, openBroken, brokenBy, brokenIn, testedBy, testedIn}
+use Rattle.sound.specs.Sound.{Clean, orNext, nodesBroken, openBroken, brokenBy, brokenIn, testedBy, testedIn, testOf}
 
 -- ---- one rule and the next
 
@@ -99,9 +99,7 @@ module _ (m : List ℕ) (s : Shape) where
 
   module _ (o : Open m s) where
     pub passed-once : onceFound (settingsOf s) m ≡ whole → Tidy (settingsOf s) m
-    passed-once e =
-        let w = found-whole (settingsOf s) m e in
-        record { long = rw (o .settings-are) (o .long); hangs = w .0; once = λ y. omega (arith, w .1 y) }
+    passed-once e = found-tidy (settingsOf s) m (rw (o .settings-are) (o .long)) e
 
     pub clean-state : Clean (settingsOf s) m → StateOf (settingsOf s) m
     clean-state k =
@@ -205,3 +203,22 @@ module _ (m : List ℕ) where
       go : (d : Dec (picture.State m)) → testedBy m d ≡ NoState → ⊥
       go (yes t) e = let z : _≡_ {A = ℕ} 0 1 = cc in omega arith
       go (no n) e = n t
+
+  -- ---- the test and the first broken rule agree
+
+  broken : (b : Broken) → isWhole b ≡ false → brokenIn m ≡ b → testedIn m ≡ NoState
+  broken b n e = sym (tested-not (λ t. not-whole b (shapeFor (settingsIn m)) n (sym e ∙ state-whole t)))
+
+  pub test-agrees : testedIn m ≡ testOf (brokenIn m)
+  unfolding isWhole
+  test-agrees = go (brokenIn m) refl
+    where
+      go : (b : Broken) → brokenIn m ≡ b → testedIn m ≡ testOf b
+      go (Whole s) e = sym (tested-is s (whole-state s e))
+      go A e = broken A refl e
+      go (B i) e = broken (B i) refl e
+      go (C i) e = broken (C i) refl e
+      go (D i) e = broken (D i) refl e
+      go (E i) e = broken (E i) refl e
+      go (F i) e = broken (F i) refl e
+      go (G i) e = broken (G i) refl e

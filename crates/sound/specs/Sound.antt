@@ -69,6 +69,17 @@ testedBy m (no n) = NoState
 unfoldable pub testedIn : List ℕ → Tested
 testedIn m = testedBy m (state-dec m)
 
+-- the same by the first rule that is broken
+abbrev pub testOf : Broken → Tested
+testOf (Whole s) = State s
+testOf A = NoState
+testOf (B i) = NoState
+testOf (C i) = NoState
+testOf (D i) = NoState
+testOf (E i) = NoState
+testOf (F i) = NoState
+testOf (G i) = NoState
+
 -- ---- what the functions ask
 
 -- a memory of shape s that keeps rules (a) to (c)

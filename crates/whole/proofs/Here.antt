@@ -9,6 +9,7 @@ use lib.Dec.{eqb, ltb, leb}
 use Rattle.ledger.specs.Settings.{Settings}
 use Rattle.ledger.specs.Header.{leastLength}
 use Rattle.ledger.specs.Ledger.{owner, Packet}
+use Rattle.ledger.proofs.Rows.{and-true}
 use Rattle.ledger.proofs.Tests.{leb-is, leb-not, ltb-yes, ltb-no, eqb-not, and-left, and-right}
 use Rattle.layout.specs.declared.Table.the-variants.{Queue}
 use Rattle.layout.specs.Tables.{get}
@@ -37,11 +38,7 @@ module _ (S : Settings) (m : List ℕ) (p c x : ℕ) where
 
   pub free-fits : c ≡ 0 → eqb (owner x) p ≡ fitsHere S m p c x
   unfolding fitsHere ruleTest packetAt
-  free-fits z = rw z (go (eqb (owner x) p))
-    where
-      go : (b : Bool) → b ≡ (b && true)
-      go true = refl
-      go false = refl
+  free-fits z = rw (z, and-true (eqb (owner x) p))
 
   packet-fits : c ≢ 0 → (ownPlace S p c x (get S m Queue (slot S x)) && properTest S (packetAt S m x)) ≡ fitsHere S m p c x
   unfolding fitsHere ownPlace ruleTest packetAt

@@ -18,12 +18,12 @@ use Rattle.layout.specs.Tables.{lists, all, get, settingsOf}
 use Rattle.layout.specs.Picture.{nodesOf}
 use Rattle.once.specs.Once.{markAll, right, onceFound}
 use Rattle.once.proofs.Walk.{scan-start, scan-no, scan-yes, scan-end}
-use Rattle.once.proofs.Means.{found-whole}
+use Rattle.once.proofs.Means.{found-tidy}
 use Rattle.fits.specs.declared.NodeRule.{NodeRule}
 use Rattle.fits.specs.declared.NodeRule.the-variants.{Record}
 use Rattle.fits.specs.Fits.{listFound, fitsFrom, fitsFound}
 use Rattle.fits.proofs.Walk.{fits-start, fits-end, fits-stop, fits-next}
-use Rattle.fits.proofs.Means.{record-means}
+use Rattle.fits.proofs.Means.{none, record-means}
 use Rattle.paid.specs.Paid.{addList, addFrom, sumsOf}
 use Rattle.paid.specs.Passes.{Sums, Payable}
 use Rattle.paid.proofs.Adding.{sums-more}
@@ -57,10 +57,6 @@ module _ (S : Settings) (p c : ℕ) (hc : c < row S) where
   pub column-is : c ≡ (p * row S + c) % row S
   column-is = sym (row-mod (row S) p c hc)
 
--- a place that is found is not none
-pub found : (x : ℕ) → At x ≡ Whole → ⊥
-found x e = let z : _≡_ {A = ℕ} 0 1 = cc in omega arith
-
 module _ {S : Settings} {m ms sums : List ℕ} {l n : ℕ} (W : AtList S m ms sums l n) where
   module _ (some : l < lists S) where
     -- where a list is not kept, nor is the whole
@@ -69,11 +65,11 @@ module _ {S : Settings} {m ms sums : List ℕ} {l n : ℕ} (W : AtList S m ms su
       where
         once : (b : Bool) → right S m ms l ≡ b → right S m ms l ≡ true
         once true e = e
-        once false e = absurd (found l (sym (scan-no (W .scan) some e) ∙ k .once))
+        once false e = absurd (none l (sym (scan-no (W .scan) some e) ∙ k .once))
 
         fits : (rule : NodeRule) (f : Finding) → listFound rule S m l ≡ f → listFound rule S m l ≡ Whole
         fits rule Whole e = e
-        fits rule (At x) e = absurd (found x (sym (fits-stop rule S m l some x e) ∙ W .fits rule ∙ k .fits rule))
+        fits rule (At x) e = absurd (none x (sym (fits-stop rule S m l some x e) ∙ W .fits rule ∙ k .fits rule))
 
     -- nor where it has too many nodes
     pub lists-many : fewAt S (l % row S) (get S m Count l) ≡ false → Kept S m → ⊥
@@ -126,6 +122,4 @@ module _ {S : Settings} {m ms sums : List ℕ} {l n : ℕ} (W : AtList S m ms su
 
 -- rules (c) and (f) make the prices payable
 pub payable : (S : Settings) (m : List ℕ) → size S ≤ length m → onceFound S m ≡ Whole → fitsFound Record S m ≡ Whole → Payable S m
-payable S m long e f =
-    let w = found-whole S m e in
-    record { tidy = record { long = long; hangs = w .0; once = λ y. omega (arith, w .1 y) }; proper = record-means S m .0 f }
+payable S m long e f = record { tidy = found-tidy S m long e; proper = record-means S m .0 f }

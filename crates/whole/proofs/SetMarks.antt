@@ -11,6 +11,7 @@ use Rattle.ledger.specs.declared.Finding.the-variants.{Whole, At}
 use Rattle.ledger.specs.Settings.{Settings}
 use Rattle.ledger.specs.Ready.{bit}
 use Rattle.ledger.proofs.Tests.{and-left, and-right}
+use Rattle.ledger.proofs.Places.{bit-le}
 use Rattle.layout.specs.declared.Table.the-variants.{Count}
 use Rattle.layout.specs.Tables.{all, get}
 use Rattle.layout.specs.Picture.{slot, nodesOf}
@@ -29,10 +30,6 @@ unfolding setMarks
 set-more [] i h e = absurd (not-suc-le-zero h)
 set-more (k ∷ ks) zero h e = let z : bit (ltb 0 k) ≡ 0 = rw e in omega arith
 set-more (k ∷ ks) (suc i) h e = omega (arith, set-more ks i (le-of-suc-le-suc h) e)
-
-bit-le : (b : Bool) → bit b ≤ 1
-bit-le true = omega arith
-bit-le false = omega arith
 
 pub set-le : (ms : List ℕ) → setMarks ms ≤ length ms
 unfolding setMarks

@@ -16,6 +16,7 @@ use Rattle.ledger.specs.Sound.{Roomy}
 use Rattle.layout.proofs.Tables.{get-lt}
 use Rattle.layout.proofs.Shapes.{few}
 use Rattle.once.specs.Once.{isNew, mark, markAll, right}
+use Rattle.once.proofs.Means.{passed}
 use Rattle.once.proofs.Walk.{chain-more, Walking, walk-stuck, walk-step, walk-end}
 use Rattle.fits.specs.declared.NodeRule.{NodeRule}
 use Rattle.fits.specs.Fits.{nodeTest, firstBad, listFound}
@@ -63,11 +64,6 @@ pub record Passing (S : Settings) (m ms₀ sums₀ : List ℕ) (l : ℕ) (ms sum
   pub add : addList S m sums₀ l ≡ addEach S m (l % row S) sums (chain S m left x)
   pub held : Sums S sums (most * l + 255 * (get S m Count l - left))
 
--- where a finding is whole, a test before it passed
-passed : (b : Bool) (f : Finding) (n : ℕ) → cond b f (At n) ≡ Whole → b ≡ true
-passed true f n e = refl
-passed false f n e = let z : _≡_ {A = ℕ} 0 1 = cc in absurd (omega arith)
-
 module _ {S : Settings} {m ms sums : List ℕ} {l : ℕ} where
   pub pass-start : Walking S m ms l ms (get S m Count l) (get S m Head l) (get S m Tail l) → Sums S sums (most * l)
       → Passing S m ms sums l ms sums (get S m Count l) (get S m Head l) (get S m Tail l)
@@ -100,7 +96,7 @@ module _ {S : Settings} {m ms₀ sums₀ : List ℕ} {l : ℕ} {ms sums : List �
     pass-not e k = go (isNew S ms x) refl
       where
         kept : fitsHere S m (l / row S) (l % row S) x ≡ true
-        kept = each-fits S m (l / row S) (l % row S) x (λ rule. passed (nodeTest rule S m l x) _ x (sym (front rule) ∙ k .fits rule))
+        kept = each-fits S m (l / row S) (l % row S) x (λ rule. passed (nodeTest rule S m l x) _ x (sym (front rule) ∙ k .fits rule) .0)
 
         go : (b : Bool) → isNew S ms x ≡ b → ⊥
         go true n = true≢false (sym kept ∙ rw n at e)

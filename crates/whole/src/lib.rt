@@ -98,7 +98,14 @@ fn few_enough(s: Shape, column: usize, count: u32) -> bool
 }
 
 // Walks the lists of a port, and answers whether each passed; the nodes that were met are counted on.
-fn port_passes(m: &[u8], s: Shape, port: usize, marks: &mut [u8], sums: &mut [u64], met: &mut u32) -> bool
+fn port_passes(
+    m: &[u8],
+    s: Shape,
+    port: usize,
+    marks: &mut [u8],
+    sums: &mut [u64],
+    met: &mut u32,
+) -> bool
     requires { ⌜ PortLent s (now m) (now marks) (now sums) port (now met) ⌝ }
     ensures { λ r. ⌜ PortPassed (settingsOf s) (now (m .entry)) port (now (marks .exit)) (now (sums .exit)) (now (met .exit)) r ⌝ }
 {

@@ -48,6 +48,41 @@ pub struct Change {
     pub to: u8,
 }
 
+/// What is told of a memory: by the test that every call asks first, and by the
+/// rules one after another. In tests one of them may have a slip.
+#[derive(Clone, Copy)]
+pub struct Rules {
+    pub is_state: fn(&[u8]) -> bool,
+    pub first_broken: fn(&[u8]) -> Option<char>,
+}
+
+/// Those of the proved library.
+pub const PROVED: Rules = Rules {
+    is_state: rules::is_state,
+    first_broken: rules::first_broken,
+};
+
+impl Rules {
+    /// The test says yes exactly where no rule is broken. The independent reader
+    /// finds one in another order, so the first comes no later than its.
+    fn agree(&self, memory: &[u8], judged: Option<&str>) -> Result<(), String> {
+        let (state, broken) = ((self.is_state)(memory), (self.first_broken)(memory));
+        if state != broken.is_none() {
+            return Err(format!(
+                "the test says {state}, the first broken rule is {broken:?}"
+            ));
+        }
+        // As "(c) ..".
+        let found = judged.and_then(|why| why.chars().nth(1));
+        if broken.is_none() != found.is_none() || broken > found {
+            return Err(format!(
+                "the first broken rule is {broken:?}, the reader's {judged:?}"
+            ));
+        }
+        Ok(())
+    }
+}
+
 /// What the library took the damaged memories for.
 #[derive(Debug, Clone, Default, PartialEq, Eq)]
 pub struct Verdicts {
@@ -281,12 +316,14 @@ fn one_of_each(random: &mut Random, ledger: &Ledger) -> Vec<Call> {
 /// and some bytes behind it.
 fn try_calls<D: Desk>(
     desk: &D,
+    rules: &Rules,
     whole: &[u8],
     lent: usize,
     calls: &[Call],
     verdicts: &mut Verdicts,
 ) -> Result<(), String> {
     let judged = reader::judged(&whole[..lent]);
+    rules.agree(&whole[..lent], judged.as_ref().err().map(String::as_str))?;
     match &judged {
         Ok(_) => verdicts.states += 1,
         Err(why) => {
@@ -350,6 +387,16 @@ fn apply(memory: &[u8], changes: &[Change]) -> Vec<u8> {
 
 /// Make the run. Of a failing memory, the changes are cut down.
 pub fn run<D: Desk>(plan: &Plan, desk: &D, verdicts: &mut Verdicts) -> Result<(), Box<Failure>> {
+    run_with(plan, desk, &PROVED, verdicts)
+}
+
+/// The same with other rules.
+pub fn run_with<D: Desk>(
+    plan: &Plan,
+    desk: &D,
+    rules: &Rules,
+    verdicts: &mut Verdicts,
+) -> Result<(), Box<Failure>> {
     let mut random = Random::new(plan.seed.rotate_left(32));
     let memory_len = size(plan.nodes) + random.below(52) as usize;
     let mut pair = Pair::new(desk, plan.seed, memory_len, 256);
@@ -384,11 +431,11 @@ pub fn run<D: Desk>(plan: &Plan, desk: &D, verdicts: &mut Verdicts) -> Result<()
             pair.lent()
         };
         let whole = apply(pair.memory(), &changes);
-        if let Err(message) = try_calls(desk, &whole, lent, &calls, verdicts) {
+        if let Err(message) = try_calls(desk, rules, &whole, lent, &calls, verdicts) {
             let mut told = message;
             let few = cut_down(&changes, |few| {
                 let whole = apply(pair.memory(), few);
-                match try_calls(desk, &whole, lent, &calls, &mut Verdicts::default()) {
+                match try_calls(desk, rules, &whole, lent, &calls, &mut Verdicts::default()) {
                     Ok(()) => false,
                     Err(message) => {
                         told = message;

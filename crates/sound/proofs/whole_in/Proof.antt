@@ -12,7 +12,7 @@ use Rattle.ranges.specs.First.{first}
 use Rattle.ranges.specs.Ranges.{fitsAt}
 use Rattle.ranges.proofs.Opening.{open-held}
 use Rattle.whole.specs.Whole.{Says, Kept}
-use Rattle.whole.proofs.Lists.{found}
+use Rattle.fits.proofs.Means.{none}
 use Rattle.whole.proofs.Slots.{low-ranges, ranges-low, ranges-few}
 use Rattle.sound.specs.Sound.{Clean}
 use Rattle.sound.proofs.whole_in.Statement.{statement}
@@ -40,7 +40,7 @@ returns c =
     let R = c .before .before .before .before .before .pre .laid .roomy in
     record {
       yes = λ e. absurd (false≢true e);
-      no = λ e k. found _ (sym (c .enum-told .given .1) ∙ c .before .before .first-outside .ensures ∙ ranges-low _ _ R (k .ranges));
+      no = λ e k. none _ (sym (c .enum-told .given .1) ∙ c .before .before .first-outside .ensures ∙ ranges-low _ _ R (k .ranges));
     }
 
 enum-told-2 : tie.Need-enum-told-2

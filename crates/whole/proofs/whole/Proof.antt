@@ -15,10 +15,11 @@ use Rattle.once.specs.Once.{onceFound}
 use Rattle.fits.specs.declared.NodeRule.{NodeRule}
 use Rattle.fits.specs.declared.NodeRule.the-variants.{Record}
 use Rattle.fits.specs.Fits.{fitsFound}
+use Rattle.fits.proofs.Means.{none}
 use Rattle.paid.specs.Paid.{sumsOf, dueFound, paidFound}
 use Rattle.paid.proofs.Passing.{sums-held}
 use Rattle.whole.specs.Walks.{AtList}
-use Rattle.whole.proofs.Lists.{lists-start, found, end-fits, end-sums, end-slots, end-once, end-left, payable}
+use Rattle.whole.proofs.Lists.{lists-start, end-fits, end-sums, end-slots, end-once, end-left, payable}
 use Rattle.whole.proofs.whole.Statement.{statement}
 use Rattle.whole.proofs.whole.Tie as tie
 
@@ -154,7 +155,7 @@ same-length-6 c = let e = told-at (c .before .before) in omega (arith, lent (sta
 returns-3 : tie.Need-returns-3 Inv-loop μ-loop
 returns-3 c = record {
   yes = λ r. absurd (false≢true r);
-  no = λ r k. found _ (sym (c .enum-told .given .1) ∙ due (c .before .before) ∙ k .paid);
+  no = λ r k. none _ (sym (c .enum-told .given .1) ∙ due (c .before .before) ∙ k .paid);
 }
 
 enum-told-2 : tie.Need-enum-told-2 Inv-loop μ-loop

@@ -1,0 +1,8 @@
+//! Links the archive of the test and the rules, for checks and benchmarks alone.
+
+#[path = "../ventorupo/archives.rs"]
+mod archives;
+
+fn main() {
+    archives::link(&["rules"]);
+}
