@@ -42,10 +42,10 @@ unfolding rangeTest
 range-len S len queue dest poisoned e = ltb-yes len (2 ^ 13) (and-left (ltb len (2 ^ 13)) _ (and-right (leb leastLength len) _ e))
 
 -- what was read of a record is tested as the packet is
-pub note-tests : {S : Settings} {m : List ℕ} {x : ℕ} {n : Note} → NoteOf S m x n
+pub note-tests : {S : Settings} {m : List ℕ} {i : ℕ} {n : Note} (x : ℕ) → i ≡ slot S x → NoteOf S m i n
     → fieldsTest S (n .len) (n .queue) (n .dest) (n .poisoned) (n .price) ≡ properTest S (packetAt S m x)
 unfolding properTest packetAt
-note-tests w = rw (w .len-is, w .queue-is, w .dest-is, w .poisoned-is, w .price-is)
+note-tests x e w = rw (w .len-is, w .queue-is, w .dest-is, w .poisoned-is, w .price-is, e)
 
 -- ---- a list of which the rule says nothing
 

@@ -10,7 +10,6 @@ use Rattle.layout.specs.declared.Shape.{Shape}
 use Rattle.layout.specs.declared.Table.{Table}
 use Rattle.layout.specs.declared.Table.the-variants.{Length, Queue, Dest, Poisoned, Price}
 use Rattle.layout.specs.Tables.{width, many, lists, all, get, settingsOf, Laid}
-use Rattle.layout.specs.Picture.{slot}
 use Rattle.memory.specs.Ends.{Tidy}
 use Rattle.fits.specs.declared.NodeRule.{NodeRule}
 use Rattle.fits.specs.declared.Note.{Note}
@@ -28,15 +27,21 @@ pub record FieldOf (k : ℕ) (s : Shape) (t : Table) (x : ℕ) (m : List ℕ) : 
   pub wide : width t ≡ k
   pub each : many (settingsOf s) t ≡ all (settingsOf s)
 
--- what was read of its record
-pub record NoteOf (S : Settings) (m : List ℕ) (x : ℕ) (n : Note) : Type 0 where
-  pub len-is : n .len ≡ get S m Length (slot S x)
-  pub queue-is : n .queue ≡ get S m Queue (slot S x)
-  pub dest-is : n .dest ≡ get S m Dest (slot S x)
-  pub poisoned-is : n .poisoned ≡ get S m Poisoned (slot S x)
-  pub price-is : n .price ≡ get S m Price (slot S x)
+-- element i of the tables of nodes
+pub record RecordOf (s : Shape) (i : ℕ) (m : List ℕ) : Type 0 where
+  pub laid : Laid s
+  pub long : size (settingsOf s) ≤ length m
+  pub inside : i < all (settingsOf s)
 
--- and a list, a port's column c, of which the rule says something
+-- and what was read of it
+pub record NoteOf (S : Settings) (m : List ℕ) (i : ℕ) (n : Note) : Type 0 where
+  pub len-is : n .len ≡ get S m Length i
+  pub queue-is : n .queue ≡ get S m Queue i
+  pub dest-is : n .dest ≡ get S m Dest i
+  pub poisoned-is : n .poisoned ≡ get S m Poisoned i
+  pub price-is : n .price ≡ get S m Price i
+
+-- a node and a list, a port's column c, of which the rule says something
 pub record Spoken (rule : NodeRule) (c : ℕ) (s : Shape) (x : ℕ) (m : List ℕ) : Type 0 where
   pub seen : NodeOf s x m
   pub spoken : spared rule c ≡ false

@@ -10,7 +10,7 @@ ghost use Rattle.ledger.specs.Ledger.{owner};
 ghost use Rattle.layout.specs.Tables.{settingsOf, get, Laid};
 ghost use Rattle.layout.specs.Picture.{slot, packetAt};
 ghost use Rattle.fits.specs.Fits.{spared, queueAt, rangeTest, fieldsTest, properTest, ruleTest, listFound, fitsFound};
-ghost use Rattle.fits.specs.Walk.{NodeOf, FieldOf, NoteOf, Spoken, Walkable, ListOf};
+ghost use Rattle.fits.specs.Walk.{NodeOf, FieldOf, RecordOf, NoteOf, Spoken, Walkable, ListOf};
 
 // Which of the three rules is tested.
 pub enum NodeRule {
@@ -102,7 +102,7 @@ fn fair(beat: u32, queue: u32, len: u32, price: u32) -> bool
     held < len + beat
 }
 
-// What the memory has of a node's record, of the fields that can be out of range.
+// What the memory has of a node's record, by its element, of the fields that can be out of range.
 pub struct Note {
     pub len: u16,
     pub queue: u8,
@@ -111,16 +111,16 @@ pub struct Note {
     pub price: u8,
 }
 
-pub fn noted(m: &[u8], s: Shape, x: u16) -> Note
-    requires { ⌜ NodeOf s x (now m) ⌝ }
-    ensures { λ r. ⌜ NoteOf (settingsOf s) (now (m .entry)) x r ⌝ }
+pub fn noted(m: &[u8], s: Shape, at: usize) -> Note
+    requires { ⌜ RecordOf s at (now m) ⌝ }
+    ensures { λ r. ⌜ NoteOf (settingsOf s) (now (m .entry)) at r ⌝ }
 {
     Note {
-        len: field2(m, s, Table::Length, x),
-        queue: field1(m, s, Table::Queue, x),
-        dest: field1(m, s, Table::Dest, x),
-        poisoned: field1(m, s, Table::Poisoned, x),
-        price: field1(m, s, Table::Price, x),
+        len: layout::get2(m, s, Table::Length, at),
+        queue: layout::get1(m, s, Table::Queue, at),
+        dest: layout::get1(m, s, Table::Dest, at),
+        poisoned: layout::get1(m, s, Table::Poisoned, at),
+        price: layout::get1(m, s, Table::Price, at),
     }
 }
 
@@ -142,7 +142,7 @@ fn proper(m: &[u8], s: Shape, x: u16) -> bool
     requires { ⌜ NodeOf s x (now m) ⌝ }
     ensures { λ r. ⌜ r ≡ properTest (settingsOf s) (packetAt (settingsOf s) (now (m .entry)) x) ⌝ }
 {
-    note_proper(s, noted(m, s, x))
+    note_proper(s, noted(m, s, layout::slot_of(s, x)))
 }
 
 // The rule's test of one node in a list that it speaks of.

@@ -3,9 +3,9 @@ use mathlib.Core.Path.{_≡_}
 use mathlib.Core.Bool.{Bool, true}
 use mathlib.Core.List.{List}
 use Prim.Native.Nat.{ℕ, _-_, _≤_, _<_}
-use lib.ListN.{length, replicate}
+use lib.ListN.{length, getD, set, replicate}
+use lib.Dec.{eqb}
 use Rattle.ledger.specs.Settings.{Settings, size}
-use Rattle.ledger.specs.Ledger.{isNode}
 use Rattle.layout.specs.declared.Shape.{Shape}
 use Rattle.layout.specs.Tables.{lists, all, settingsOf, Laid}
 use Rattle.layout.specs.Picture.{nodesOf}
@@ -16,12 +16,7 @@ pub record Marks (s : Shape) (ms : List ℕ) : Type 0 where
   pub laid : Laid s
   pub fits : length ms ≡ all (settingsOf s)
 
--- and x is a node
-pub record MarkOf (s : Shape) (ms : List ℕ) (x : ℕ) : Type 0 where
-  pub marks : Marks s ms
-  pub node : isNode (settingsOf s) x ≡ true
-
--- or the memory is long enough, and has a list l
+-- and the memory is long enough, and has a list l
 pub record Walkable (s : Shape) (m ms : List ℕ) (l : ℕ) : Type 0 where
   pub marks : Marks s ms
   pub long : size (settingsOf s) ≤ length m
@@ -38,6 +33,11 @@ pub record Scanning (S : Settings) (m ms : List ℕ) (l : ℕ) : Type 0 where
   pub most : l ≤ lists S
   pub fits : length ms ≡ all S
   pub answer : onceFound S m ≡ scan S m ms l (lists S - l)
+
+-- whether the mark of element i was clear, and the marks where that is so
+pub record Fresh (ms : List ℕ) (i : ℕ) (ms′ : List ℕ) (r : Bool) : Type 0 where
+  pub answer : r ≡ eqb (getD ms i 0) 0
+  pub after : r ≡ true → ms′ ≡ set ms i 1
 
 -- whether a node was new, and a list right; and the marks where that is so
 pub record Met (s : Shape) (ms : List ℕ) (x : ℕ) (ms′ : List ℕ) (r : Bool) : Type 0 where

@@ -9,7 +9,7 @@ ghost use lib.ListN.{length};
 ghost use Rattle.ledger.specs.Ledger.{isNode};
 ghost use Rattle.layout.specs.Tables.{settingsOf, Laid};
 ghost use Rattle.once.specs.Once.{unmarked, onceFound};
-ghost use Rattle.once.specs.Walks.{Marks, MarkOf, Walkable, Blank, Met, Walked};
+ghost use Rattle.once.specs.Walks.{Marks, Walkable, Blank, Fresh, Met, Walked};
 
 // Whether x is a node's id.
 pub fn is_node(s: Shape, x: u16) -> bool
@@ -23,12 +23,11 @@ pub fn is_node(s: Shape, x: u16) -> bool
     }
 }
 
-// Marks node x, where it is not marked yet, and answers whether it was not.
-pub fn fresh(s: Shape, x: u16, marks: &mut [u8]) -> bool
-    requires { ⌜ MarkOf s (now marks) x ⌝ }
-    ensures { λ r. ⌜ Met s (now (marks .entry)) x (now (marks .exit)) r ⌝ }
+// Sets the mark of an element, where it is not set yet, and answers whether it was not.
+pub fn fresh(at: usize, marks: &mut [u8]) -> bool
+    requires { ⌜ at < length (now marks) ⌝ }
+    ensures { λ r. ⌜ Fresh (now (marks .entry)) at (now (marks .exit)) r ⌝ }
 {
-    let at = layout::slot_of(s, x);
     if marks[at] == 0 {
         marks[at] = 1;
         return true;
@@ -42,7 +41,7 @@ fn meet(s: Shape, x: u16, marks: &mut [u8]) -> bool
     ensures { λ r. ⌜ Met s (now (marks .entry)) x (now (marks .exit)) r ⌝ }
 {
     if is_node(s, x) {
-        return fresh(s, x, marks);
+        return fresh(layout::slot_of(s, x), marks);
     }
     false
 }

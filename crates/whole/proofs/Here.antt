@@ -20,7 +20,7 @@ use Rattle.fits.specs.declared.Note.{Note}
 use Rattle.fits.specs.Fits.{queueAt, rangeTest, fieldsTest, properTest, ruleTest}
 use Rattle.fits.specs.Walk.{NoteOf}
 use Rattle.fits.proofs.Walk.{note-tests}
-use Rattle.whole.specs.Whole.{asks, fitsHere, ownPlace}
+use Rattle.whole.specs.Whole.{asks, fitsHere, packetFits}
 
 module _ (S : Settings) (m : List ℕ) (p c x : ℕ) where
   -- what (d), (e) and (f) ask together is what each asks
@@ -36,35 +36,33 @@ module _ (S : Settings) (m : List ℕ) (p c x : ℕ) where
 
   -- ---- by the column
 
-  pub free-fits : c ≡ 0 → eqb (owner x) p ≡ fitsHere S m p c x
+  pub other-port : (leb 2 c || eqb (owner x) p) ≡ false → false ≡ fitsHere S m p c x
+  unfolding fitsHere ruleTest packetAt
+  other-port e = rw e
+
+  pub free-fits : c ≡ 0 → (leb 2 c || eqb (owner x) p) ≡ fitsHere S m p c x
   unfolding fitsHere ruleTest packetAt
   free-fits z = rw (z, and-true (eqb (owner x) p))
 
-  packet-fits : c ≢ 0 → (ownPlace S p c x (get S m Queue (slot S x)) && properTest S (packetAt S m x)) ≡ fitsHere S m p c x
-  unfolding fitsHere ownPlace ruleTest packetAt
-  packet-fits n = go (ltb c 2) refl
-    where
-      go : (b : Bool) → ltb c 2 ≡ b
-          → (cond b (eqb (owner x) p) (eqb (get S m Queue (slot S x)) (queueAt S c)) && properTest S (packetAt S m x))
-          ≡ ((leb 2 c || eqb (owner x) p) && ((b || eqb (get S m Queue (slot S x)) (queueAt S c)) && (eqb c 0 || properTest S (packetAt S m x))))
-      go true e = rw (leb-not 2 c (ltb-yes c 2 e), eqb-not c 0 n)
-      go false e = rw (leb-is 2 c (ltb-no c 2 e), eqb-not c 0 n)
+  pub packet-fits : c ≢ 0 → (leb 2 c || eqb (owner x) p) ≡ true → packetFits S m c x ≡ fitsHere S m p c x
+  unfolding fitsHere packetFits ruleTest packetAt
+  packet-fits n e = rw (e, eqb-not c 0 n)
 
-  -- by what was answered of its place, and of what was read of its record
-  pub note-fits : {n : Note} → c ≢ 0 → NoteOf S m x n → (a b : Bool) → ownPlace S p c x (n .queue) ≡ a
-      → fieldsTest S (n .len) (n .queue) (n .dest) (n .poisoned) (n .price) ≡ b → (a && b) ≡ fitsHere S m p c x
-  note-fits d w a b e f =
-      ap₂ _&&_ (sym e ∙ ap (ownPlace S p c x) (w .queue-is)) (sym f ∙ note-tests w) ∙ packet-fits d
+module _ (S : Settings) (m : List ℕ) (c x : ℕ) where
+  -- by what was answered of its queue, and of what was read of its record
+  pub note-fits : {i : ℕ} {n : Note} → i ≡ slot S x → NoteOf S m i n → (a b : Bool) → (ltb c 2 || eqb (n .queue) (queueAt S c)) ≡ a
+      → fieldsTest S (n .len) (n .queue) (n .dest) (n .poisoned) (n .price) ≡ b → (a && b) ≡ packetFits S m c x
+  unfolding packetFits
+  note-fits {i} {n} e w a b f g =
+      let queue : n .queue ≡ get S m Queue (slot S x) = w .queue-is ∙ ap (get S m Queue) e in
+      ap₂ _&&_ (sym f ∙ ap (λ (q : ℕ). ltb c 2 || eqb q (queueAt S c)) queue) (sym g ∙ note-tests x e w)
 
-  -- ---- a node that is not free has its queue in range
-
-  tested-queue : (k : Packet) → properTest S k ≡ true → k .queue < S .queues
-  unfolding properTest fieldsTest rangeTest
-  tested-queue k e =
-      let len = and-right (leb leastLength (k .len)) _ (and-left (rangeTest S (k .len) (k .queue) (k .dest) (k .poisoned)) _ e) in
+  -- a packet that fits has its queue in range
+  pub fits-queue : packetFits S m c x ≡ true → get S m Queue (slot S x) < S .queues
+  unfolding packetFits properTest fieldsTest rangeTest packetAt
+  fits-queue e =
+      let k = packetAt S m x in
+      let fields = and-right (ltb c 2 || eqb (get S m Queue (slot S x)) (queueAt S c)) _ e in
+      let len = and-right (leb leastLength (k .len)) _ (and-left (rangeTest S (k .len) (k .queue) (k .dest) (k .poisoned)) _ fields) in
       let queue = and-right (ltb (k .len) (2 ^ 13)) _ len in
       ltb-yes (k .queue) (S .queues) (and-left (ltb (k .queue) (S .queues)) _ queue)
-
-  pub fits-queue : c ≢ 0 → fitsHere S m p c x ≡ true → get S m Queue (slot S x) < S .queues
-  unfolding ruleTest packetAt
-  fits-queue n e = tested-queue (packetAt S m x) (rw (eqb-not c 0 n) at (fits-each e Record))

@@ -6,15 +6,14 @@ use Prim.Native.Nat.{ℕ, _+_, _%_, _<_}
 use lib.Dec.{eqb, ltb, leb}
 use Rattle.ledger.specs.declared.Finding.the-variants.{Whole}
 use Rattle.ledger.specs.Settings.{Settings, row}
-use Rattle.ledger.specs.Ledger.{owner}
 use Rattle.ledger.specs.Ready.{bit}
-use Rattle.layout.specs.declared.Table.the-variants.{Count}
+use Rattle.layout.specs.declared.Table.the-variants.{Count, Queue}
 use Rattle.layout.specs.Tables.{lists, get}
-use Rattle.layout.specs.Picture.{packetAt}
+use Rattle.layout.specs.Picture.{slot, packetAt}
 use Rattle.once.specs.Once.{right, onceFound}
 use Rattle.fits.specs.declared.NodeRule.{NodeRule}
 use Rattle.fits.specs.declared.NodeRule.the-variants.{OwnPort, OwnQueue, Record}
-use Rattle.fits.specs.Fits.{spared, queueAt, ruleTest, listFound, fitsFound}
+use Rattle.fits.specs.Fits.{spared, queueAt, properTest, ruleTest, listFound, fitsFound}
 use Rattle.paid.specs.Paid.{addNode, paidFound}
 
 -- ---- a node x in port p's column c
@@ -27,9 +26,9 @@ asks rule S m p c x = spared rule c || ruleTest rule S p c (packetAt S m x)
 unfoldable pub fitsHere : Settings → List ℕ → ℕ → ℕ → ℕ → Bool
 fitsHere S m p c x = asks OwnPort S m p c x && (asks OwnQueue S m p c x && asks Record S m p c x)
 
--- (d) or (e) of a node of queue q that is not free
-unfoldable pub ownPlace : Settings → ℕ → ℕ → ℕ → ℕ → Bool
-ownPlace S p c x q = cond (ltb c 2) (eqb (owner x) p) (eqb q (queueAt S c))
+-- (e) and (f), where it is not free
+unfoldable pub packetFits : Settings → List ℕ → ℕ → ℕ → Bool
+packetFits S m c x = (ltb c 2 || eqb (get S m Queue (slot S x)) (queueAt S c)) && properTest S (packetAt S m x)
 
 -- the sums with its price, unless it is free
 unfoldable pub addHere : Settings → List ℕ → ℕ → List ℕ → ℕ → List ℕ

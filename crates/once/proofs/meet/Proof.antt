@@ -1,26 +1,45 @@
 -- `once::meet` meets its contract. Assumes nothing.
 use borrow.Author.Needs.{needs}
-use mathlib.Core.Path.{sym, _∙_}
-use mathlib.Core.Bool.{false≢true}
+use mathlib.Core.Path.{_≡_, sym, _∙_}
+use mathlib.Core.Bool.{true, false≢true}
+use Rattle.ledger.specs.Ledger.{isNode}
+use Rattle.layout.specs.Tables.{settingsOf}
+use Rattle.memory.proofs.Chains.{slot-lt}
 use Rattle.once.specs.Once.{isNew}
+use Rattle.once.proofs.Marks.{fresh-new}
 use Rattle.once.proofs.meet.Statement.{statement}
 use Rattle.once.proofs.meet.Tie as tie
 
 is-node-requires : tie.Need-is-node-requires
 is-node-requires c κs = search needs
 
+abbrev start : tie.Then1 → tie.Start
+start c = c .before .before .before
+
+node : (c : tie.Then1) → let a = start c .args in isNode (settingsOf (a .s)) (a .x) ≡ true
+node c = sym (c .before .is-node .ensures) ∙ c .if1 .taken
+
+slot-of-requires : tie.Need-slot-of-requires
+slot-of-requires c κs = search needs
+
 fresh-requires : tie.Need-fresh-requires
-fresh-requires c κs = record { marks = c .before .before .before .before .pre; node = sym (c .before .before .is-node .ensures) ∙ c .before .if1 .taken }
+fresh-requires c κs =
+    let yes = c .before .before in
+    rw (c .before .slot-of .ensures, start yes .pre .fits) (slot-lt _ _ (node yes))
 
 same-length : tie.Need-same-length
 same-length c = search needs
 
 returns : tie.Need-returns
-returns c = c .before .before .fresh .ensures
+returns c =
+    let w = c .before .before in
+    let at = w .before .before in
+    let new = fresh-new _ _ (node (at .before)) (at .slot-of .ensures) (w .fresh .ensures) in
+    record { answer = new .0; after = new .1 }
 
 returns-2 : tie.Need-returns-2
 unfolding isNew
 returns-2 c = record { answer = rw (sym (c .before .is-node .ensures) ∙ c .if1 .left); after = λ e. absurd (false≢true e) }
 
 pub meet-spec : {M : Type 1} → statement M
-meet-spec = tie.close (tie.spec is-node-requires fresh-requires same-length returns returns-2)
+meet-spec = tie.close (tie.spec is-node-requires slot-of-requires fresh-requires same-length returns returns-2)

@@ -127,6 +127,7 @@ node-passes-requires c κs =
         held = pass-lent (at .loop .inv) (p .lent .laid .roomy) (p .inside);
       };
       node = node new;
+      at-is = c .before .before .before .slot-of .ensures;
     }
 
 same-length-3 : tie.Need-same-length-3 Inv-loop μ-loop

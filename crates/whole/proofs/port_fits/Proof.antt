@@ -1,0 +1,17 @@
+-- `whole::port_fits` meets its contract. Assumes nothing.
+use borrow.Author.Needs.{needs}
+use Rattle.ledger.proofs.Tests.{leb-is, leb-not}
+use Rattle.whole.proofs.port_fits.Statement.{statement}
+use Rattle.whole.proofs.port_fits.Tie as tie
+
+returns : tie.Need-returns
+returns c = rw (leb-is 2 _ (c .if1 .taken))
+
+own-port-requires : tie.Need-own-port-requires
+own-port-requires c κs = search needs
+
+returns-2 : tie.Need-returns-2
+returns-2 c = rw (leb-not 2 _ (c .before .if1 .left)) (c .own-port .ensures)
+
+pub port-fits-spec : {M : Type 1} → statement M
+port-fits-spec = tie.close (tie.spec returns own-port-requires returns-2)
