@@ -1,7 +1,9 @@
 // The calls and the test of the seven rules against an independent model: for eight settings, 300 steps of traffic, a line for the memory
-// that they leave, then a line for each of 400 damages of one byte. The model, tools/damage_model.py, wrote this program's stdout.
+// that they leave, then a line for each of 400 damages of one byte. The model, tools/damage_model.py, wrote this program's stdout. A line
+// where the test for a state and the first broken rule disagree would have a "?" more.
 use setup::Settings;
 use sound::Broken;
+use sound::Tested;
 ghost use Prim.Native.Nat.{_<_, _≤_};
 
 // x modulo n, where n is no constant: proved here once.
@@ -88,6 +90,19 @@ fn rule(out: &mut [u8; 4096], at: usize, found: Broken) -> usize {
         Broken::F(i) => item(out, at, b'f', i),
         Broken::G(i) => item(out, at, b'g', i),
     }
+}
+
+// Whether the test for a state says what the first broken rule says.
+fn agree(found: Broken, tested: Tested) -> bool {
+    let whole = match found {
+        Broken::Whole(_) => true,
+        _ => false,
+    };
+    let state = match tested {
+        Tested::State(_) => true,
+        Tested::NoState => false,
+    };
+    whole == state
 }
 
 // A packet's header arrives: eight draws.
@@ -219,10 +234,16 @@ fn damage(
     let old = m[p];
     m[p] = value.below(256) as u8;
     let found = sound::first_broken(m);
+    let tested = sound::test(m);
     m[p] = old;
     let second = number(out, start, j, b' ');
     let third = number(out, second, p as u64, b' ');
-    rule(out, third, found)
+    let fourth = if agree(found, tested) {
+        third
+    } else {
+        put(out, third, b'?')
+    };
+    rule(out, fourth, found)
 }
 
 fn damages(

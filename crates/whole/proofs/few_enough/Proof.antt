@@ -1,4 +1,5 @@
 -- `whole::few_enough` meets its contract. Assumes nothing.
+use Prim.Native.Nat.{_+_}
 use borrow.Author.Needs.{needs}
 use borrow.Author.Tests.{lt-ltb, le-ltb}
 use Rattle.whole.specs.Whole.{fewAt}
@@ -10,14 +11,14 @@ add-if1 c = search needs
 
 returns : tie.Need-returns
 unfolding fewAt
-returns c = rw (lt-ltb _ _ (c .if1 .taken))
+returns c = let a = c .before .before .args in rw (lt-ltb (a .column) (2 + a .s .queues) (c .if1 .taken))
 
 cast-slots : tie.Need-cast-slots
 cast-slots c = search needs
 
 returns-2 : tie.Need-returns-2
 unfolding fewAt
-returns-2 c = rw (le-ltb _ _ (c .before .if1 .left))
+returns-2 c = let a = c .before .before .before .args in rw (le-ltb (a .column) (2 + a .s .queues) (c .before .if1 .left))
 
 pub few-enough-spec : {M : Type 1} → statement M
 few-enough-spec = tie.close (tie.spec add-if1 returns cast-slots returns-2)
