@@ -1,4 +1,3 @@
-pub mod Here
 pub mod SetMarks
 pub mod Walk
 pub mod Lists

@@ -21,7 +21,7 @@ use Rattle.once.proofs.Walk.{scan-start, scan-no, scan-yes, scan-end}
 use Rattle.once.proofs.Means.{found-tidy}
 use Rattle.fits.specs.declared.NodeRule.{NodeRule}
 use Rattle.fits.specs.declared.NodeRule.the-variants.{Record}
-use Rattle.fits.specs.Fits.{listFound, fitsFrom, fitsFound}
+use Rattle.fits.specs.Fits.{listFound, fitsFound}
 use Rattle.fits.proofs.Walk.{fits-start, fits-end, fits-stop, fits-next}
 use Rattle.fits.proofs.Means.{none, record-means}
 use Rattle.paid.specs.Paid.{addList, addFrom, sumsOf}

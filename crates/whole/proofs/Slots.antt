@@ -9,7 +9,7 @@ use native.Mathlib.Omega.{arith}
 use lib.Dec.{ltb, leb}
 use Rattle.ledger.specs.declared.Finding.the-variants.{Whole}
 use Rattle.ledger.specs.Settings.{Settings, ids, row}
-use Rattle.ledger.specs.Ledger.{prefetched, place#}
+use Rattle.ledger.specs.Ledger.{place#}
 use Rattle.ledger.specs.Sound.{Roomy}
 use Rattle.ledger.proofs.Tests.{ltb-no, ltb-not}
 use Rattle.ledger.proofs.Places.{row-lt, row-mod}

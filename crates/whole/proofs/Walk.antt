@@ -5,7 +5,6 @@ use mathlib.Core.List.{List, [], _∷_}
 use Prim.Native.Nat.{ℕ, _+_, _-_, _*_, _/_, _%_, _^_, _≤_, _<_}
 use native.Mathlib.Omega.{arith}
 use lib.Dec.{eqb}
-use Rattle.ledger.specs.declared.Finding.{Finding}
 use Rattle.ledger.specs.declared.Finding.the-variants.{Whole, At}
 use Rattle.ledger.specs.Settings.{Settings, row}
 use Rattle.ledger.proofs.Tests.{true≢false, and-left, and-right}
@@ -23,9 +22,10 @@ use Rattle.fits.specs.Fits.{nodeTest, firstBad, listFound}
 use Rattle.paid.specs.Paid.{addNode, addAll, addList}
 use Rattle.paid.specs.Passes.{Sums}
 use Rattle.paid.proofs.Adding.{sums-more, add-sums}
-use Rattle.whole.specs.Whole.{fitsHere, addHere, ListKept}
+use Rattle.nodes.specs.Nodes.{fitsHere, addHere}
+use Rattle.nodes.proofs.Here.{fits-each, each-fits}
+use Rattle.whole.specs.Whole.{ListKept}
 use Rattle.whole.specs.Walks.{most}
-use Rattle.whole.proofs.Here.{fits-each, each-fits}
 
 -- ---- prices that are added
 

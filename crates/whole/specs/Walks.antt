@@ -1,48 +1,28 @@
 -- What the functions of the walk ask and give. Assumes nothing.
 use mathlib.Core.Path.{_≡_}
-use mathlib.Core.Bool.{Bool, true, false, _&&_}
+use mathlib.Core.Bool.{Bool, true, false}
 use mathlib.Core.List.{List}
-use Prim.Native.Nat.{ℕ, _+_, _-_, _*_, _/_, _%_, _^_, _≤_, _<_}
+use Prim.Native.Nat.{ℕ, _+_, _-_, _*_, _/_, _%_, _≤_, _<_}
 use lib.ListN.{length, replicate}
 use Rattle.ledger.specs.Settings.{Settings, row, size}
-use Rattle.ledger.specs.Ledger.{isNode}
 use Rattle.layout.specs.declared.Shape.{Shape}
 use Rattle.layout.specs.declared.Table.the-variants.{Count}
 use Rattle.layout.specs.Tables.{cells, lists, all, get, settingsOf, Laid}
-use Rattle.layout.specs.Picture.{slot, nodesOf}
-use Rattle.once.specs.Once.{isNew, mark, markAll}
+use Rattle.layout.specs.Picture.{nodesOf}
+use Rattle.once.specs.Once.{markAll}
 use Rattle.once.specs.Walks.{Scanning}
 use Rattle.fits.specs.declared.NodeRule.{NodeRule}
 use Rattle.fits.specs.Fits.{fitsFrom, fitsFound}
-use Rattle.paid.specs.Paid.{addNode, addList, addFrom, sumsOf}
+use Rattle.paid.specs.Paid.{addList, addFrom, sumsOf}
 use Rattle.paid.specs.Passes.{Sums}
-use Rattle.whole.specs.Whole.{fitsHere, packetFits, addHere, fewAt, setMarks, Says, ListKept, Kept}
+use Rattle.nodes.specs.Passes.{Lent}
+use Rattle.whole.specs.Whole.{fewAt, setMarks, Says, ListKept, Kept}
 
 -- what the nodes of a list may add, before it is known that none stands twice: 2^32 prices of a byte
 abbrev pub most : ℕ
 most = 1095216660480
 
--- ---- what is lent: a mark for each node, and a sum for each cell, of b at most
-
-pub record Lent (s : Shape) (m ms sums : List ℕ) (b : ℕ) : Type 0 where
-  pub laid : Laid s
-  pub long : size (settingsOf s) ≤ length m
-  pub marks : length ms ≡ all (settingsOf s)
-  pub held : Sums (settingsOf s) sums b
-
--- to node x, which has element i of the tables of nodes
-pub record NodeLent (s : Shape) (m ms sums : List ℕ) (x i : ℕ) : Type 0 where
-  pub lent : Lent s m ms sums (2 ^ 63)
-  pub node : isNode (settingsOf s) x ≡ true
-  pub at-is : i ≡ slot (settingsOf s) x
-
--- and where it is not free, for its record and its price
-pub record PacketLent (s : Shape) (m sums : List ℕ) (x i : ℕ) : Type 0 where
-  pub laid : Laid s
-  pub long : size (settingsOf s) ≤ length m
-  pub held : Sums (settingsOf s) sums (2 ^ 63)
-  pub node : isNode (settingsOf s) x ≡ true
-  pub at-is : i ≡ slot (settingsOf s) x
+-- ---- what is lent
 
 -- to list l of n nodes, which is port p's column c
 pub record ListLent (s : Shape) (m ms sums : List ℕ) (l n p c : ℕ) : Type 0 where
@@ -76,15 +56,6 @@ pub record AllLent (s : Shape) (m ms sums : List ℕ) : Type 0 where
   pub zeros : sums ≡ replicate (cells (settingsOf s)) 0
 
 -- ---- what is given back, where the answer is yes
-
-pub record PacketPassed (S : Settings) (m : List ℕ) (c x : ℕ) (sums sums′ : List ℕ) (r : Bool) : Type 0 where
-  pub answer : r ≡ packetFits S m c x
-  pub added : r ≡ true → sums′ ≡ addNode S m sums x
-
-pub record NodePassed (S : Settings) (m : List ℕ) (p c x : ℕ) (ms sums ms′ sums′ : List ℕ) (r : Bool) : Type 0 where
-  pub answer : r ≡ (isNew S ms x && fitsHere S m p c x)
-  pub marks : r ≡ true → ms′ ≡ mark S ms x
-  pub added : r ≡ true → sums′ ≡ addHere S m c sums x
 
 pub record ListPassed (S : Settings) (m : List ℕ) (l : ℕ) (ms sums ms′ sums′ : List ℕ) (r : Bool) : Type 0 where
   pub answer : Says (ListKept S m ms l) r

@@ -1,38 +1,18 @@
--- Rules (c) to (g) in one walk of the lists: what is asked of a node, what is added for it, and what the answer says. Assumes nothing.
+-- Rules (c) to (g) in one walk of the lists: what the answer says. Assumes nothing.
 use mathlib.Core.Path.{_≡_}
-use mathlib.Core.Bool.{Bool, true, false, cond, _&&_, _||_}
+use mathlib.Core.Bool.{Bool, true, false, _||_}
 use mathlib.Core.List.{List, [], _∷_}
 use Prim.Native.Nat.{ℕ, _+_, _%_, _<_}
-use lib.Dec.{eqb, ltb, leb}
+use lib.Dec.{ltb, leb}
 use Rattle.ledger.specs.declared.Finding.the-variants.{Whole}
 use Rattle.ledger.specs.Settings.{Settings, row}
 use Rattle.ledger.specs.Ready.{bit}
-use Rattle.layout.specs.declared.Table.the-variants.{Count, Queue}
+use Rattle.layout.specs.declared.Table.the-variants.{Count}
 use Rattle.layout.specs.Tables.{lists, get}
-use Rattle.layout.specs.Picture.{slot, packetAt}
 use Rattle.once.specs.Once.{right, onceFound}
 use Rattle.fits.specs.declared.NodeRule.{NodeRule}
-use Rattle.fits.specs.declared.NodeRule.the-variants.{OwnPort, OwnQueue, Record}
-use Rattle.fits.specs.Fits.{spared, queueAt, properTest, ruleTest, listFound, fitsFound}
-use Rattle.paid.specs.Paid.{addNode, paidFound}
-
--- ---- a node x in port p's column c
-
--- what a rule asks, where it speaks of the list
-abbrev pub asks : NodeRule → Settings → List ℕ → ℕ → ℕ → ℕ → Bool
-asks rule S m p c x = spared rule c || ruleTest rule S p c (packetAt S m x)
-
--- (d), (e) and (f)
-unfoldable pub fitsHere : Settings → List ℕ → ℕ → ℕ → ℕ → Bool
-fitsHere S m p c x = asks OwnPort S m p c x && (asks OwnQueue S m p c x && asks Record S m p c x)
-
--- (e) and (f), where it is not free
-unfoldable pub packetFits : Settings → List ℕ → ℕ → ℕ → Bool
-packetFits S m c x = (ltb c 2 || eqb (get S m Queue (slot S x)) (queueAt S c)) && properTest S (packetAt S m x)
-
--- the sums with its price, unless it is free
-unfoldable pub addHere : Settings → List ℕ → ℕ → List ℕ → ℕ → List ℕ
-addHere S m c sums x = cond (eqb c 0) sums (addNode S m sums x)
+use Rattle.fits.specs.Fits.{listFound, fitsFound}
+use Rattle.paid.specs.Paid.{paidFound}
 
 -- ---- a list in port p's column c
 

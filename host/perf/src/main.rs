@@ -91,58 +91,68 @@ fn walk(memory: &[u8], tables: &Tables, nodes: usize, mut sum: u64) -> u64 {
     sum
 }
 
-/// Nanoseconds for one test for a state (in `ready`) and for one bare walk.
-fn test_and_walk(memory: &[u8], nodes: u32) -> [f64; 2] {
+/// What is timed on a memory, the bare walk last.
+const WALKS: [&str; 4] = ["test", "ready", "a walk a rule", "bare walk"];
+
+/// Nanoseconds for each of them.
+fn walks_of(memory: &[u8], nodes: u32) -> [f64; 4] {
     let tables = Tables::of(nodes as usize);
     let times = 8_000 / (40 + nodes as usize);
-    let (mut ready, mut bare, mut sum) = (f64::INFINITY, f64::INFINITY, 0);
-    // In turns, so that both meet the same weather.
+    let (mut least, mut sum) = ([f64::INFINITY; 4], 0);
+    let mut measure = |which: usize, work: &mut dyn FnMut()| {
+        let spent = timed(|| (0..times).for_each(|_| work()));
+        least[which] = f64::min(least[which], spent / times as f64);
+    };
+    // In turns, so that all meet the same weather.
     for _ in 0..SAMPLES {
-        let spent = timed(|| {
-            for _ in 0..times {
-                let (mut word, mut count) = (0, 0);
-                assert_eq!(calls::ready(memory, 0, &mut word, &mut count), 0);
-            }
+        measure(0, &mut || assert!(rules::is_state(memory)));
+        measure(1, &mut || {
+            let (mut word, mut count) = (0, 0);
+            assert_eq!(calls::ready(memory, 0, &mut word, &mut count), 0);
         });
-        ready = ready.min(spent / times as f64);
-        let spent = timed(|| {
-            for _ in 0..times {
-                sum = walk(memory, &tables, nodes as usize, sum);
-            }
-        });
-        bare = bare.min(spent / times as f64);
+        measure(2, &mut || assert_eq!(rules::first_broken(memory), None));
+        measure(3, &mut || sum = walk(memory, &tables, nodes as usize, sum));
     }
     // Each walk met each node once.
     let once: u32 = (0..PORTS)
         .flat_map(|port| (0..nodes).map(move |index| port * 2048 + index))
         .sum();
     assert_eq!(sum, u64::from(once) * (SAMPLES * times) as u64);
-    [ready, bare]
+    least
 }
 
 /// What the lists hold counts, so several memories are taken for each N.
 fn the_test_for_a_state() {
     const MEMORIES: u64 = 12;
-    println!("### The test for a state: ready, beside a bare walk of the same links\n");
-    println!(
-        "| N | nodes in all | ready, ns | ns a node | bare walk, ns | ratio | in one memory |"
-    );
-    println!("|---|---|---|---|---|---|---|");
+    let [test, ready, rules, bare] = WALKS;
+    println!("### The test for a state, beside a bare walk of the same links\n");
+    println!("| N | nodes in all | {bare}, ns | {test}, ns | ns a node | ratio | in one memory | {ready}, ns | ratio | in one memory | {rules}, ns | ratio | in one memory |");
+    println!("|---|---|---|---|---|---|---|---|---|---|---|---|---|");
     for nodes in [1, 16, 64, 256, 2048] {
-        let spent: Vec<[f64; 2]> = (1..=MEMORIES)
-            .map(|seed| test_and_walk(&used_memory(seed, nodes), nodes))
+        let spent: Vec<[f64; 4]> = (1..=MEMORIES)
+            .map(|seed| walks_of(&used_memory(seed, nodes), nodes))
             .collect();
         let mean = |which: usize| spent.iter().map(|s| s[which]).sum::<f64>() / MEMORIES as f64;
-        let ratios = || spent.iter().map(|s| s[0] / s[1]);
+        let beside = |which: usize| {
+            let ratios = || spent.iter().map(|s| s[which] / s[3]);
+            format!(
+                "{:.2} | {:.2} to {:.2}",
+                mean(which) / mean(3),
+                ratios().fold(f64::INFINITY, f64::min),
+                ratios().fold(0.0, f64::max)
+            )
+        };
         let all = f64::from(PORTS * nodes);
         println!(
-            "| {nodes} | {all} | {:.0} | {:.1} | {:.0} | {:.1} | {:.1} to {:.1} |",
+            "| {nodes} | {all} | {:.0} | {:.0} | {:.1} | {} | {:.0} | {} | {:.0} | {} |",
+            mean(3),
             mean(0),
             mean(0) / all,
+            beside(0),
             mean(1),
-            mean(0) / mean(1),
-            ratios().fold(f64::INFINITY, f64::min),
-            ratios().fold(0.0, f64::max)
+            beside(1),
+            mean(2),
+            beside(2)
         );
     }
     println!();

@@ -10,7 +10,6 @@ use lib.ListN.{length}
 use Rattle.ledger.specs.declared.Finding.the-variants.{Whole}
 use Rattle.ledger.specs.Settings.{row}
 use Rattle.layout.specs.Tables.{cells, lists, all, settingsOf}
-use Rattle.layout.proofs.Shapes.{few}
 use Rattle.once.specs.Once.{onceFound}
 use Rattle.fits.specs.declared.NodeRule.{NodeRule}
 use Rattle.fits.specs.declared.NodeRule.the-variants.{Record}

@@ -1,8 +1,8 @@
--- `whole::queue_fits` meets its contract. Assumes nothing.
+-- `nodes::queue_fits` meets its contract. Assumes nothing.
 use borrow.Author.Needs.{needs}
 use borrow.Author.Tests.{lt-ltb, le-ltb}
-use Rattle.whole.proofs.queue_fits.Statement.{statement}
-use Rattle.whole.proofs.queue_fits.Tie as tie
+use Rattle.nodes.proofs.queue_fits.Statement.{statement}
+use Rattle.nodes.proofs.queue_fits.Tie as tie
 
 returns : tie.Need-returns
 returns c = rw (lt-ltb _ _ (c .if1 .taken))

@@ -1,4 +1,4 @@
--- `whole::packet_passes` meets its contract, by the first test that fails. Assumes nothing.
+-- `nodes::packet_passes` meets its contract, by the first test that fails. Assumes nothing.
 use mathlib.Core.Path.{_≡_, refl, sym, ap, ap₂, _∙_}
 use mathlib.Core.Bool.{true, false, false≢true}
 use native.Mathlib.Omega.{arith}
@@ -10,10 +10,10 @@ use Rattle.layout.specs.Picture.{slot}
 use Rattle.layout.proofs.Tables.{get-lt}
 use Rattle.memory.proofs.Chains.{node-from, slot-lt}
 use Rattle.paid.specs.Paid.{addPrice, addNode}
-use Rattle.whole.specs.Whole.{packetFits}
-use Rattle.whole.proofs.Here.{note-fits, fits-queue}
-use Rattle.whole.proofs.packet_passes.Statement.{statement}
-use Rattle.whole.proofs.packet_passes.Tie as tie
+use Rattle.nodes.specs.Nodes.{packetFits}
+use Rattle.nodes.proofs.Here.{note-fits, fits-queue}
+use Rattle.nodes.proofs.packet_passes.Statement.{statement}
+use Rattle.nodes.proofs.packet_passes.Tie as tie
 
 -- ---- the moments, each reached from the next
 

@@ -1,8 +1,8 @@
--- `whole::port_fits` meets its contract. Assumes nothing.
+-- `nodes::port_fits` meets its contract. Assumes nothing.
 use borrow.Author.Needs.{needs}
 use Rattle.ledger.proofs.Tests.{leb-is, leb-not}
-use Rattle.whole.proofs.port_fits.Statement.{statement}
-use Rattle.whole.proofs.port_fits.Tie as tie
+use Rattle.nodes.proofs.port_fits.Statement.{statement}
+use Rattle.nodes.proofs.port_fits.Tie as tie
 
 returns : tie.Need-returns
 returns c = rw (leb-is 2 _ (c .if1 .taken))

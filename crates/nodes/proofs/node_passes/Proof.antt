@@ -1,4 +1,4 @@
--- `whole::node_passes` meets its contract, by the first test that fails. Assumes nothing.
+-- `nodes::node_passes` meets its contract, by the first test that fails. Assumes nothing.
 use mathlib.Core.Path.{_≡_, sym, _∙_}
 use mathlib.Core.Bool.{true, false≢true, _||_}
 use borrow.Author.Needs.{needs}
@@ -9,10 +9,10 @@ use Rattle.layout.specs.Tables.{settingsOf}
 use Rattle.memory.proofs.Chains.{slot-lt}
 use Rattle.once.specs.Once.{isNew, mark}
 use Rattle.once.proofs.Marks.{fresh-new}
-use Rattle.whole.specs.Whole.{addHere}
-use Rattle.whole.proofs.Here.{other-port, free-fits, packet-fits}
-use Rattle.whole.proofs.node_passes.Statement.{statement}
-use Rattle.whole.proofs.node_passes.Tie as tie
+use Rattle.nodes.specs.Nodes.{addHere}
+use Rattle.nodes.proofs.Here.{other-port, free-fits, packet-fits}
+use Rattle.nodes.proofs.node_passes.Statement.{statement}
+use Rattle.nodes.proofs.node_passes.Tie as tie
 
 -- ---- the moments, each reached from the next
 

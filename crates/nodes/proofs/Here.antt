@@ -1,16 +1,15 @@
 -- What is asked of a node where it stands, by the column of its list. Assumes nothing.
-use mathlib.Core.Path.{_≡_, refl, sym, ap, ap₂, _∙_}
+use mathlib.Core.Path.{_≡_, sym, ap, ap₂, _∙_}
 use mathlib.Core.Logic.{_≢_}
-use mathlib.Core.Bool.{Bool, true, false, cond, _&&_, _||_}
+use mathlib.Core.Bool.{Bool, true, false, _&&_, _||_}
 use mathlib.Core.List.{List}
-use Prim.Native.Nat.{ℕ, _^_, _≤_, _<_}
-use native.Mathlib.Omega.{arith}
+use Prim.Native.Nat.{ℕ, _^_, _<_}
 use lib.Dec.{eqb, ltb, leb}
 use Rattle.ledger.specs.Settings.{Settings}
 use Rattle.ledger.specs.Header.{leastLength}
-use Rattle.ledger.specs.Ledger.{owner, Packet}
+use Rattle.ledger.specs.Ledger.{owner}
 use Rattle.ledger.proofs.Rows.{and-true}
-use Rattle.ledger.proofs.Tests.{leb-is, leb-not, ltb-yes, ltb-no, eqb-not, and-left, and-right}
+use Rattle.ledger.proofs.Tests.{ltb-yes, eqb-not, and-left, and-right}
 use Rattle.layout.specs.declared.Table.the-variants.{Queue}
 use Rattle.layout.specs.Tables.{get}
 use Rattle.layout.specs.Picture.{slot, packetAt}
@@ -20,7 +19,7 @@ use Rattle.fits.specs.declared.Note.{Note}
 use Rattle.fits.specs.Fits.{queueAt, rangeTest, fieldsTest, properTest, ruleTest}
 use Rattle.fits.specs.Walk.{NoteOf}
 use Rattle.fits.proofs.Walk.{note-tests}
-use Rattle.whole.specs.Whole.{asks, fitsHere, packetFits}
+use Rattle.nodes.specs.Nodes.{asks, fitsHere, packetFits}
 
 module _ (S : Settings) (m : List ℕ) (p c x : ℕ) where
   -- what (d), (e) and (f) ask together is what each asks
