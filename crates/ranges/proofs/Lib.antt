@@ -1,3 +1,4 @@
 pub mod First
 pub mod Opening
 pub mod Items
+pub mod Slots

@@ -1,6 +1,6 @@
 -- Rule (b), item by item: the ports' last-served marks, then the map's entries, then the prefetch lists, port by port and queue by queue.
 -- Credits are in range by their width. Assumes nothing.
-use mathlib.Core.Bool.{Bool, cond}
+use mathlib.Core.Bool.{Bool, cond, _||_}
 use mathlib.Core.List.{List}
 use Prim.Native.Nat.{ℕ, _+_, _-_, _*_, _/_, _%_, _≤_, _<_}
 use lib.ListN.{length}
@@ -28,6 +28,10 @@ fitsAt S m i =
     (cond (ltb (i - S .ports) ids)
     (ltb (get S m Mapped (i - S .ports)) (S .ports))
     (leb (get S m Count (prefetchAt S (i - S .ports - ids))) (S .slots)))
+
+-- the same by a list's column among its port's: n nodes are few enough for it
+unfoldable pub fewAt : Settings → ℕ → ℕ → Bool
+fewAt S c n = ltb c (2 + S .queues) || leb n (S .slots)
 
 -- the first item that is not
 unfoldable pub rangesFound : Settings → List ℕ → Finding

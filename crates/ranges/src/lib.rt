@@ -11,7 +11,7 @@ ghost use Rattle.layout.specs.Tables.{settingsOf, Laid};
 ghost use Rattle.layout.specs.Picture.{settingsIn};
 ghost use Rattle.ranges.specs.First.{first};
 ghost use Rattle.ranges.specs.Opening.{settingsRaw, opened};
-ghost use Rattle.ranges.specs.Ranges.{items, fitsAt, prefetchAt, rangesFound, Held, Item};
+ghost use Rattle.ranges.specs.Ranges.{items, fitsAt, prefetchAt, fewAt, rangesFound, Held, Item};
 
 // What a memory is opened as: rule (a) holds, and the state has this shape; or it doesn't hold.
 pub enum Opened {
@@ -131,6 +131,18 @@ fn in_range(m: &[u8], s: Shape, i: usize) -> bool
     }
     let slots = s.slots;
     let count = layout::get4(m, s, Table::Count, prefetch_list(s, d - 4)) as usize;
+    count <= slots
+}
+
+// (b): whether a list of a port's column may have so many nodes. A prefetch list has no more than there are slots.
+pub fn few_enough(s: Shape, column: usize, count: u32) -> bool
+    requires { ⌜ Laid s ⌝ }
+    ensures { λ r. ⌜ r ≡ fewAt (settingsOf s) column count ⌝ }
+{
+    if column < 2 + s.queues {
+        return true;
+    }
+    let slots = s.slots as u32;
     count <= slots
 }
 

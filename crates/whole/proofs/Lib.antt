@@ -1,4 +1,3 @@
 pub mod SetMarks
 pub mod Walk
 pub mod Lists
-pub mod Slots

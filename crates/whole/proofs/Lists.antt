@@ -28,7 +28,8 @@ use Rattle.paid.specs.Paid.{addList, addFrom, sumsOf}
 use Rattle.paid.specs.Passes.{Sums, Payable}
 use Rattle.paid.proofs.Adding.{sums-more}
 use Rattle.paid.proofs.Passing.{list-start}
-use Rattle.whole.specs.Whole.{fewAt, setMarks, ListKept, Kept}
+use Rattle.ranges.specs.Ranges.{fewAt}
+use Rattle.whole.specs.Whole.{setMarks, ListKept, Kept}
 use Rattle.whole.specs.Walks.{most, AtList, AllLent, ListPassed}
 use Rattle.whole.proofs.SetMarks.{set-none, set-all, all-set, list-more}
 

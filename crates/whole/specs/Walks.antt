@@ -16,7 +16,8 @@ use Rattle.fits.specs.Fits.{fitsFrom, fitsFound}
 use Rattle.paid.specs.Paid.{addList, addFrom, sumsOf}
 use Rattle.paid.specs.Passes.{Sums}
 use Rattle.nodes.specs.Passes.{Lent}
-use Rattle.whole.specs.Whole.{fewAt, setMarks, Says, ListKept, Kept}
+use Rattle.ranges.specs.Ranges.{fewAt}
+use Rattle.whole.specs.Whole.{setMarks, Says, ListKept, Kept}
 
 -- what the nodes of a list may add, before it is known that none stands twice: 2^32 prices of a byte
 abbrev pub most : ℕ

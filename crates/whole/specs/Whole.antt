@@ -1,24 +1,19 @@
 -- Rules (c) to (g) in one walk of the lists: what the answer says. Assumes nothing.
 use mathlib.Core.Path.{_≡_}
-use mathlib.Core.Bool.{Bool, true, false, _||_}
+use mathlib.Core.Bool.{Bool, true, false}
 use mathlib.Core.List.{List, [], _∷_}
 use Prim.Native.Nat.{ℕ, _+_, _%_, _<_}
-use lib.Dec.{ltb, leb}
+use lib.Dec.{ltb}
 use Rattle.ledger.specs.declared.Finding.the-variants.{Whole}
 use Rattle.ledger.specs.Settings.{Settings, row}
 use Rattle.ledger.specs.Ready.{bit}
 use Rattle.layout.specs.declared.Table.the-variants.{Count}
 use Rattle.layout.specs.Tables.{lists, get}
+use Rattle.ranges.specs.Ranges.{fewAt}
 use Rattle.once.specs.Once.{right, onceFound}
 use Rattle.fits.specs.declared.NodeRule.{NodeRule}
 use Rattle.fits.specs.Fits.{listFound, fitsFound}
 use Rattle.paid.specs.Paid.{paidFound}
-
--- ---- a list in port p's column c
-
--- n nodes are few enough for it: a prefetch list has no more than there are slots
-unfoldable pub fewAt : Settings → ℕ → ℕ → Bool
-fewAt S c n = ltb c (2 + S .queues) || leb n (S .slots)
 
 -- ---- what is decided
 

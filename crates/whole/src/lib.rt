@@ -5,8 +5,8 @@ use layout::Shape;
 use layout::Table;
 use ledger::Finding;
 ghost use mathlib.Core.Path.{_≡_};
-ghost use Rattle.layout.specs.Tables.{settingsOf, Laid};
-ghost use Rattle.whole.specs.Whole.{fewAt, Says, Kept};
+ghost use Rattle.layout.specs.Tables.{settingsOf};
+ghost use Rattle.whole.specs.Whole.{Says, Kept};
 ghost use Rattle.whole.specs.Walks.{ListLent, PortLent, AllLent, ListPassed, PortPassed};
 
 // Walks list l, a port's column, from its head to its count, and answers whether each node passed and the last is the tail. The node after x
@@ -45,18 +45,6 @@ fn list_passes(
     last == tail
 }
 
-// (b): whether a list of a port's column may have so many nodes. A prefetch list has no more than there are slots.
-fn few_enough(s: Shape, column: usize, count: u32) -> bool
-    requires { ⌜ Laid s ⌝ }
-    ensures { λ r. ⌜ r ≡ fewAt (settingsOf s) column count ⌝ }
-{
-    if column < 2 + s.queues {
-        return true;
-    }
-    let slots = s.slots as u32;
-    count <= slots
-}
-
 // Walks the lists of a port, and answers whether each passed; the nodes that were met are counted on.
 fn port_passes(
     m: &[u8],
@@ -75,7 +63,7 @@ fn port_passes(
     while column < row {
         let l = first + column;
         let count = layout::get4(m, s, Table::Count, l);
-        if !few_enough(s, column, count) {
+        if !ranges::few_enough(s, column, count) {
             return false;
         }
         if !list_passes(m, s, l, count, port, column, marks, sums) {

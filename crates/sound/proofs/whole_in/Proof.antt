@@ -13,7 +13,7 @@ use Rattle.ranges.specs.Ranges.{fitsAt}
 use Rattle.ranges.proofs.Opening.{open-held}
 use Rattle.whole.specs.Whole.{Says, Kept}
 use Rattle.fits.proofs.Means.{none}
-use Rattle.whole.proofs.Slots.{low-ranges, ranges-low, ranges-few}
+use Rattle.ranges.proofs.Slots.{low-ranges, ranges-low, ranges-few}
 use Rattle.sound.specs.Sound.{Clean}
 use Rattle.sound.proofs.whole_in.Statement.{statement}
 use Rattle.sound.proofs.whole_in.Tie as tie

@@ -10,7 +10,7 @@ use Rattle.ledger.proofs.Tests.{true≢false}
 use Rattle.layout.specs.declared.Table.the-variants.{Count}
 use Rattle.layout.specs.Tables.{cells, lists, all, get, settingsOf}
 use Rattle.layout.proofs.Shapes.{few}
-use Rattle.whole.specs.Whole.{fewAt}
+use Rattle.ranges.specs.Ranges.{fewAt}
 use Rattle.whole.specs.Walks.{AtList}
 use Rattle.whole.proofs.SetMarks.{set-le}
 use Rattle.whole.proofs.Lists.{list-in, port-is, column-is, lists-many, lists-no, lists-next}

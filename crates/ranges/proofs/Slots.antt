@@ -15,11 +15,10 @@ use Rattle.ledger.proofs.Tests.{ltb-no, ltb-not}
 use Rattle.ledger.proofs.Places.{row-lt, row-mod}
 use Rattle.layout.specs.declared.Table.the-variants.{Count}
 use Rattle.layout.specs.Tables.{lists, get}
 use Rattle.ranges.specs.First.{first}
-use Rattle.ranges.specs.Ranges.{prefetchAt, items, fitsAt, rangesFound}
+use Rattle.ranges.specs.Ranges.{prefetchAt, items, fitsAt, fewAt, rangesFound}
 use Rattle.ranges.proofs.First.{first-all}
 use Rattle.ranges.proofs.Items.{fits-count, prefetch-lt, prefetch-is}
-use Rattle.whole.specs.Whole.{fewAt}
 
 module _ (S : Settings) (m : List ℕ) (R : Roomy S) where
   -- the marks and the map are in range

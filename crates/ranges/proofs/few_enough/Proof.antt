@@ -1,10 +1,10 @@
--- `whole::few_enough` meets its contract. Assumes nothing.
+-- `ranges::few_enough` meets its contract. Assumes nothing.
 use Prim.Native.Nat.{_+_}
 use borrow.Author.Needs.{needs}
 use borrow.Author.Tests.{lt-ltb, le-ltb}
-use Rattle.whole.specs.Whole.{fewAt}
-use Rattle.whole.proofs.few_enough.Statement.{statement}
-use Rattle.whole.proofs.few_enough.Tie as tie
+use Rattle.ranges.specs.Ranges.{fewAt}
+use Rattle.ranges.proofs.few_enough.Statement.{statement}
+use Rattle.ranges.proofs.few_enough.Tie as tie
 
 add-if1 : tie.Need-add-if1
 add-if1 c = search needs
