@@ -8,7 +8,7 @@ use model::{size, Call, Ledger, Model, Reply, Settings, PORTS, QUEUES, ROUND_BYT
 use traffic::{header, Profile, Random, Traffic};
 
 use crate::cut::cut_down;
-use crate::reader::{self, Tables, LISTS};
+use crate::reader::{self, Tables, LISTS, LISTS_PER_PORT};
 use crate::run::Pair;
 use crate::{changes_nothing, difference, Desk};
 
@@ -181,20 +181,29 @@ fn place(random: &mut Random, tables: &Tables) -> usize {
     from + random.below((to - from) as u32) as usize
 }
 
-/// Two whole lists changed for each other: every node still stands once.
-fn swapped_lists(random: &mut Random, memory: &[u8], tables: &Tables) -> Vec<(usize, u8)> {
-    let mut any = || {
-        let mut list = random.below(LISTS as u32) as usize;
-        // One with nodes, if it is found soon.
-        for _ in 0..40 {
-            if tables.count.get(memory, list) > 0 {
-                break;
-            }
-            list = random.below(LISTS as u32) as usize;
+/// A list of at least so many nodes, if one is found soon: any, or an egress
+/// list.
+fn some_list(
+    random: &mut Random,
+    memory: &[u8],
+    tables: &Tables,
+    least: u32,
+    egress: bool,
+) -> usize {
+    let mut list = 0;
+    for _ in 0..40 {
+        list = random.below(LISTS as u32) as usize;
+        let column = (list % LISTS_PER_PORT) as u32;
+        let wanted = !egress || (2..2 + QUEUES).contains(&column);
+        if wanted && tables.count.get(memory, list) >= least {
+            break;
         }
-        list
-    };
-    let (one, other) = (any(), any());
+    }
+    list
+}
+
+/// Two whole lists changed for each other: every node still stands once.
+fn swapped(memory: &[u8], tables: &Tables, one: usize, other: usize) -> Vec<(usize, u8)> {
     let mut changes = Vec::new();
     for table in [tables.head, tables.tail, tables.count] {
         for byte in 0..table.width {
@@ -206,8 +215,53 @@ fn swapped_lists(random: &mut Random, memory: &[u8], tables: &Tables) -> Vec<(us
     changes
 }
 
-/// Changes that make a difference: flips, swaps, steps and copies.
-fn changes(random: &mut Random, memory: &[u8], tables: &Tables) -> Vec<Change> {
+/// A list whose first node follows itself, and is its tail: one node as often
+/// as the count says, and the others in no list.
+fn stuck(memory: &[u8], tables: &Tables, list: usize, nodes: usize) -> Vec<(usize, u8)> {
+    let head = tables.head.get(memory, list) as usize;
+    let element = head / 2048 * nodes + head % 2048;
+    let two = |at: usize| [(at, (head >> 8) as u8), (at + 1, head as u8)];
+    let mut changes = two(tables.tail.start + 2 * list).to_vec();
+    // Of damage before this one, the head may be no node.
+    if tables.next.start + 2 * element + 2 <= tables.length.start {
+        changes.extend(two(tables.next.start + 2 * element));
+    }
+    changes
+}
+
+/// The first free node of a port, taken over by the free list of the port
+/// before it, under an id of that port that is past its nodes: no node's id,
+/// though it leads to the same element.
+fn renamed(memory: &[u8], tables: &Tables, port: usize, nodes: usize) -> Vec<(usize, u8)> {
+    let (from, to) = (port * LISTS_PER_PORT, (port - 1) * LISTS_PER_PORT);
+    let (count, index) = (
+        tables.count.get(memory, from),
+        tables.head.get(memory, from) as usize % 2048,
+    );
+    if count == 0 || index >= nodes || nodes + index >= 2048 {
+        return Vec::new();
+    }
+    let mut damaged = memory.to_vec();
+    let (alias, element) = ((port - 1) * 2048 + nodes + index, port * nodes + index);
+    let behind = tables.next.get(memory, element);
+    tables.head.set(&mut damaged, from, behind);
+    tables.count.set(&mut damaged, from, count - 1);
+    let others = tables.count.get(memory, to);
+    tables
+        .next
+        .set(&mut damaged, element, tables.head.get(memory, to));
+    tables.head.set(&mut damaged, to, alias as u32);
+    if others == 0 {
+        tables.tail.set(&mut damaged, to, alias as u32);
+    }
+    tables.count.set(&mut damaged, to, others.wrapping_add(1));
+    let differ = (0..memory.len()).filter(|&at| memory[at] != damaged[at]);
+    differ.map(|at| (at, damaged[at])).collect()
+}
+
+/// Changes that make a difference: flips, swaps, steps and copies, and lists
+/// that are wrong as a whole.
+fn changes(random: &mut Random, memory: &[u8], tables: &Tables, nodes: usize) -> Vec<Change> {
     let mut changes = Vec::new();
     let mut damaged = memory.to_vec();
     let times = random.pick(&[1, 1, 1, 1, 2, 2, 3, 5]);
@@ -216,14 +270,29 @@ fn changes(random: &mut Random, memory: &[u8], tables: &Tables) -> Vec<Change> {
         let other = place(random, tables);
         let old = damaged[at];
         let flip = 1u8 << random.below(8);
-        let new = match random.below(9) {
+        let new = match random.below(12) {
             0 | 1 => vec![(at, old ^ flip)],
             2 => vec![(at, random.word() as u8)],
             3 => vec![(at, damaged[other]), (other, old)],
             4 => vec![(at, old.wrapping_add(1))],
             5 => vec![(at, old.wrapping_sub(1))],
             6 => vec![(at, random.pick(&[0, 1, 0x80, 0xFF]))],
-            7 => swapped_lists(random, &damaged, tables),
+            7 => {
+                let one = some_list(random, &damaged, tables, 1, false);
+                let other = some_list(random, &damaged, tables, 1, false);
+                swapped(&damaged, tables, one, other)
+            }
+            8 => {
+                // What waits for a queue in its slots: more than there are, perhaps.
+                let egress = some_list(random, &damaged, tables, 2, true);
+                let other = (egress + QUEUES as usize) % LISTS;
+                swapped(&damaged, tables, egress, other)
+            }
+            9 => {
+                let list = some_list(random, &damaged, tables, 2, false);
+                stuck(&damaged, tables, list, nodes)
+            }
+            10 => renamed(&damaged, tables, random.among(1, PORTS - 1) as usize, nodes),
             _ => {
                 // Two bytes over two others: a number from elsewhere.
                 let (at, other) = (at & !1, other & !1);
@@ -421,8 +490,9 @@ pub fn run_with<D: Desk>(
             Some(ledger) => ledger,
             None => continue,
         };
-        let tables = Tables::of(ledger.settings.nodes as usize);
-        let changes = changes(&mut random, pair.memory(), &tables);
+        let nodes = ledger.settings.nodes as usize;
+        let tables = Tables::of(nodes);
+        let changes = changes(&mut random, pair.memory(), &tables, nodes);
         let calls = one_of_each(&mut random, ledger);
         // Now and then less memory is lent than the state needs, too.
         let lent = if random.one_in(24) {

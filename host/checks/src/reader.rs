@@ -6,7 +6,7 @@ use model::ledger::entry_id;
 use model::{size, Ledger, ListKind, Model, Packet, Settings, PORTS, QUEUES};
 
 const CREDITS: usize = (PORTS * (QUEUES - 1)) as usize;
-const LISTS_PER_PORT: usize = 2 * QUEUES as usize + 2;
+pub const LISTS_PER_PORT: usize = 2 * QUEUES as usize + 2;
 pub const LISTS: usize = PORTS as usize * LISTS_PER_PORT;
 
 /// A table: where it starts and how wide an element is.
