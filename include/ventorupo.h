@@ -33,7 +33,7 @@
  * that one of them may change.
  *
  * A call takes up to 9,946 bytes of stack, whatever the nodes (measured on x86-64, not proved): the test for a state keeps a mark for
- * each of up to 8,192 nodes there, and a sum for each port and queue.
+ * each of up to 8,192 nodes there, and a sum for each port and queue but 0.
  *
  * Numbers that are lent for an answer (uint16_t *, uint32_t *, uint64_t *) are the machine's own; the rooms of bytes are big-endian.
  *

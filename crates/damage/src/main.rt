@@ -1,6 +1,6 @@
 // The calls and the test of the seven rules against an independent model: for eight settings, 300 steps of traffic, a line for the memory
-// that they leave, then a line for each of 400 damages of one byte. The model, tools/damage_model.py, wrote this program's stdout. A line
-// where the test for a state and the first broken rule disagree would have a "?" more.
+// that they leave, then a line for each of 400 damages of one byte. The model, tools/damage_model.py, wrote this program's stdout. A
+// damage's line where the test for a state and the first broken rule disagree would have a "?" more.
 use setup::Settings;
 use sound::Broken;
 use sound::Tested;

@@ -19,7 +19,7 @@ use Rattle.layout.specs.declared.Table.the-variants.{Head, Count, Next}
 use Rattle.layout.specs.Tables.{lists, get}
 use Rattle.layout.specs.Picture.{slot, chain, nodesOf, nodeIn, tabulate, ledgerIn, StateOf}
 use Rattle.memory.specs.Memory.{acted}
-use Rattle.memory.proofs.Chains.{shown, item-node, length-lists, members, state-tidy}
+use Rattle.memory.proofs.Chains.{shown, item-node, length-lists, members, state-tidy, chain-front}
 use Rattle.finds.specs.declared.Step.the-variants.{At, NotThere}
 use Rattle.finds.specs.declared.Spot.{Spot}
 use Rattle.finds.specs.declared.Spot.the-variants.{In, Nowhere}
@@ -61,20 +61,16 @@ module _ (S : Settings) (m : List ℕ) (x : ℕ) where
       sym (w .rest ∙ ap (λ (n : ℕ). walked x i (chain S m n y)) e)
 
   module _ (l y i : ℕ) (w : Walking l y i) (h : i < get S m Count l) where
-    front : chain S m (get S m Count l - i) y ≡ y ∷ chain S m (get S m Count l - (i + 1)) (get S m Next (slot S y))
-    unfolding chain
-    front = let e : get S m Count l - i ≡ suc (get S m Count l - (i + 1)) = omega arith in ap (λ (n : ℕ). chain S m n y) e
-
     pub walk-node : isNode S y ≡ true
-    walk-node = rw front at (w .nodes) .0
+    walk-node = rw (chain-front S m (get S m Count l) i y h) at (w .nodes) .0
 
     pub walk-meets : y ≡ x → At i ≡ walked x 0 (nodesOf S m l)
     unfolding walked
-    walk-meets e = sym (w .rest ∙ rw (front, eqb-is y x e))
+    walk-meets e = sym (w .rest ∙ rw ((chain-front S m (get S m Count l) i y h), eqb-is y x e))
 
     pub walk-goes : (y ≡ x → ⊥) → Walking l (get S m Next (slot S y)) (i + 1)
     unfolding walked
-    walk-goes n = record { low = omega arith; rest = w .rest ∙ rw (front, eqb-not y x n, add-one); nodes = rw front at (w .nodes) .1 }
+    walk-goes n = record { low = omega arith; rest = w .rest ∙ rw ((chain-front S m (get S m Count l) i y h), eqb-not y x n, add-one); nodes = rw (chain-front S m (get S m Count l) i y h) at (w .nodes) .1 }
 
   -- ---- the search: at list l, what is found in all lists is what is found in the rest
 

@@ -2,7 +2,7 @@
 use mathlib.Core.Path.{_≡_, refl, sym, ap}
 use mathlib.Core.Bool.{Bool, true, false, cond, _||_}
 use mathlib.Core.List.{List, [], _∷_}
-use Prim.Native.Nat.{ℕ, zero, suc, _+_, _-_, _/_, _%_, _^_, _≤_, _<_}
+use Prim.Native.Nat.{ℕ, suc, _+_, _-_, _/_, _%_, _^_, _≤_, _<_}
 use native.Mathlib.Numerals.{add-one}
 use native.Mathlib.Omega.{arith}
 use lib.Dec.{leb, ltb}
@@ -20,7 +20,7 @@ use Rattle.layout.specs.Tables.{lists, get, settingsOf}
 use Rattle.layout.specs.Picture.{slot, chain, nodesOf, packetAt}
 use Rattle.layout.specs.Access.{Reads}
 use Rattle.memory.specs.Ends.{Tidy}
-use Rattle.memory.proofs.Chains.{members, slot-lt}
+use Rattle.memory.proofs.Chains.{members, slot-lt, chain-more}
 use Rattle.fits.specs.declared.NodeRule.{NodeRule}
 use Rattle.fits.specs.declared.Note.{Note}
 use Rattle.fits.specs.Fits.{spared, rangeTest, fieldsTest, properTest, ruleTest, nodeTest, firstBad, orElse, listFound, fitsFrom, fitsFound}
@@ -72,11 +72,6 @@ left-start rule S m l tidy h e = record {
   nodes = members S m tidy l h;
 }
 
-chain-next : (S : Settings) (m : List ℕ) (n x : ℕ) → 0 < n → chain S m n x ≡ x ∷ chain S m (n - 1) (get S m Next (slot S x))
-unfolding chain
-chain-next S m zero x h = absurd (omega arith)
-chain-next S m (suc n) x h = let e : suc n - 1 ≡ n = omega arith in rw e
-
 module _ {t : ℕ → Bool} {S : Settings} {m : List ℕ} {whole : Finding} {n x : ℕ} (left : Left t S m whole n x) where
   pub left-none : n ≤ 0 → Whole ≡ whole
   unfolding firstBad chain
@@ -84,17 +79,17 @@ module _ {t : ℕ → Bool} {S : Settings} {m : List ℕ} {whole : Finding} {n x
 
   module _ (some : 0 < n) where
     pub left-node : isNode S x ≡ true
-    left-node = rw (chain-next S m n x some) at (left .nodes) .0
+    left-node = rw (chain-more S m n x some) at (left .nodes) .0
 
     front : cond (t x) (firstBad t (chain S m (n - 1) (get S m Next (slot S x)))) (At x) ≡ whole
     unfolding firstBad
-    front = rw (chain-next S m n x some) at (left .rest)
+    front = rw (chain-more S m n x some) at (left .rest)
 
     pub left-bad : t x ≡ false → At x ≡ whole
     left-bad e = rw e at front
 
     pub left-next : t x ≡ true → Left t S m whole (n - 1) (get S m Next (slot S x))
-    left-next e = record { rest = rw e at front; nodes = rw (chain-next S m n x some) at (left .nodes) .1 }
+    left-next e = record { rest = rw e at front; nodes = rw (chain-more S m n x some) at (left .nodes) .1 }
 
 -- ---- the lists
 

@@ -1,4 +1,5 @@
-// Rules (d), (e) and (f) of a sound ledger, on memory whose lists hang together: one walk of the lists, which asks each node one test.
+// Rules (d), (e) and (f) of a switch state: what each asks of a node, whatever the lists are; and on memory whose lists hang together, the
+// first node that fails one of them.
 use layout::Shape;
 use layout::Table;
 use ledger::Finding;

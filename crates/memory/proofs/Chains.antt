@@ -122,6 +122,15 @@ module _ (S : Settings) (m : List ℕ) where
   unfolding nodesOf
   nodes-length l = chain-length (get S m Count l) (get S m Head l)
 
+  -- a chain that goes on, with n nodes to go, or with i of n behind
+  pub chain-more : (n x : ℕ) → 0 < n → chain S m n x ≡ x ∷ chain S m (n - 1) (get S m Next (slot S x))
+  unfolding chain
+  chain-more n x h = let e : n ≡ suc (n - 1) = omega arith in ap (λ (k : ℕ). chain S m k x) e
+
+  pub chain-front : (n i x : ℕ) → i < n → chain S m (n - i) x ≡ x ∷ chain S m (n - (i + 1)) (get S m Next (slot S x))
+  unfolding chain
+  chain-front n i x h = let e : n - i ≡ suc (n - (i + 1)) = omega arith in ap (λ (k : ℕ). chain S m k x) e
+
   -- a list that is not empty, as a chain and from its front
   pub nodes-full : (l : ℕ) → 0 < get S m Count l → nodesOf S m l ≡ chain S m (suc (get S m Count l - 1)) (get S m Head l)
   unfolding nodesOf

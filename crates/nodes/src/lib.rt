@@ -8,7 +8,7 @@ ghost use Rattle.layout.specs.Tables.{settingsOf};
 ghost use Rattle.fits.specs.Fits.{queueAt};
 ghost use Rattle.nodes.specs.Passes.{PacketLent, PacketPassed, NodeLent, NodePassed};
 
-// (d): a node in a port's free or ingress list is the port's.
+// (d), which spares the lists of queues: the node is the port's.
 fn port_fits(port: usize, column: usize, x: u16) -> bool
     ensures { λ r. ⌜ r ≡ (leb 2 column || eqb (owner x) port) ⌝ }
 {
@@ -18,7 +18,7 @@ fn port_fits(port: usize, column: usize, x: u16) -> bool
     fits::own_port(port, x)
 }
 
-// (e): a node in an egress or a prefetch list has the list's queue.
+// (e), which spares the free and the ingress list: the node has the list's queue.
 fn queue_fits(s: Shape, column: usize, queue: usize) -> bool
     ensures { λ r. ⌜ r ≡ (ltb column 2 || eqb queue (queueAt (settingsOf s) column)) ⌝ }
 {

@@ -2,7 +2,7 @@
 use mathlib.Core.Path.{_≡_, refl, sym, ap, _∙_}
 use mathlib.Core.Logic.{_≢_}
 use mathlib.Core.Bool.{true, false}
-use mathlib.Core.List.{List, _∷_}
+use mathlib.Core.List.{List}
 use Prim.Native.Nat.{ℕ, suc, _+_, _-_, _≤_, _<_}
 use native.Mathlib.Numerals.{add-one}
 use native.Mathlib.Omega.{arith}
@@ -15,6 +15,7 @@ use Rattle.ledger.proofs.Tests.{ltb-is}
 use Rattle.layout.specs.declared.Table.the-variants.{Head, Tail, Count, Next}
 use Rattle.layout.specs.Tables.{lists, all, get}
 use Rattle.layout.specs.Picture.{slot, chain, nodesOf}
+use Rattle.memory.proofs.Chains.{chain-more}
 use Rattle.once.specs.Once.{isNew, mark, allNew, markAll, ends, right, unmarked, scan, onceFound}
 use Rattle.once.specs.Walks.{Scanning}
 use Rattle.once.proofs.Marks.{length-mark}
@@ -22,10 +23,6 @@ use Rattle.once.proofs.Marks.{length-mark}
 -- ---- the nodes of a list
 
 module _ (S : Settings) (m : List ℕ) where
-  pub chain-more : (n x : ℕ) → 0 < n → chain S m n x ≡ x ∷ chain S m (n - 1) (get S m Next (slot S x))
-  unfolding chain
-  chain-more n x h = let e : n ≡ suc (n - 1) = omega arith in ap (λ (k : ℕ). chain S m k x) e
-
   -- the walk of list l stands at node x, behind the node `last`, with `left` nodes to go
   pub record Walking (ms₀ : List ℕ) (l : ℕ) (ms : List ℕ) (left x last : ℕ) : Type 0 where
     pub fits : length ms ≡ all S

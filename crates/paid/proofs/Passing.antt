@@ -1,7 +1,7 @@
 -- Where the passes over a list's nodes and over the lists stand, and what they ask on the way. Assumes nothing.
 use mathlib.Core.Path.{_≡_, refl, sym, ap, _∙_}
 use mathlib.Core.Logic.{_≢_}
-use mathlib.Core.List.{List, [], _∷_}
+use mathlib.Core.List.{List, []}
 use Prim.Native.Nat.{ℕ, zero, suc, _+_, _-_, _*_, _%_, _^_, _≤_, _<_}
 use native.Mathlib.Numerals.{add-one}
 use native.Mathlib.Omega.{arith}
@@ -12,12 +12,12 @@ use Rattle.ledger.specs.Sound.{All, Roomy}
 use Rattle.ledger.proofs.Places.{cell-lt}
 use Rattle.layout.specs.declared.Shape.{Shape}
 use Rattle.layout.specs.declared.Table.{Table}
-use Rattle.layout.specs.declared.Table.the-variants.{Head, Count, Next}
+use Rattle.layout.specs.declared.Table.the-variants.{Head, Count}
 use Rattle.layout.specs.Tables.{cells, lists, all, many, width, get, settingsOf}
 use Rattle.layout.specs.Picture.{slot, chain, nodesOf}
 use Rattle.layout.specs.Access.{Reads}
 use Rattle.layout.proofs.Shapes.{few}
-use Rattle.memory.proofs.Chains.{node-from, slot-lt, total-bound}
+use Rattle.memory.proofs.Chains.{node-from, slot-lt, chain-front, total-bound}
 use Rattle.paid.specs.Paid.{addNode, addAll, addList, addFrom, sumsOf}
 use Rattle.paid.specs.Passes.{Payable, Sums, listMost, Counted, Adds, Added, AddsList}
 use Rattle.paid.proofs.Adding.{counted, used-list, sums-more, zero-sums, add-sums, list-sums}
@@ -53,10 +53,6 @@ module _ {s : Shape} {m sums : List ℕ} {x : ℕ} (a : Adds s m sums x) where
 
 pub list-reads : {k : ℕ} {s : Shape} {m sums : List ℕ} {l : ℕ} → AddsList s m sums l → (t : Table) → width t ≡ k → many (settingsOf s) t ≡ lists (settingsOf s) → Reads k s t l m
 list-reads a t w n = record { laid = a .laid; long = a .payable .tidy .long; wide = w; inside = rw n (a .inside) }
-
-chain-front : (S : Settings) (m : List ℕ) (n i x : ℕ) → i < n → chain S m (n - i) x ≡ x ∷ chain S m (n - (i + 1)) (get S m Next (slot S x))
-unfolding chain
-chain-front S m n i x h = let e : n - i ≡ suc (n - (i + 1)) = omega arith in ap (λ (k : ℕ). chain S m k x) e
 
 chain-end : (S : Settings) (m : List ℕ) (n i x : ℕ) → n ≤ i → chain S m (n - i) x ≡ []
 unfolding chain

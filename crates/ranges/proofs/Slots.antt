@@ -16,7 +16,7 @@ use Rattle.ledger.proofs.Places.{row-lt, row-mod}
 use Rattle.layout.specs.declared.Table.the-variants.{Count}
 use Rattle.layout.specs.Tables.{lists, get}
 use Rattle.ranges.specs.First.{first}
-use Rattle.ranges.specs.Ranges.{prefetchAt, items, fitsAt, fewAt, rangesFound}
+use Rattle.ranges.specs.Ranges.{prefetchAt, items, fitsAt, fewAt, fewIn, rangesFound}
 use Rattle.ranges.proofs.First.{first-all}
 use Rattle.ranges.proofs.Items.{fits-count, prefetch-lt, prefetch-is}
 
@@ -27,7 +27,7 @@ module _ (S : Settings) (m : List ℕ) (R : Roomy S) where
 
   -- and no prefetch list is longer than there are slots
   abbrev pub Few : Type 0
-  Few = (l : ℕ) → l < lists S → fewAt S (l % row S) (get S m Count l) ≡ true
+  Few = (l : ℕ) → l < lists S → fewIn S m l ≡ true
 
   prefetch-column : (j : ℕ) → prefetchAt S j % row S ≡ suc (suc (S .queues + j % S .queues))
   unfolding prefetchAt place# row

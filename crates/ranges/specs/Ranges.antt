@@ -6,7 +6,7 @@ use Prim.Native.Nat.{ℕ, _+_, _-_, _*_, _/_, _%_, _≤_, _<_}
 use lib.ListN.{length}
 use lib.Dec.{ltb, leb}
 use Rattle.ledger.specs.declared.Finding.{Finding}
-use Rattle.ledger.specs.Settings.{Settings, ids, size}
+use Rattle.ledger.specs.Settings.{Settings, ids, row, size}
 use Rattle.ledger.specs.Ledger.{prefetched, place#}
 use Rattle.layout.specs.declared.Shape.{Shape}
 use Rattle.layout.specs.declared.Table.the-variants.{Mapped, Last, Count}
@@ -32,6 +32,9 @@ fitsAt S m i =
 -- the same by a list's column among its port's: n nodes are few enough for it
 unfoldable pub fewAt : Settings → ℕ → ℕ → Bool
 fewAt S c n = ltb c (2 + S .queues) || leb n (S .slots)
+
+abbrev pub fewIn : Settings → List ℕ → ℕ → Bool
+fewIn S m l = fewAt S (l % row S) (get S m Count l)
 
 -- the first item that is not
 unfoldable pub rangesFound : Settings → List ℕ → Finding

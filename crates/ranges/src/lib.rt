@@ -142,8 +142,8 @@ pub fn few_enough(s: Shape, column: usize, count: u32) -> bool
     if column < 2 + s.queues {
         return true;
     }
-    let slots = s.slots as u32;
-    count <= slots
+    let held = count as usize;
+    held <= s.slots
 }
 
 // The first of the first n items that is out of range: the marks and the map come first, so they can be tested by themselves.

@@ -5,7 +5,7 @@ ghost use mathlib.Core.Path.{_≡_};
 ghost use Rattle.sound.specs.Sound.{brokenIn, testedIn};
 ghost use Rattle.rules.specs.Numbers.{testNumber, ruleNumber};
 
-// What every call asks first: 0 for a switch state, else 3, the number of the refusal.
+// What every call but setup asks first: 0 for a switch state, else 3, the number of the refusal.
 #[no_mangle]
 pub extern "C" fn rule_test(mem: &[u8]) -> u32
     ensures { λ r. ⌜ r ≡ testNumber (testedIn (now (mem .entry))) ⌝ }

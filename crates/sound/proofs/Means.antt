@@ -101,7 +101,7 @@ module _ (m : List ℕ) (s : Shape) where
     pub passed-once : onceFound (settingsOf s) m ≡ whole → Tidy (settingsOf s) m
     passed-once e = found-tidy (settingsOf s) m (rw (o .settings-are) (o .long)) e
 
-    pub clean-state : Clean (settingsOf s) m → StateOf (settingsOf s) m
+    clean-state : Clean (settingsOf s) m → StateOf (settingsOf s) m
     clean-state k =
         let S : Settings = settingsOf s in
         let w = found-whole S m (k .once) in
@@ -124,7 +124,7 @@ module _ (m : List ℕ) (s : Shape) where
           };
         }
 
-pub state-clean : (S : Settings) (m : List ℕ) → StateOf S m → Clean S m
+state-clean : (S : Settings) (m : List ℕ) → StateOf S m → Clean S m
 state-clean S m t =
     let R = roomy S (t .sound .rows) in
     let o = t .sound .orderly in
@@ -159,7 +159,7 @@ module _ (m : List ℕ) where
   works-state : (s : Shape) → Works s m → picture.State m
   works-state s w = subst (λ (S : Settings). StateOf S m) (w .settings-are) (w .state)
 
-  pub tested-is : (s : Shape) → Works s m → State s ≡ testedIn m
+  tested-is : (s : Shape) → Works s m → State s ≡ testedIn m
   unfolding testedIn
   tested-is s w = go (state-dec m)
     where
@@ -171,7 +171,7 @@ module _ (m : List ℕ) where
   pub clean-tested : (s : Shape) → Open m s → Clean (settingsOf s) m → State s ≡ testedIn m
   clean-tested s o k = tested-is s (record { laid = o .laid; settings-are = o .settings-are; state = clean-state m s o k })
 
-  pub tested-not : (picture.State m → ⊥) → NoState ≡ testedIn m
+  tested-not : (picture.State m → ⊥) → NoState ≡ testedIn m
   unfolding testedIn
   tested-not n = go (state-dec m)
     where

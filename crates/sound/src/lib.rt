@@ -1,4 +1,5 @@
-// Is a memory of any bytes a switch state? The seven rules in the paper's order, up to the first that is broken.
+// Is a memory of any bytes a switch state? For a call, all seven rules by one walk of the lists; for whoever asks what is wrong, the rules in
+// the paper's order, a walk each, up to the first that is broken.
 use fits::NodeRule;
 use layout::Shape;
 use ledger::Finding;
@@ -144,8 +145,8 @@ fn whole_in(m: &[u8], s: Shape) -> bool
     requires { ⌜ Open (now m) s ⌝ }
     ensures { λ r. ⌜ Says (Clean (settingsOf s) (now (m .entry))) r ⌝ }
 {
-    let marks = s.ports + 4;
-    if let Finding::At(_) = ranges::first_outside(m, s, marks) {
+    let items = s.ports + 4;
+    if let Finding::At(_) = ranges::first_outside(m, s, items) {
         return false;
     }
     let all = s.all;

@@ -28,9 +28,9 @@ use Rattle.paid.specs.Paid.{addList, addFrom, sumsOf}
 use Rattle.paid.specs.Passes.{Sums, Payable}
 use Rattle.paid.proofs.Adding.{sums-more}
 use Rattle.paid.proofs.Passing.{list-start}
-use Rattle.ranges.specs.Ranges.{fewAt}
-use Rattle.whole.specs.Whole.{setMarks, ListKept, Kept}
-use Rattle.whole.specs.Walks.{most, AtList, AllLent, ListPassed}
+use Rattle.ranges.specs.Ranges.{fewIn}
+use Rattle.whole.specs.Whole.{ListKept, Kept}
+use Rattle.whole.specs.Walks.{countMost, setMarks, AtList, AllLent, ListPassed}
 use Rattle.whole.proofs.SetMarks.{set-none, set-all, all-set, list-more}
 
 pub lists-start : {s : Shape} {m ms sums : List ℕ} {l : ℕ} → AllLent s m ms sums → l ≡ 0 → AtList (settingsOf s) m ms sums l 0
@@ -43,7 +43,7 @@ lists-start {s} {m} {ms} {sums} a e =
       slots = λ i h. absurd (omega arith);
       fits = λ rule. fits-start rule S m;
       add = w .rest;
-      held = sums-more S sums _ (most * 0) (omega arith) (w .held);
+      held = sums-more S sums _ (countMost * 0) (omega arith) (w .held);
     })
 
 -- ---- the place of a list, which is port p's column c
@@ -73,18 +73,18 @@ module _ {S : Settings} {m ms sums : List ℕ} {l n : ℕ} (W : AtList S m ms su
         fits rule (At x) e = absurd (none x (sym (fits-stop rule S m l some x e) ∙ W .fits rule ∙ k .fits rule))
 
     -- nor where it has too many nodes
-    pub lists-many : fewAt S (l % row S) (get S m Count l) ≡ false → Kept S m → ⊥
+    pub lists-many : fewIn S m l ≡ false → Kept S m → ⊥
     lists-many e k = true≢false (sym (k .slots l some) ∙ e)
 
-    few-next : fewAt S (l % row S) (get S m Count l) ≡ true → (i : ℕ) → i < l + 1 → fewAt S (i % row S) (get S m Count i) ≡ true
+    few-next : fewIn S m l ≡ true → (i : ℕ) → i < l + 1 → fewIn S m i ≡ true
     few-next e i h = go (ℕ-discrete l i)
       where
-        go : Dec (l ≡ i) → fewAt S (i % row S) (get S m Count i) ≡ true
+        go : Dec (l ≡ i) → fewIn S m i ≡ true
         go (yes q) = rw (← q) e
         go (no d) = W .slots i (omega arith)
 
-    next : fewAt S (l % row S) (get S m Count l) ≡ true → ListKept S m ms l → (ms′ sums′ : List ℕ) → length ms′ ≡ length ms
-        → ms′ ≡ markAll S ms (nodesOf S m l) → sums′ ≡ addList S m sums l → Sums S sums′ (most * (l + 1))
+    next : fewIn S m l ≡ true → ListKept S m ms l → (ms′ sums′ : List ℕ) → length ms′ ≡ length ms
+        → ms′ ≡ markAll S ms (nodesOf S m l) → sums′ ≡ addList S m sums l → Sums S sums′ (countMost * (l + 1))
         → AtList S m ms′ sums′ (l + 1) (n + get S m Count l)
     unfolding addFrom
     next f k ms′ sums′ long e a h =
@@ -99,7 +99,7 @@ module _ {S : Settings} {m ms sums : List ℕ} {l n : ℕ} (W : AtList S m ms su
         }
 
     -- where it is kept, the walk stands at the next
-    pub lists-next : {ms′ sums′ : List ℕ} {r : Bool} {l′ k : ℕ} → fewAt S (l % row S) (get S m Count l) ≡ true → length ms′ ≡ length ms
+    pub lists-next : {ms′ sums′ : List ℕ} {r : Bool} {l′ k : ℕ} → fewIn S m l ≡ true → length ms′ ≡ length ms
         → ListPassed S m l ms sums ms′ sums′ r → r ≡ true → l′ ≡ l + 1 → k ≡ get S m Count l → AtList S m ms′ sums′ l′ (n + k)
     lists-next f long t y at count = rw (at, count) (next f (t .answer .yes y) _ _ long (t .marks y) (t .added y) (t .held y))
 
@@ -112,7 +112,7 @@ module _ {S : Settings} {m ms sums : List ℕ} {l n : ℕ} (W : AtList S m ms su
     unfolding addFrom
     end-sums = let none : lists S - l ≡ 0 = omega arith in rw none at (W .add)
 
-    pub end-slots : (i : ℕ) → i < lists S → fewAt S (i % row S) (get S m Count i) ≡ true
+    pub end-slots : (i : ℕ) → i < lists S → fewIn S m i ≡ true
     end-slots i h = W .slots i (omega arith)
 
     pub end-once : n ≡ all S → onceFound S m ≡ Whole

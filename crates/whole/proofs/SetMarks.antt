@@ -18,7 +18,7 @@ use Rattle.layout.specs.Picture.{slot, nodesOf}
 use Rattle.memory.proofs.Chains.{slot-lt, nodes-length}
 use Rattle.once.specs.Once.{isNew, mark, allNew, markAll, ends, right, unmarked}
 use Rattle.once.proofs.Marks.{length-mark, New, new}
-use Rattle.whole.specs.Whole.{setMarks}
+use Rattle.whole.specs.Walks.{setMarks}
 
 pub set-none : (n : ℕ) → setMarks (replicate n 0) ≡ 0
 unfolding setMarks

@@ -16,7 +16,8 @@ use Rattle.layout.proofs.Tables.{get-lt}
 use Rattle.layout.proofs.Shapes.{few}
 use Rattle.once.specs.Once.{isNew, mark, markAll, right}
 use Rattle.once.proofs.Means.{passed}
-use Rattle.once.proofs.Walk.{chain-more, Walking, walk-stuck, walk-step, walk-end}
+use Rattle.memory.proofs.Chains.{chain-more}
+use Rattle.once.proofs.Walk.{Walking, walk-stuck, walk-step, walk-end}
 use Rattle.fits.specs.declared.NodeRule.{NodeRule}
 use Rattle.fits.specs.Fits.{nodeTest, firstBad, listFound}
 use Rattle.paid.specs.Paid.{addNode, addAll, addList}
@@ -25,7 +26,7 @@ use Rattle.paid.proofs.Adding.{sums-more, add-sums}
 use Rattle.nodes.specs.Nodes.{fitsHere, addHere}
 use Rattle.nodes.proofs.Here.{fits-each, each-fits}
 use Rattle.whole.specs.Whole.{ListKept}
-use Rattle.whole.specs.Walks.{most}
+use Rattle.whole.specs.Walks.{countMost}
 
 -- ---- prices that are added
 
@@ -62,10 +63,10 @@ pub record Passing (S : Settings) (m ms₀ sums₀ : List ℕ) (l : ℕ) (ms sum
   pub low : left ≤ get S m Count l
   pub fit : (rule : NodeRule) → listFound rule S m l ≡ firstBad (nodeTest rule S m l) (chain S m left x)
   pub add : addList S m sums₀ l ≡ addEach S m (l % row S) sums (chain S m left x)
-  pub held : Sums S sums (most * l + 255 * (get S m Count l - left))
+  pub held : Sums S sums (countMost * l + 255 * (get S m Count l - left))
 
 module _ {S : Settings} {m ms sums : List ℕ} {l : ℕ} where
-  pub pass-start : Walking S m ms l ms (get S m Count l) (get S m Head l) (get S m Tail l) → Sums S sums (most * l)
+  pub pass-start : Walking S m ms l ms (get S m Count l) (get S m Head l) (get S m Tail l) → Sums S sums (countMost * l)
       → Passing S m ms sums l ms sums (get S m Count l) (get S m Head l) (get S m Tail l)
   unfolding nodesOf
   pass-start w s = record {
@@ -73,17 +74,17 @@ module _ {S : Settings} {m ms sums : List ℕ} {l : ℕ} where
     low = omega arith;
     fit = λ rule. refl;
     add = sym (each-list S m sums l);
-    held = sums-more S sums (most * l) _ (omega arith) s;
+    held = sums-more S sums (countMost * l) _ (omega arith) s;
   }
 
 module _ {S : Settings} {m ms₀ sums₀ : List ℕ} {l : ℕ} {ms sums : List ℕ} {left x last : ℕ}
     (W : Passing S m ms₀ sums₀ l ms sums left x last) where
   -- no sum is large
-  pub pass-held : Sums S sums (most * (l + 1))
-  pass-held = sums-more S sums _ (most * (l + 1)) (omega (arith, get-lt S m Count l)) (W .held)
+  pub pass-held : Sums S sums (countMost * (l + 1))
+  pass-held = sums-more S sums _ (countMost * (l + 1)) (omega (arith, get-lt S m Count l)) (W .held)
 
   pub pass-lent : Roomy S → l < lists S → Sums S sums (2 ^ 63)
-  pass-lent R h = sums-more S sums (most * (l + 1)) (2 ^ 63) (omega (arith, few S R)) pass-held
+  pass-lent R h = sums-more S sums (countMost * (l + 1)) (2 ^ 63) (omega (arith, few S R)) pass-held
 
   module _ (some : 0 < left) where
     front : (rule : NodeRule) → listFound rule S m l
@@ -113,7 +114,7 @@ module _ {S : Settings} {m ms₀ sums₀ : List ℕ} {l : ℕ} {ms sums : List �
           fit = λ rule. front rule ∙ rw (fits rule);
           add = W .add ∙ rw (chain-more S m left x some);
           held =
-              sums-more S _ (most * l + 255 * (get S m Count l - left) + 255) _ (omega (arith, W .low))
+              sums-more S _ (countMost * l + 255 * (get S m Count l - left) + 255) _ (omega (arith, W .low))
               (here-sums S m (l % row S) sums x _ (W .held));
         }
 

@@ -1,15 +1,12 @@
--- Rules (c) to (g) in one walk of the lists: what the answer says. Assumes nothing.
+-- Rules (c) to (g), and (b) of prefetch lists, in one walk of the lists: what the answer says. Assumes nothing.
 use mathlib.Core.Path.{_≡_}
 use mathlib.Core.Bool.{Bool, true, false}
-use mathlib.Core.List.{List, [], _∷_}
-use Prim.Native.Nat.{ℕ, _+_, _%_, _<_}
-use lib.Dec.{ltb}
+use mathlib.Core.List.{List}
+use Prim.Native.Nat.{ℕ, _<_}
 use Rattle.ledger.specs.declared.Finding.the-variants.{Whole}
-use Rattle.ledger.specs.Settings.{Settings, row}
-use Rattle.ledger.specs.Ready.{bit}
-use Rattle.layout.specs.declared.Table.the-variants.{Count}
-use Rattle.layout.specs.Tables.{lists, get}
-use Rattle.ranges.specs.Ranges.{fewAt}
+use Rattle.ledger.specs.Settings.{Settings}
+use Rattle.layout.specs.Tables.{lists}
+use Rattle.ranges.specs.Ranges.{fewIn}
 use Rattle.once.specs.Once.{right, onceFound}
 use Rattle.fits.specs.declared.NodeRule.{NodeRule}
 use Rattle.fits.specs.Fits.{listFound, fitsFound}
@@ -22,11 +19,6 @@ pub record Says (P : Type 0) (r : Bool) : Type 0 where
   pub yes : r ≡ true → P
   pub no : r ≡ false → P → ⊥
 
--- how many marks are set
-unfoldable pub setMarks : List ℕ → ℕ
-setMarks [] = 0
-setMarks (k ∷ ks) = bit (ltb 0 k) + setMarks ks
-
 -- list l keeps the rules, where it is met with these marks
 pub record ListKept (S : Settings) (m ms : List ℕ) (l : ℕ) : Type 0 where
   pub once : right S m ms l ≡ true
@@ -34,7 +26,7 @@ pub record ListKept (S : Settings) (m ms : List ℕ) (l : ℕ) : Type 0 where
 
 -- a memory keeps them
 pub record Kept (S : Settings) (m : List ℕ) : Type 0 where
-  pub slots : (l : ℕ) → l < lists S → fewAt S (l % row S) (get S m Count l) ≡ true
+  pub slots : (l : ℕ) → l < lists S → fewIn S m l ≡ true
   pub once : onceFound S m ≡ Whole
   pub fits : (rule : NodeRule) → fitsFound rule S m ≡ Whole
   pub paid : paidFound S m ≡ Whole

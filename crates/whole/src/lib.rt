@@ -4,7 +4,6 @@
 use layout::Shape;
 use layout::Table;
 use ledger::Finding;
-ghost use mathlib.Core.Path.{_≡_};
 ghost use Rattle.layout.specs.Tables.{settingsOf};
 ghost use Rattle.whole.specs.Whole.{Says, Kept};
 ghost use Rattle.whole.specs.Walks.{ListLent, PortLent, AllLent, ListPassed, PortPassed};

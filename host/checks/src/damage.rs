@@ -48,8 +48,8 @@ pub struct Change {
     pub to: u8,
 }
 
-/// What is told of a memory: by the test that every call asks first, and by the
-/// rules one after another. In tests one of them may have a slip.
+/// What is told of a memory: by the test that every call but setup asks first,
+/// and by the rules one after another. In tests one of them may have a slip.
 #[derive(Clone, Copy)]
 pub struct Rules {
     pub is_state: fn(&[u8]) -> bool,
@@ -64,7 +64,8 @@ pub const PROVED: Rules = Rules {
 
 impl Rules {
     /// The test says yes exactly where no rule is broken. The independent reader
-    /// finds one in another order, so the first comes no later than its.
+    /// finds one in another order, so the first comes no later than its; the
+    /// crate `damage` compares rule and item exactly.
     fn agree(&self, memory: &[u8], judged: Option<&str>) -> Result<(), String> {
         let (state, broken) = ((self.is_state)(memory), (self.first_broken)(memory));
         if state != broken.is_none() {

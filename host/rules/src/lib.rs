@@ -1,5 +1,6 @@
-//! The proved test for a state, which every call asks first, and beside it the
-//! first broken rule, by a walk for each: for checks and benchmarks alone.
+//! The proved test for a state, which every call but setup asks first, and
+//! beside it the first broken rule, by a walk for each: for checks and
+//! benchmarks alone.
 
 mod c {
     extern "C" {

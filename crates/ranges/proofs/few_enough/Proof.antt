@@ -13,12 +13,9 @@ returns : tie.Need-returns
 unfolding fewAt
 returns c = let a = c .before .before .args in rw (lt-ltb (a .column) (2 + a .s .queues) (c .if1 .taken))
 
-cast-slots : tie.Need-cast-slots
-cast-slots c = search needs
-
 returns-2 : tie.Need-returns-2
 unfolding fewAt
 returns-2 c = let a = c .before .before .before .args in rw (le-ltb (a .column) (2 + a .s .queues) (c .before .if1 .left))
 
 pub few-enough-spec : {M : Type 1} → statement M
-few-enough-spec = tie.close (tie.spec add-if1 returns cast-slots returns-2)
+few-enough-spec = tie.close (tie.spec add-if1 returns returns-2)

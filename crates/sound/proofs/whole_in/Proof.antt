@@ -26,8 +26,11 @@ walk-decides S m R b k = record {
   no = λ e c. k .no e (record { slots = ranges-few S m R (c .ranges); once = c .once; fits = c .fits; paid = c .paid });
 }
 
-add-marks : tie.Need-add-marks
-add-marks c = omega (arith, c .before .before .pre .laid .roomy)
+abbrev start : tie.After-first-outside → tie.Start
+start c = c .before .before .before
+
+add-items : tie.Need-add-items
+add-items c = omega (arith, c .before .before .pre .laid .roomy)
 
 first-outside-requires : tie.Need-first-outside-requires
 first-outside-requires c κs = (open-held (c .before .before .pre), omega arith)
@@ -37,10 +40,10 @@ enum-told c = search needs
 
 returns : tie.Need-returns
 returns c =
-    let R = c .before .before .before .before .before .pre .laid .roomy in
+    let w = c .before .before in
     record {
       yes = λ e. absurd (false≢true e);
-      no = λ e k. none _ (sym (c .enum-told .given .1) ∙ c .before .before .first-outside .ensures ∙ ranges-low _ _ R (k .ranges));
+      no = λ e k. none _ (sym (c .enum-told .given .1) ∙ w .first-outside .ensures ∙ ranges-low _ _ (start w .pre .laid .roomy) (k .ranges));
     }
 
 enum-told-2 : tie.Need-enum-told-2
@@ -52,8 +55,8 @@ whole-among-few-requires c κs = search needs
 returns-2 : tie.Need-returns-2
 returns-2 c =
     let b = c .before .before in
-    let R = b .before .before .before .before .before .pre .laid .roomy in
-    walk-decides _ _ R (sym (b .before .before .first-outside .ensures) ∙ b .enum-told2 .given .1) (c .whole-among-few .ensures)
+    let w = b .before .before in
+    walk-decides _ _ (start w .pre .laid .roomy) (sym (w .first-outside .ensures) ∙ b .enum-told2 .given .1) (c .whole-among-few .ensures)
 
 whole-among-all-requires : tie.Need-whole-among-all-requires
 whole-among-all-requires c κs = search needs
@@ -61,14 +64,14 @@ whole-among-all-requires c κs = search needs
 returns-3 : tie.Need-returns-3
 returns-3 c =
     let b = c .before .before in
-    let R = b .before .before .before .before .before .pre .laid .roomy in
-    walk-decides _ _ R (sym (b .before .before .first-outside .ensures) ∙ b .enum-told2 .given .1) (c .whole-among-all .ensures)
+    let w = b .before .before in
+    walk-decides _ _ (start w .pre .laid .roomy) (sym (w .first-outside .ensures) ∙ b .enum-told2 .given .1) (c .whole-among-all .ensures)
 
 pub whole-in-spec : {M : Type 1} → statement M
 whole-in-spec =
     tie.close
     (tie.spec
-    add-marks
+    add-items
     first-outside-requires
     enum-told
     returns

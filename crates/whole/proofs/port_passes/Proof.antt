@@ -1,16 +1,16 @@
 -- `whole::port_passes` meets its contract. The loop's invariant: the walk stands at the list of the port's column. Assumes nothing.
 use mathlib.Core.Path.{_≡_, refl, sym, ap₂, _∙_}
+use mathlib.Core.List.{List}
 use mathlib.Core.Bool.{false≢true}
-use Prim.Native.Nat.{_+_, _-_, _*_, _/_, _%_, _≤_, _<_}
+use Prim.Native.Nat.{ℕ, _+_, _-_, _*_, _/_, _%_, _≤_, _<_}
 use native.Mathlib.Omega.{arith}
 use borrow.Author.Tests.{not-true, not-false}
 use lib.ListN.{length}
 use Rattle.ledger.specs.Settings.{row}
 use Rattle.ledger.proofs.Tests.{true≢false}
-use Rattle.layout.specs.declared.Table.the-variants.{Count}
-use Rattle.layout.specs.Tables.{cells, lists, all, get, settingsOf}
+use Rattle.layout.specs.Tables.{cells, lists, all, settingsOf}
 use Rattle.layout.proofs.Shapes.{few}
-use Rattle.ranges.specs.Ranges.{fewAt}
+use Rattle.ranges.specs.Ranges.{fewAt, fewIn}
 use Rattle.whole.specs.Walks.{AtList}
 use Rattle.whole.proofs.SetMarks.{set-le}
 use Rattle.whole.proofs.Lists.{list-in, port-is, column-is, lists-many, lists-no, lists-next}
@@ -37,6 +37,13 @@ counted c = c .before .before .before
 
 abbrev walked : tie.After-slice-known4 Inv-loop μ-loop → tie.After-list-passes Inv-loop μ-loop
 walked c = c .before .before .before .before
+
+-- the marks and the sums that the list leaves
+abbrev marks-after : tie.After-list-passes Inv-loop μ-loop → List ℕ
+marks-after c = c .list-passes .last .1 .1 .1 .1 .1 .1 .0
+
+abbrev sums-after : tie.After-list-passes Inv-loop μ-loop → List ℕ
+sums-after c = c .list-passes .last .1 .1 .1 .1 .1 .1 .1 .0
 
 -- ---- what is known at each
 
@@ -68,7 +75,7 @@ answered : (c : tie.After-few-enough Inv-loop μ-loop)
     let a = begun at .args in
     let S = settingsOf (a .s) in
     let l = a .port * row S + at .loop .column in
-    c .few-enough .result ≡ fewAt S (l % row S) (get S (a .m .now) Count l)
+    c .few-enough .result ≡ fewIn S (a .m .now) l
 unfolding row
 answered c =
     let S = settingsOf (begun (at-loop (c .before)) .args .s) in
@@ -165,7 +172,7 @@ went : (c : tie.Else2 Inv-loop μ-loop)
     let read = counted w .before .before in
     let at = at-loop read in
     let a = begun at .args in
-    AtList (settingsOf (a .s)) (a .m .now) (w .list-passes .last .1 .1 .1 .1 .1 .1 .0) (w .list-passes .last .1 .1 .1 .1 .1 .1 .1 .0)
+    AtList (settingsOf (a .s)) (a .m .now) (marks-after w) (sums-after w)
     (a .port * row (settingsOf (a .s)) + (at .loop .column + 1)) (at .loop .met + read .get4 .result)
 unfolding row
 went c =
@@ -182,7 +189,7 @@ add-met c =
     let next = went (c .before) in
     omega (
       arith,
-      set-le (w .list-passes .last .1 .1 .1 .1 .1 .1 .0),
+      set-le (marks-after w),
       next .met,
       next .scan .fits,
       few _ (begun (at-loop (counted w .before .before)) .pre .laid .roomy),
