@@ -66,11 +66,15 @@ module _ (S : Settings) (m : List ℕ) (x : ℕ) where
 
     pub walk-meets : y ≡ x → At i ≡ walked x 0 (nodesOf S m l)
     unfolding walked
-    walk-meets e = sym (w .rest ∙ rw ((chain-front S m (get S m Count l) i y h), eqb-is y x e))
+    walk-meets e = sym (w .rest ∙ rw (chain-front S m (get S m Count l) i y h, eqb-is y x e))
 
     pub walk-goes : (y ≡ x → ⊥) → Walking l (get S m Next (slot S y)) (i + 1)
     unfolding walked
-    walk-goes n = record { low = omega arith; rest = w .rest ∙ rw ((chain-front S m (get S m Count l) i y h), eqb-not y x n, add-one); nodes = rw (chain-front S m (get S m Count l) i y h) at (w .nodes) .1 }
+    walk-goes n = record {
+      low = omega arith;
+      rest = w .rest ∙ rw (chain-front S m (get S m Count l) i y h, eqb-not y x n, add-one);
+      nodes = rw (chain-front S m (get S m Count l) i y h) at (w .nodes) .1;
+    }
 
   -- ---- the search: at list l, what is found in all lists is what is found in the rest
 

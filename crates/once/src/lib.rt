@@ -7,7 +7,7 @@ ghost use mathlib.Core.Path.{_≡_};
 ghost use Prim.Native.Nat.{_+_, _<_, _^_};
 ghost use lib.ListN.{length};
 ghost use Rattle.ledger.specs.Ledger.{isNode};
-ghost use Rattle.layout.specs.Tables.{settingsOf, Laid};
+ghost use Rattle.layout.specs.Tables.{settingsOf};
 ghost use Rattle.once.specs.Once.{unmarked, onceFound};
 ghost use Rattle.once.specs.Walks.{Marks, Walkable, Blank, Fresh, Met, Walked};
 

@@ -6,7 +6,7 @@ use ledger::Finding;
 ghost use mathlib.Core.Path.{_≡_};
 ghost use Prim.Native.Nat.{_-_, _<_};
 ghost use Rattle.ledger.specs.Ledger.{owner, cell};
-ghost use Rattle.layout.specs.Tables.{settingsOf, Laid};
+ghost use Rattle.layout.specs.Tables.{settingsOf};
 ghost use Rattle.paid.specs.Paid.{addPrice, addList, sumsOf, settledAt, dueFound, paidFound};
 ghost use Rattle.paid.specs.Passes.{InQueue, AddsPrice, Adds, Added, AddsList, Pays, Settles, SettlesAt};
 
