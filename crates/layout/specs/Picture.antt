@@ -1,15 +1,16 @@
 -- The picture: which desk a lent memory shows. Assumes nothing.
 use mathlib.Core.Path.{_≡_}
-use mathlib.Core.Bool.{true, cond}
+use mathlib.Core.Bool.{cond}
 use mathlib.Core.List.{List, [], _∷_, map}
 use Prim.Native.Nat.{ℕ, zero, suc, _+_, _*_, _%_, _≤_, _<_}
 use lib.ListN.{length}
 use lib.Dec.{eqb}
 use Rattle.numbers.specs.Bytes.{number}
-use Rattle.ledger.specs.Settings.{Settings, inRows, ids, row, size}
+use Rattle.ledger.specs.Settings.{Settings, ids, row, size}
 use Rattle.ledger.specs.Ledger.{owner, index, Packet, bare, Ledger}
 use Rattle.ledger.specs.Sound.{Sound}
-use Rattle.layout.specs.declared.Table.the-variants.{Setting, Mapped, Last, Arrival, Outward, Head, Tail, Count, Next, Length, Stamp, Queue, Dest, Poisoned, Transaction, Price}
+use Rattle.layout.specs.declared.Table.the-variants.{Mapped, Last, Arrival, Outward, Head, Tail, Count, Next, Length, Stamp, Queue, Dest}
+use Rattle.layout.specs.declared.Table.the-variants.{Poisoned, Transaction, Price}
 use Rattle.layout.specs.Tables.{cells, lists, get}
 
 -- the settings stand first: six numbers of two bytes

@@ -9,7 +9,8 @@ use Rattle.ledger.specs.Sound.{sum, Roomy}
 use mathlib.Core.Path.{_≡_}
 use Rattle.layout.specs.declared.Shape.{Shape}
 use Rattle.layout.specs.declared.Table.{Table}
-use Rattle.layout.specs.declared.Table.the-variants.{Setting, Mapped, Last, Arrival, Outward, Head, Tail, Count, Next, Length, Stamp, Queue, Dest, Poisoned, Transaction, Price}
+use Rattle.layout.specs.declared.Table.the-variants.{Setting, Mapped, Last, Arrival, Outward, Head, Tail, Count, Next, Length, Stamp, Queue}
+use Rattle.layout.specs.declared.Table.the-variants.{Dest, Poisoned, Transaction, Price}
 
 -- the tables in their order
 abbrev pub turnOf : Table → ℕ

@@ -25,8 +25,8 @@ use Rattle.ledger.specs.declared.Readiness.{Readiness}
 use Rattle.ledger.specs.declared.Readiness.the-variants as words
 use Rattle.ledger.specs.declared.Whereabouts.{Whereabouts}
 use Rattle.ledger.specs.declared.Whereabouts.the-variants as places
-use Rattle.ledger.specs.Calls.{Reply, refused, done, entry, stitched, idle, leaves, word, found, Side, inside, outside}
-use Rattle.ledger.specs.Ledger.{Packet, Place, free, ingress, egress, prefetched}
+use Rattle.ledger.specs.Calls.{refused, entry, leaves, found, Side}
+use Rattle.ledger.specs.Ledger.{Packet, Place}
 
 -- the refusals by their numbers; where there is none, any
 refusals : List Refusal

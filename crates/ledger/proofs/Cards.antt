@@ -5,7 +5,8 @@ use Rattle.numbers.specs.Fields.{bits}
 use Rattle.crc.specs.Crc.{crcBit, crcBits, crcByte, crcFrom, crc8}
 use Rattle.ledger.specs.Settings.{isBeat, inRows, row, size}
 use Rattle.ledger.specs.Header.{fieldsOf, price}
-use Rattle.ledger.specs.Ledger.{isNode, recorded, place#, placeOf, cell, creditAt, setCredit, pop, push, move, putArrival, putOutward, putLast, putMap, start}
+use Rattle.ledger.specs.Ledger.{isNode, recorded, place#, placeOf, cell, creditAt, setCredit, pop, push, move, putArrival, putOutward, putLast}
+use Rattle.ledger.specs.Ledger.{putMap, start}
 use Rattle.ledger.specs.Ready.{isReady, wordOf, readyWord, maskedAbove, pick}
 use Rattle.ledger.specs.Calls.{arrived, stitchRecord, served}
 use Rattle.ledger.specs.Sound.{All}

@@ -9,7 +9,8 @@ use native.Mathlib.Omega.{arith}
 use lib.ListN.{length, getD}
 use Rattle.ledger.specs.Settings.{Settings, inRows, ids, row}
 use Rattle.ledger.specs.Header.{leastLength, price}
-use Rattle.ledger.specs.Ledger.{owner, index, entryId, isNode, Packet, Place, free, ingress, egress, prefetched, placeOf, Ledger, listAt, arrivalOf, outwardOf, lastOf, mapOf}
+use Rattle.ledger.specs.Ledger.{owner, index, entryId, isNode, Packet, Place, free, ingress, egress, prefetched, placeOf, Ledger, listAt}
+use Rattle.ledger.specs.Ledger.{arrivalOf, outwardOf, lastOf, mapOf}
 use Rattle.ledger.specs.Ready.{bit}
 use Rattle.ledger.specs.Sound.{All, Everywhere, weigh, Shaped, InRange, one, Once, OwnPort, OwnQueue, Proper, WellRecorded, owed, Orderly, Sound, Roomy}
 use Rattle.ledger.proofs.Lists.{everywhere-map, counted}

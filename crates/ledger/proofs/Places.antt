@@ -1,16 +1,18 @@
 -- The numbers of places, credit cells and nodes: in range, and different for different ones. Assumes nothing.
-use mathlib.Core.Path.{_≡_, refl, sym, ap, _∙_, subst}
+use mathlib.Core.Path.{_≡_, refl, sym, ap, _∙_}
 use mathlib.Core.Logic.{_≢_}
 use mathlib.Core.Bool.{Bool, true, false, cond, _&&_}
 use mathlib.Core.List.{List, [], _∷_}
-use Prim.Native.Nat.{ℕ, zero, suc, _+_, _-_, _*_, _/_, _%_, _≤_, _<_, zero-le, suc-le-suc}
-use native.Mathlib.Nat.{mul-le-mul-right, mul-add-div-right, mul-add-mod-self-right, div-eq-of-lt, mod-eq-of-lt, div-add-mod', mod-lt, div-lt-iff-lt-mul, add-zero, add-sub-cancel-left, add-sub-of-le, le-of-suc-le-suc}
+use Prim.Native.Nat.{ℕ, zero, suc, _+_, _-_, _*_, _/_, _%_, _≤_, _<_, zero-le}
+use native.Mathlib.Nat.{mul-le-mul-right, mul-add-div-right, mul-add-mod-self-right, div-eq-of-lt, mod-eq-of-lt, div-add-mod', mod-lt}
+use native.Mathlib.Nat.{div-lt-iff-lt-mul, add-zero, add-sub-cancel-left, add-sub-of-le}
 use native.Mathlib.Omega.{arith}
 use lib.ListN.{length, getD, set, length-set}
 use lib.Seq.{getD-set-same, getD-set-other}
 use lib.Dec.{ltb}
 use Rattle.ledger.specs.Settings.{Settings, row}
-use Rattle.ledger.specs.Ledger.{owner, index, entryId, isNode, Place, free, ingress, egress, prefetched, portOf, column, place#, placeIn, placeOf, cell, creditAt, setCredit}
+use Rattle.ledger.specs.Ledger.{owner, index, isNode, Place, free, ingress, egress, prefetched, portOf, column, place#, placeIn, placeOf, cell}
+use Rattle.ledger.specs.Ledger.{creditAt, setCredit}
 use Rattle.ledger.specs.Ready.{bit}
 use Rattle.ledger.proofs.Tests.{ltb-yes, ltb-no, ltb-is, ltb-not}
 

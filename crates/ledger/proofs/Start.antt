@@ -11,7 +11,8 @@ use lib.ListN.{length, getD, replicate, length-append, length-replicate, getD-re
 use lib.Seq.{getD-append-add}
 use lib.Dec.{eqb}
 use Rattle.ledger.specs.Settings.{Settings, inRows, ids, row}
-use Rattle.ledger.specs.Ledger.{owner, index, entryId, isNode, Packet, bare, Place, free, ingress, egress, prefetched, column, place#, placeOf, cell, creditAt, listAt, bares, startLists, start}
+use Rattle.ledger.specs.Ledger.{owner, index, entryId, isNode, Packet, bare, Place, free, ingress, egress, prefetched, column, place#, placeOf}
+use Rattle.ledger.specs.Ledger.{cell, creditAt, listAt, bares, startLists, start}
 use Rattle.ledger.specs.Ready.{bit}
 use Rattle.ledger.specs.Sound.{All, Everywhere, sum, weigh, one, Once, OwnPort, OwnQueue, WellRecorded, due, owed, Orderly, Sound, Roomy}
 use Rattle.ledger.proofs.Tests.{eqb-is, eqb-not}

@@ -1,22 +1,24 @@
 -- Every act keeps (b) to (g). Assumes nothing.
 use mathlib.Core.Path.{_≡_, refl, sym, ap, _∙_, subst}
-use mathlib.Core.Logic.{_≢_, _⊎_, inl, inr}
-use mathlib.Core.Bool.{Bool, true, false, cond, not, _&&_, _||_}
-use mathlib.Core.List.{List, [], _∷_, _++_}
+use mathlib.Core.Logic.{_≢_}
+use mathlib.Core.Bool.{Bool, true, false, cond}
+use mathlib.Core.List.{List, [], _∷_}
 use Prim.Native.Nat.{ℕ, _+_, _-_, _<_}
 use native.Mathlib.Omega.{arith}
 use lib.ListN.{length}
-use lib.Dec.{eqb, ltb, leb}
-use Rattle.ledger.specs.Settings.{Settings, ids}
+use lib.Dec.{eqb}
+use Rattle.ledger.specs.Settings.{Settings}
 use Rattle.ledger.specs.Rules.{Rule, refuse, guard, Clear}
 use Rattle.ledger.specs.Header.{fieldsOf}
-use Rattle.ledger.specs.Ledger.{owner, Packet, bare, recorded, Place, free, ingress, egress, prefetched, Ledger, listAt, arrivalOf, outwardOf, lastOf, mapOf, move, putArrival, putOutward, putLast}
+use Rattle.ledger.specs.Ledger.{owner, Packet, bare, recorded, free, ingress, egress, prefetched, Ledger, listAt, arrivalOf, outwardOf, lastOf}
+use Rattle.ledger.specs.Ledger.{mapOf, move, putArrival, putOutward}
 use Rattle.ledger.specs.Ready.{covered, isReady, wordOf, readyWord, pick}
-use Rattle.ledger.specs.Calls.{Act, arrive, stitch, prefetch, credit, mapTo, turn, ready, whereIs, Reply, refused, idle, isEmpty, firstOf, arriving, arrived, served, serve, turned, rules, result, step, run}
-use Rattle.ledger.specs.Sound.{Proper, OwnPort, OwnQueue, WellRecorded, owes, due, Orderly, Roomy}
-use Rattle.ledger.proofs.Tests.{leb-yes, leb-no, ltb-no, or-left}
+use Rattle.ledger.specs.Calls.{Act, arrive, stitch, prefetch, credit, mapTo, turn, ready, whereIs, refused, idle, isEmpty, firstOf, arriving}
+use Rattle.ledger.specs.Calls.{arrived, served, serve, turned, rules, result, step, run}
+use Rattle.ledger.specs.Sound.{Proper, owes, Orderly, Roomy}
+use Rattle.ledger.proofs.Tests.{leb-no, ltb-no}
 use Rattle.ledger.proofs.Places.{Place·In}
-use Rattle.ledger.proofs.Keep.{Fits, some-queue, first-fits, first-node, keep-moved, keep-traded, keep-outward, keep-last, keep-mapped, lowered, raised}
+use Rattle.ledger.proofs.Keep.{some-queue, first-fits, first-node, keep-moved, keep-traded, keep-outward, keep-last, keep-mapped, lowered, raised}
 use Rattle.ledger.proofs.Header.{fields-in}
 use Rattle.ledger.proofs.Passes.{Passes, Admits, admits}
 use Rattle.ledger.proofs.Ready.{picked-ready}

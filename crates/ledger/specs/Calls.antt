@@ -9,7 +9,8 @@ use lib.Count.{ones}
 use Rattle.ledger.specs.Settings.{Settings, ids}
 use Rattle.ledger.specs.Rules.{Rule, refuse, guard}
 use Rattle.ledger.specs.Header.{fieldsOf, headerRules}
-use Rattle.ledger.specs.Ledger.{owner, isNode, Packet, bare, recorded, Place, free, ingress, egress, prefetched, placeOf, Ledger, listAt, arrivalOf, outwardOf, lastOf, mapOf, oldest, move, putArrival, putOutward, putLast, putMap}
+use Rattle.ledger.specs.Ledger.{owner, isNode, Packet, bare, recorded, Place, free, ingress, egress, prefetched, placeOf, Ledger, listAt}
+use Rattle.ledger.specs.Ledger.{arrivalOf, outwardOf, lastOf, mapOf, oldest, move, putArrival, putOutward, putLast, putMap}
 use Rattle.ledger.specs.Ready.{readyWord, pick}
 
 pub data Act : Type 0 where

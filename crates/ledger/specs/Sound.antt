@@ -7,7 +7,8 @@ use lib.ListN.{length, getD}
 use lib.Dec.{eqb}
 use Rattle.ledger.specs.Settings.{Settings, inRows, ids, row}
 use Rattle.ledger.specs.Header.{leastLength, price}
-use Rattle.ledger.specs.Ledger.{owner, isNode, Packet, Place, free, ingress, egress, prefetched, placeOf, Ledger, listAt, arrivalOf, outwardOf, lastOf, mapOf}
+use Rattle.ledger.specs.Ledger.{owner, isNode, Packet, Place, free, ingress, egress, prefetched, placeOf, Ledger, listAt, arrivalOf, outwardOf}
+use Rattle.ledger.specs.Ledger.{lastOf, mapOf}
 use Rattle.ledger.specs.Ready.{bit}
 
 -- ---- words for facts about the nodes of the lists

@@ -1,5 +1,5 @@
 -- From a judgement to the outcome of an act. Assumes nothing.
-use mathlib.Core.Path.{_≡_, refl, sym, ap, _∙_}
+use mathlib.Core.Path.{_≡_, refl, ap}
 use mathlib.Core.Bool.{true, false}
 use mathlib.Core.List.{List, [], _∷_}
 use Prim.Native.Nat.{ℕ}
@@ -7,13 +7,13 @@ use native.Mathlib.Omega.{arith}
 use Rattle.ledger.specs.Settings.{Settings}
 use Rattle.ledger.specs.Rules.{Rule, refuse, guard, Clear}
 use Rattle.ledger.specs.Ledger.{Ledger}
-use Rattle.ledger.specs.Calls.{Act, Reply, refused, rules, result}
+use Rattle.ledger.specs.Calls.{Act, refused, rules, result}
 use Rattle.ledger.proofs.Answers.{number-inj}
 use Rattle.ledger.proofs.Steps.{cleared}
 use Rattle.layout.specs.Picture.{ledgerIn}
 use Rattle.memory.specs.declared.Verdict.{Verdict}
 use Rattle.memory.specs.declared.Verdict.the-variants.{Go, No}
-use Rattle.memory.specs.Judged.{Judgement, good, bad, judgementOf, judged}
+use Rattle.memory.specs.Judged.{good, bad, judgementOf, judged}
 use Rattle.memory.specs.Writes.{write}
 use Rattle.memory.specs.Memory.{acted}
 

@@ -1,21 +1,22 @@
 -- What each write does to the picture, a law each, in the ledger's own words. Assumes nothing.
 use mathlib.Core.Path.{_≡_, refl, sym, ap, _∙_, subst}
 use mathlib.Core.Logic.{_≢_}
-use mathlib.Core.Bool.{Bool, true, false}
+use mathlib.Core.Bool.{true, false}
 use mathlib.Core.List.{List, [], _∷_}
-use Prim.Native.Nat.{ℕ, zero, suc, _+_, _-_, _*_, _≤_, _<_}
+use Prim.Native.Nat.{ℕ, zero, suc, _≤_, _<_}
 use native.Mathlib.Omega.{arith}
 use lib.ListN.{length, getD, drop}
 use Rattle.ledger.specs.Settings.{Settings, ids, size}
-use Rattle.ledger.specs.Ledger.{isNode, Packet, place#, cell, Ledger, oldest, pop, push, setCredit, putArrival, putOutward, putLast, putMap}
+use Rattle.ledger.specs.Ledger.{isNode, Packet, cell, oldest, pop, push, setCredit, putArrival, putOutward, putLast, putMap}
 use Rattle.ledger.specs.Sound.{weigh, one, Proper, Roomy}
 use Rattle.ledger.specs.Calls.{isEmpty}
 use Rattle.ledger.proofs.Tests.{true≢false}
 use Rattle.ledger.proofs.Places.{cell-lt}
 use Rattle.ledger.proofs.Header.{price-le}
 use Rattle.layout.specs.declared.Table.{Table}
-use Rattle.layout.specs.declared.Table.the-variants.{Setting, Mapped, Last, Arrival, Outward, Head, Count, Length, Stamp, Queue, Dest, Poisoned, Transaction, Price}
-use Rattle.layout.specs.Tables.{turnOf, width, many, lists, cells, get, put}
+use Rattle.layout.specs.declared.Table.the-variants.{Setting, Mapped, Last, Arrival, Outward, Head, Count, Length, Stamp, Queue, Dest, Poisoned}
+use Rattle.layout.specs.declared.Table.the-variants.{Transaction, Price}
+use Rattle.layout.specs.Tables.{turnOf, many, lists, get, put}
 use Rattle.layout.specs.Picture.{settingsIn, slot, packetAt, nodeIn, ledgerIn}
 use Rattle.layout.proofs.Tables.{length-put, get-put, get-put-else, settings-put, drop-put}
 use Rattle.memory.specs.Ends.{popMem, pushMem, Tidy, IsRecord, withLists}

@@ -1,22 +1,20 @@
 -- No answer depends on bytes past the size: a memory pictures what its first bytes picture. Assumes nothing.
 use mathlib.Core.Path.{_≡_, refl, sym, ap, _∙_, subst}
-use mathlib.Core.List.{List, [], _∷_, _++_, map}
+use mathlib.Core.List.{List, _++_, map}
 use Prim.Native.Nat.{ℕ, _+_, _≤_, _<_}
 use native.Mathlib.Omega.{arith}
 use lib.ListN.{length, length-append}
 use Rattle.ledger.specs.Settings.{Settings, size}
-use Rattle.ledger.specs.Ledger.{Packet, Ledger}
-use Rattle.ledger.specs.Calls.{Act, Reply}
+use Rattle.ledger.specs.Calls.{Act}
 use Rattle.ledger.specs.Desk.{Desk, act, desk}
-use Rattle.ledger.specs.Sound.{Roomy, Sound}
+use Rattle.ledger.specs.Sound.{Sound}
 use Rattle.ledger.proofs.Lists.{All-map}
-use Rattle.ledger.proofs.Rows.{roomy}
 use Rattle.layout.specs.declared.Table.{Table}
 use Rattle.layout.specs.declared.Table.the-variants.{Setting, Head, Tail, Count, Next}
-use Rattle.layout.specs.Tables.{turnOf, many, lists, get}
-use Rattle.layout.specs.Picture.{settingsIn, nodesOf, nodeIn, ledgerIn, lastD, Hangs, StateOf, State}
+use Rattle.layout.specs.Tables.{many, lists, get}
+use Rattle.layout.specs.Picture.{settingsIn, nodesOf, nodeIn, ledgerIn, Hangs, StateOf, State}
 use Rattle.layout.proofs.Tables.{get-append}
-use Rattle.memory.specs.Ends.{Tidy, withLists}
+use Rattle.memory.specs.Ends.{Tidy}
 use Rattle.memory.specs.Memory.{state-dec, picture, M}
 use Rattle.memory.proofs.Chains as C
 use Rattle.memory.proofs.Picture.{picture-is, picture-none, picture-state}

@@ -1,8 +1,7 @@
 -- What a call answers and leaves in memory, for every memory and every call: M. And the picture, by which a memory is a desk.
 -- Assumes nothing.
-use mathlib.Core.Path.{_≡_}
-use mathlib.Core.List.{List, _++_}
-use Prim.Native.Nat.{ℕ, _<_}
+use mathlib.Core.List.{List}
+use Prim.Native.Nat.{ℕ}
 use native.Mathlib.Decide.{map-dec, decLe, ℕ-discrete}
 use lib.ListN.{length}
 use Rattle.ledger.specs.Settings.{Settings, settings, size}
@@ -12,7 +11,7 @@ use Rattle.ledger.specs.Desk.{Desk, none, has, Call, setup, act, setupRules}
 use Rattle.ledger.proofs.Decide.{and-dec, below-dec, sound-dec}
 use Rattle.layout.specs.declared.Table.the-variants.{Tail}
 use Rattle.layout.specs.Tables.{lists, get}
-use Rattle.layout.specs.Picture.{settingsIn, nodesOf, ledgerIn, lastD, Hangs, StateOf, State}
+use Rattle.layout.specs.Picture.{settingsIn, nodesOf, ledgerIn, lastD, Hangs, State}
 use Rattle.memory.specs.Writes.{write}
 use Rattle.memory.specs.Image.{setupMem}
 

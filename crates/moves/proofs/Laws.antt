@@ -1,13 +1,12 @@
 -- What the judges and the acts of prefetch and stitch come to, with no code. Assumes nothing.
 use mathlib.Core.Path.{_≡_, refl, sym, ap, _∙_, subst}
-use mathlib.Core.Bool.{true, false}
-use mathlib.Core.List.{List, [], _∷_}
-use Prim.Native.Nat.{ℕ, suc, _≤_, _<_}
+use mathlib.Core.Bool.{true}
+use mathlib.Core.List.{List}
+use Prim.Native.Nat.{ℕ, _≤_, _<_}
 use native.Mathlib.Omega.{arith}
-use lib.ListN.{length, getD}
 use Rattle.ledger.specs.Settings.{Settings, ids}
-use Rattle.ledger.specs.Ledger.{isNode, Packet, Place, ingress, egress, prefetched, place#, Ledger, listAt, mapOf}
-use Rattle.ledger.specs.Calls.{Act, Reply, entry, stitched, stitch, prefetch, stitchRecord, isEmpty, firstOf, rules, result}
+use Rattle.ledger.specs.Ledger.{isNode, Packet, ingress, egress, prefetched, place#, Ledger, mapOf}
+use Rattle.ledger.specs.Calls.{entry, stitched, stitch, prefetch, stitchRecord, firstOf}
 use Rattle.ledger.specs.Sound.{Roomy}
 use Rattle.ledger.proofs.Tests.{leb-is, leb-not, leb-no}
 use Rattle.ledger.proofs.Places.{Place·In, place#-lt}
@@ -17,7 +16,7 @@ use Rattle.layout.specs.declared.Table.the-variants.{Head, Count}
 use Rattle.layout.specs.Tables.{lists, get}
 use Rattle.layout.specs.Picture.{packetAt, ledgerIn, StateOf}
 use Rattle.memory.specs.Ends.{popMem, pushMem}
-use Rattle.memory.specs.Writes.{moveMem, headOf, write}
+use Rattle.memory.specs.Writes.{moveMem}
 use Rattle.memory.specs.Judged.{good, bad, judged}
 use Rattle.memory.specs.Memory.{acted}
 use Rattle.memory.proofs.Chains.{list-length, head-is-node, state-tidy}

@@ -1,23 +1,22 @@
 -- What ready and turn come to, with no code. Assumes nothing.
 use mathlib.Core.Path.{_≡_, refl, sym, ap, _∙_, subst}
 use mathlib.Core.Logic.{_≢_}
-use mathlib.Core.Bool.{Bool, true, false, cond, _||_}
+use mathlib.Core.Bool.{Bool, true, false, _||_}
 use mathlib.Core.List.{List, [], _∷_}
 use Prim.Native.Nat.{ℕ, zero, suc, _+_, _-_, _*_, _/_, _%_, _^_, _≤_, _<_}
 use native.Mathlib.Nat.{div-div-eq-div-mul, div-mul-le-self, mod-eq-of-lt, mul-assoc, mul-comm, pow-suc, div-le-self, zero-add, mul-le-mul-right}
 use native.Mathlib.Omega.{arith}
-use lib.ListN.{length, getD}
 use lib.Dec.{eqb, leb}
 use lib.Pow.{pow-mono}
-use lib.Count.{ones, trailingZeros}
+use lib.Count.{ones}
 use Rattle.ledger.specs.Settings.{Settings}
 use Rattle.ledger.specs.Header.{price}
-use Rattle.ledger.specs.Ledger.{owner, isNode, Packet, Place, free, prefetched, place#, Ledger, listAt, arrivalOf, outwardOf, lastOf, oldest}
+use Rattle.ledger.specs.Ledger.{owner, isNode, Packet, free, prefetched, place#, Ledger, listAt, arrivalOf, outwardOf, lastOf}
 use Rattle.ledger.specs.Ready.{bit, covered, isReady, wordOf, readyWord, maskedAbove, pick}
 use Rattle.ledger.specs.Calls.{Reply, refused, idle, leaves, word, turn, ready, Side, sideOf, isEmpty, firstOf}
 use Rattle.ledger.specs.Sound.{Roomy}
 use Rattle.ledger.proofs.Tests.{leb-is, leb-not, leb-yes, eqb-yes, eqb-not, true≢false}
-use Rattle.ledger.proofs.Places.{Place·In, place#-lt}
+use Rattle.ledger.proofs.Places.{place#-lt}
 use Rattle.ledger.proofs.Lists.{cons-form}
 use Rattle.ledger.proofs.Header.{price-free}
 use Rattle.ledger.proofs.Keep.{Fits, first-fits}
@@ -29,7 +28,7 @@ use Rattle.layout.specs.Picture.{packetAt, ledgerIn, StateOf}
 use Rattle.memory.specs.Ends.{popMem, pushMem}
 use Rattle.memory.specs.Writes.{headOf, moveMem, creditMem, serveMem}
 use Rattle.memory.specs.Memory.{acted}
-use Rattle.memory.proofs.Paint.{empty-is, some-is, counted-some}
+use Rattle.memory.proofs.Paint.{empty-is, some-is}
 use Rattle.memory.proofs.Chains.{node-from}
 use Rattle.memory.proofs.Square.{first-held, j-is, given-fits}
 

@@ -1,11 +1,9 @@
 -- `moves::judge_prefetch` meets its contract: each return is a law of what the judgement is there. Assumes nothing.
 use mathlib.Core.Path.{_≡_, sym, ap, _∙_}
-use Prim.Native.Nat.{ℕ, _≤_, _<_}
 use borrow.Author.Needs.{needs}
 use Rattle.ledger.specs.Ledger.{egress, prefetched, place#}
 use Rattle.layout.specs.declared.Table.the-variants.{Count}
 use Rattle.layout.specs.Tables.{settingsOf, get}
-use Rattle.lists.specs.Ends.{InList}
 use Rattle.moves.proofs.Laws as laws
 use Rattle.moves.proofs.judge_prefetch.Statement.{statement}
 use Rattle.moves.proofs.judge_prefetch.Tie as tie

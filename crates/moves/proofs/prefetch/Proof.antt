@@ -1,17 +1,13 @@
 -- `moves::prefetch` meets its contract: the judge decides, and where it lets the call go the node is shifted. Assumes nothing.
 use mathlib.Core.Path.{_≡_, sym, ap, _∙_}
-use mathlib.Core.List.{List}
-use Prim.Native.Nat.{ℕ}
 use borrow.Author.Needs.{needs}
-use Rattle.ledger.specs.Calls.{Reply, entry, prefetch}
+use Rattle.ledger.specs.Calls.{prefetch}
 use Rattle.ledger.specs.Ledger.{egress, prefetched, place#}
 use Rattle.ledger.proofs.Places.{place#-lt}
-use Rattle.layout.specs.declared.Table.the-variants.{Head, Count}
+use Rattle.layout.specs.declared.Table.the-variants.{Head}
 use Rattle.layout.specs.Tables.{settingsOf, get}
-use Rattle.layout.specs.Picture.{StateOf}
 use Rattle.memory.specs.Ends.{popMem, pushMem}
 use Rattle.memory.specs.Judged.{judgementOf}
-use Rattle.memory.specs.Memory.{acted}
 use Rattle.memory.proofs.Chains.{state-tidy}
 use Rattle.memory.proofs.Judged.{acted-bad}
 use Rattle.moves.proofs.Laws.{Goes, gone-on}

@@ -2,8 +2,6 @@ use borrow.Author.Needs.{needs}
 use Rattle.ledger.specs.Calls.{stitchRecord}
 use Rattle.moves.proofs.record_of.Statement.{statement}
 use Rattle.moves.proofs.record_of.Tie as tie
-use Rattle.moves.proofs.record_of.Reads as reads
-use Rattle.moves.proofs.record_of.Lts as lts
 
 -- src/lib.rt:99:9
 cast-t8 : tie.Need-cast-t8

@@ -5,15 +5,14 @@ use mathlib.Core.List.{List}
 use Prim.Native.Nat.{ℕ, _<_}
 use borrow.Author.Needs.{needs}
 use Rattle.ledger.specs.Answers.{sentOf}
-use Rattle.ledger.specs.Calls.{Reply, stitched, stitch, stitchRecord}
+use Rattle.ledger.specs.Calls.{Reply, stitch}
 use Rattle.ledger.specs.Ledger.{Packet, ingress, egress, place#, mapOf}
 use Rattle.ledger.proofs.Places.{place#-lt}
-use Rattle.layout.specs.declared.Table.the-variants.{Head, Count}
+use Rattle.layout.specs.declared.Table.the-variants.{Head}
 use Rattle.layout.specs.Tables.{settingsOf, lists, get}
-use Rattle.layout.specs.Picture.{packetAt, ledgerIn, StateOf}
+use Rattle.layout.specs.Picture.{packetAt, ledgerIn}
 use Rattle.memory.specs.Ends.{popMem, pushMem}
 use Rattle.memory.specs.Judged.{good, judgementOf, judged}
-use Rattle.memory.specs.Memory.{acted}
 use Rattle.memory.proofs.Chains.{state-tidy}
 use Rattle.memory.proofs.Judged.{acted-bad}
 use Rattle.moves.specs.Stitched.{recordIn}

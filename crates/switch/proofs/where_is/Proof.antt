@@ -1,5 +1,5 @@
 -- `switch::where_is` meets its contract: where the test says a state, the act on it is the call; else refusal 3. Assumes nothing.
-use mathlib.Core.Path.{_≡_, sym, ap, _∙_}
+use mathlib.Core.Path.{sym, ap, _∙_}
 use mathlib.Core.List.{List}
 use Prim.Native.Nat.{ℕ}
 use borrow.Author.Needs.{needs}

@@ -1,8 +1,8 @@
 -- `turns::exit_of` meets its contract. Assumes nothing.
-use mathlib.Core.Path.{_≡_, refl, sym}
+use mathlib.Core.Path.{_≡_, refl}
 use Prim.Native.Nat.{ℕ, zero, suc}
 use borrow.Author.Needs.{needs}
-use Rattle.ledger.specs.Calls.{Side, outside, sideOf}
+use Rattle.ledger.specs.Calls.{outside, sideOf}
 use Rattle.turns.proofs.exit_of.Statement.{statement}
 use Rattle.turns.proofs.exit_of.Tie as tie
 

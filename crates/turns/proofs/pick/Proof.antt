@@ -1,9 +1,6 @@
 -- `turns::pick` meets its contract: the shifts clear the bits up to the mark. Assumes nothing.
-use mathlib.Core.Path.{_≡_, refl, sym, ap, _∙_}
-use mathlib.Core.Bool.{cond}
-use Prim.Native.Nat.{ℕ, _<_, _*_, _/_, _%_, _^_}
-use lib.Dec.{eqb}
-use lib.Count.{trailingZeros}
+use mathlib.Core.Path.{_≡_, sym, _∙_}
+use Prim.Native.Nat.{_*_, _/_, _%_, _^_}
 use borrow.Author.Needs.{needs}
 use Rattle.ledger.specs.Ready.{maskedAbove, pick}
 use Rattle.ledger.proofs.Tests.{eqb-is, eqb-not}

@@ -1,5 +1,5 @@
 -- `turns::ready` meets its contract. Assumes nothing.
-use mathlib.Core.Path.{_≡_, refl, sym, ap, _∙_}
+use mathlib.Core.Path.{ap, _∙_}
 use Prim.Native.Nat.{ℕ}
 use lib.Count.{ones}
 use borrow.Author.Needs.{needs}

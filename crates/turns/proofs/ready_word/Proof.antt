@@ -1,9 +1,8 @@
 -- `turns::ready_word` meets its contract. The loop's invariant: the word so far has a bit for each queue from q on. Assumes nothing.
-use mathlib.Core.Path.{_≡_, refl, sym, ap, _∙_}
-use Prim.Native.Nat.{ℕ, _+_, _-_, _*_, _^_, _≤_, _<_}
+use mathlib.Core.Path.{_≡_, _∙_}
+use Prim.Native.Nat.{_+_, _-_, _^_, _≤_, _<_}
 use native.Mathlib.Omega.{arith}
-use borrow.Author.Needs.{needs}
-use Rattle.ledger.specs.Ready.{bit, isReady, wordOf, readyWord}
+use Rattle.ledger.specs.Ready.{isReady, wordOf, readyWord}
 use Rattle.ledger.proofs.Places.{bit-le}
 use Rattle.layout.specs.Tables.{settingsOf}
 use Rattle.layout.specs.Picture.{ledgerIn}

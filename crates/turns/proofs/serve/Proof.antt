@@ -1,17 +1,15 @@
 -- `turns::serve` meets its contract: the oldest packet is read, its node shifted home, its price settled. Assumes nothing.
-use mathlib.Core.Path.{_≡_, refl, sym, ap, ap₂, _∙_}
-use mathlib.Core.List.{List}
+use mathlib.Core.Path.{_≡_, ap, ap₂, _∙_}
 use mathlib.Core.Bool.{true}
-use Prim.Native.Nat.{ℕ, _+_, _-_, _/_, _≤_, _<_}
+use Prim.Native.Nat.{ℕ, _+_, _-_, _/_, _<_}
 use native.Mathlib.Omega.{arith}
 use borrow.Author.Needs.{needs}
 use Rattle.ledger.specs.Answers.{sentOf}
-use Rattle.ledger.specs.Ledger.{owner, isNode, Packet, free, prefetched, place#, arrivalOf, outwardOf}
-use Rattle.ledger.proofs.Places.{place#-lt}
-use Rattle.layout.specs.declared.Table.the-variants.{Head, Count}
+use Rattle.ledger.specs.Ledger.{owner, isNode, Packet, free, prefetched, place#, arrivalOf}
+use Rattle.layout.specs.declared.Table.the-variants.{Head}
 use Rattle.layout.specs.Tables.{settingsOf, lists, get}
 use Rattle.layout.specs.Picture.{packetAt, ledgerIn}
-use Rattle.memory.specs.Writes.{headOf, moveMem, serveMem}
+use Rattle.memory.specs.Writes.{headOf, moveMem}
 use Rattle.memory.proofs.Chains.{head-is-node, state-tidy}
 use Rattle.turns.proofs.Laws.{l-in, home-in, given-small, free-in, moves-home, serve-mem}
 use Rattle.turns.proofs.serve.Statement.{statement}

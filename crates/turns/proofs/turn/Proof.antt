@@ -1,16 +1,11 @@
 -- `turns::turn` meets its contract: refused, idle, or the picked queue's oldest packet leaves. Assumes nothing.
-use mathlib.Core.Path.{_≡_, refl, sym, ap, ap₂, _∙_}
-use mathlib.Core.List.{List}
-use Prim.Native.Nat.{ℕ, _≤_, _<_}
+use mathlib.Core.Path.{_≡_, sym, ap₂, _∙_}
 use native.Mathlib.Omega.{arith}
 use borrow.Author.Needs.{needs}
-use Rattle.ledger.specs.Calls.{Reply, leaves, sideOf}
-use Rattle.ledger.specs.Ledger.{Packet, prefetched, place#, outwardOf, lastOf}
+use Rattle.ledger.specs.Ledger.{lastOf}
 use Rattle.ledger.specs.Ready.{readyWord, pick}
-use Rattle.layout.specs.declared.Table.the-variants.{Count}
-use Rattle.layout.specs.Tables.{settingsOf, get}
-use Rattle.layout.specs.Picture.{packetAt, ledgerIn}
-use Rattle.memory.specs.Writes.{headOf, serveMem}
+use Rattle.layout.specs.Tables.{settingsOf}
+use Rattle.layout.specs.Picture.{ledgerIn}
 use Rattle.turns.proofs.Laws as laws
 use Rattle.turns.proofs.turn.Statement.{statement}
 use Rattle.turns.proofs.turn.Tie as tie
