@@ -3,6 +3,7 @@ use mathlib.Core.List.{List, []}
 use Prim.Native.Nat.{ℕ}
 use lib.ListN.{take, drop}
 use Rattle.numbers.specs.Bytes.{number}
+use Rattle.ledger.specs.Settings.{settings}
 use Rattle.ledger.specs.Calls as act
 use Rattle.ledger.specs.Calls.{Reply, refused, done, entry, stitched, idle, leaves, word, found}
 use Rattle.ledger.specs.Desk as desk
@@ -23,7 +24,7 @@ headerIn s (Map id port) = []
 
 -- the call of an order, h being its header
 abbrev pub callIn : Order → List ℕ → desk.Call
-callIn (Setup nodes beat slots credit) h = desk.setup nodes beat slots credit
+callIn (Setup nodes beat slots credit) h = desk.setup (settings nodes beat slots credit)
 callIn (Arrive port at) h = desk.act (act.arrive port h)
 callIn (Stitch port) h = desk.act (act.stitch port)
 callIn (Prefetch port queue) h = desk.act (act.prefetch port queue)

@@ -19,6 +19,7 @@ ghost use lib.Dec.{ltb};
 ghost use Rattle.ledger.specs.Answers.{numberOf, kindOf, exitOf, sentOf, plainReply, stitchReply, entryReply, turnReply, readyReply, whereReply};
 ghost use Rattle.ledger.specs.Ledger.{portOf};
 ghost use Rattle.ledger.specs.Calls.{arrive, stitch, prefetch, credit, mapTo, turn, ready, whereIs};
+ghost use Rattle.ledger.specs.Settings.{settings};
 ghost use Rattle.ledger.specs.Desk.{setup, act};
 ghost use Rattle.memory.specs.Memory.{M};
 ghost use Rattle.memory.specs.Rounds.{roundOn};
@@ -211,7 +212,7 @@ pub extern "C" fn vr_size(nodes: u32) -> u64
 
 #[no_mangle]
 pub extern "C" fn vr_setup(mem: &mut [u8], nodes: u32, beat: u32, slots: u32, credit: u32) -> u32
-    ensures { λ r. ⌜ _≡_ {A = ℕ × List ℕ} (r, now (mem .exit)) (told (M (setup nodes beat slots credit) (now (mem .entry)))) ⌝ }
+    ensures { λ r. ⌜ _≡_ {A = ℕ × List ℕ} (r, now (mem .exit)) (told (M (setup (settings nodes beat slots credit)) (now (mem .entry)))) ⌝ }
 {
     let asked = Settings {
         nodes,

@@ -6,12 +6,12 @@ use Prim.Native.Nat.{ℕ, zero, suc, _+_, _*_, _%_, _≤_, _<_}
 use lib.ListN.{length}
 use lib.Dec.{eqb}
 use Rattle.numbers.specs.Bytes.{number}
-use Rattle.ledger.specs.Settings.{Settings, ids, row, size}
-use Rattle.ledger.specs.Ledger.{owner, index, Packet, bare, Ledger}
+use Rattle.ledger.specs.Settings.{Settings, row, size}
+use Rattle.ledger.specs.Ledger.{owner, index, Packet, bare, tall, Ledger}
 use Rattle.ledger.specs.Sound.{Sound}
-use Rattle.layout.specs.declared.Table.the-variants.{Mapped, Last, Arrival, Outward, Head, Tail, Count, Next, Length, Stamp, Queue, Dest}
+use Rattle.layout.specs.declared.Table.the-variants.{Head, Tail, Count, Next, Length, Stamp, Queue, Dest}
 use Rattle.layout.specs.declared.Table.the-variants.{Poisoned, Transaction, Price}
-use Rattle.layout.specs.Tables.{cells, lists, get}
+use Rattle.layout.specs.Tables.{tableOf, lists, get}
 
 -- the settings stand first: six numbers of two bytes
 unfoldable pub settingsIn : List ℕ → Settings
@@ -62,10 +62,7 @@ tabulate f i (suc n) = f i ∷ tabulate f (suc i) n
 unfoldable pub ledgerIn : Settings → List ℕ → Ledger
 ledgerIn S m = record {
   lists = tabulate (λ l. map (nodeIn S m l) (nodesOf S m l)) 0 (lists S);
-  arrival = tabulate (get S m Arrival) 0 (cells S);
-  outward = tabulate (get S m Outward) 0 (cells S);
-  last = tabulate (get S m Last) 0 (S .ports);
-  mapped = tabulate (get S m Mapped) 0 ids;
+  numbers = λ c. tabulate (get S m (tableOf c)) 0 (tall S c);
 }
 
 -- the last of a list; d where it is empty

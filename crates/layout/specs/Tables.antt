@@ -5,6 +5,7 @@ use Prim.Native.Nat.{ℕ, _+_, _-_, _*_}
 use lib.ListN.{take}
 use Rattle.numbers.specs.Bytes.{number, store}
 use Rattle.ledger.specs.Settings.{Settings, ids, row}
+use Rattle.ledger.specs.Ledger.{Column, arrival, outward, last, mapped}
 use Rattle.ledger.specs.Sound.{sum, Roomy}
 use mathlib.Core.Path.{_≡_}
 use Rattle.layout.specs.declared.Shape.{Shape}
@@ -77,6 +78,13 @@ many S Dest = all S
 many S Poisoned = all S
 many S Transaction = all S
 many S Price = all S
+
+-- the table of a column
+abbrev pub tableOf : Column → Table
+tableOf arrival = Arrival
+tableOf outward = Outward
+tableOf last = Last
+tableOf mapped = Mapped
 
 abbrev pub bytesOf : Settings → Table → ℕ
 bytesOf S t = many S t * width t

@@ -5,14 +5,16 @@ use Rattle.numbers.specs.Fields.{bits}
 use Rattle.crc.specs.Crc.{crcBit, crcBits, crcByte, crcFrom, crc8}
 use Rattle.ledger.specs.Settings.{isBeat, inRows, row, size}
 use Rattle.ledger.specs.Header.{fieldsOf, price}
-use Rattle.ledger.specs.Ledger.{isNode, recorded, place#, placeOf, cell, creditAt, setCredit, pop, push, move, putArrival, putOutward, putLast}
-use Rattle.ledger.specs.Ledger.{putMap, start}
+use Rattle.ledger.specs.Ledger.{isNode, recorded, place#, placeOf, cell, creditAt, setCredit, pop, push, move}
+use Rattle.ledger.specs.Ledger.{start, change}
 use Rattle.ledger.specs.Ready.{isReady, wordOf, readyWord, maskedAbove, pick}
-use Rattle.ledger.specs.Calls.{arrived, stitchRecord, served}
+use Rattle.ledger.specs.Calls.{onRefusal, arrived, stitchRecord, served}
 use Rattle.ledger.specs.Sound.{All}
 use Rattle.ledger.specs.Rounds.{roundActs, answerBytes, bytesOf, answersIn}
 use Rattle.ledger.specs.Cards.{Holds, cards}
 
 pub cards-hold : All Holds cards
-unfolding number bits crcBit crcBits crcByte crcFrom crc8 isBeat inRows row size fieldsOf price isNode recorded place# placeOf cell creditAt setCredit pop push move putArrival putOutward putLast putMap start isReady wordOf readyWord maskedAbove pick arrived stitchRecord served roundActs answerBytes bytesOf answersIn lib.Count.ones lib.Count.trailingZeros
+unfolding number bits crcBit crcBits crcByte crcFrom crc8 isBeat inRows row size fieldsOf price isNode recorded place# placeOf cell creditAt
+    setCredit pop push move change start isReady wordOf readyWord maskedAbove pick arrived stitchRecord served roundActs answerBytes
+    bytesOf answersIn lib.Count.ones lib.Count.trailingZeros onRefusal
 cards-hold = (refl, (refl, (refl, (refl, (refl, (refl, (refl, (refl, (refl, (refl, (refl, (refl, (refl, (refl, (refl, (refl, (refl, (refl, (refl, (refl, (refl, (refl, (refl, (refl, (refl, (refl, tt))))))))))))))))))))))))))

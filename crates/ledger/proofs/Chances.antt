@@ -12,7 +12,7 @@ use lib.Dec.{ltb}
 use Rattle.ledger.specs.Settings.{Settings}
 use Rattle.ledger.specs.Ledger.{Packet, egress, prefetched, Ledger, listAt}
 use Rattle.ledger.specs.Ready.{bit}
-use Rattle.ledger.specs.Calls.{Act, stitch, prefetch, turn, refused, isEmpty, firstOf, rules, result, step, run}
+use Rattle.ledger.specs.Calls.{Act, stitch, prefetch, turn, isEmpty, firstOf, step, run}
 use Rattle.ledger.specs.Desk.{act}
 use Rattle.ledger.specs.Sound.{All, Orderly, Roomy}
 use Rattle.ledger.specs.Demand.{isTurn, turnsIn}
@@ -21,7 +21,7 @@ use Rattle.ledger.specs.Door.{lineOf}
 use Rattle.ledger.proofs.Tests.{true≢false, leb-not, eqb-is, eqb-not, ltb-is, ltb-not}
 use Rattle.ledger.proofs.Lists.{All-append}
 use Rattle.ledger.proofs.Keep.{to-moved}
-use Rattle.ledger.proofs.Steps.{cleared, keep-step, keep-run}
+use Rattle.ledger.proofs.Steps.{keep-step, keep-run, step-clear}
 use Rattle.ledger.proofs.Walk.{countIn, count-append}
 use Rattle.ledger.proofs.Line.{isChance, some-slots-step, some-line-step}
 
@@ -95,7 +95,7 @@ module _ (S : Settings) (ok : Roomy S) (p q : ℕ) (hp : p < S .ports) (hq : q <
       go [] i =
           let some : isEmpty back ≡ false = ap (λ (xs : List Packet). isEmpty (xs ++ back)) (sym i) ∙ e in
           let few : length (listAt S L (prefetched p q)) < S .slots = omega (arith, ap length i, ok .some-slots) in
-          let d = cleared (rules S L (prefetch p q)) (λ n. (refused n, L)) (result S L (prefetch p q))
+          let d = step-clear S L (prefetch p q)
           (leb-not (S .ports) p hp, (leb-not (S .queues) q hq, (some, (leb-not (S .slots) _ few, tt)))) in
           let to = to-moved S ok L s (egress p q) (hp, hq) some (prefetched p q) (hp, hq) (firstOf S L (egress p q)) refl
           (λ j. let o : _≡_ {A = ℕ} 0 1 = cc in omega arith) in

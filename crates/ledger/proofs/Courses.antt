@@ -15,7 +15,7 @@ use Rattle.ledger.proofs.Promises.{refusal-keeps-desk}
 
 unfoldable pub actsIn : List Call → List Act
 actsIn [] = []
-actsIn (setup N b s c ∷ cs) = actsIn cs
+actsIn (setup T ∷ cs) = actsIn cs
 actsIn (act a ∷ cs) = a ∷ actsIn cs
 
 -- ---- calls after calls
@@ -60,7 +60,7 @@ module _ {X : Type 0} (call : X → Call → Reply × X) (shows : X → Desk) wh
         → shows (afterCalls call x cs) ≡ has S (run S L (actsIn cs))
     unfolding actsIn
     calls-show x L e [] f = e
-    calls-show x L e (setup N b s c ∷ cs) f = calls-show (call x (setup N b s c) .1) L (refused-shows x (setup N b s c) (f .0 refl) ∙ e) cs (f .1)
+    calls-show x L e (setup T ∷ cs) f = calls-show (call x (setup T) .1) L (refused-shows x (setup T) (f .0 refl) ∙ e) cs (f .1)
     calls-show x L e (act a ∷ cs) f = calls-show (call x (act a) .1) (step S L a .1) (act-shows x L e a) cs (f .1)
 
 -- ---- the desk itself

@@ -2,21 +2,22 @@
 use mathlib.Core.Path.{_≡_, ap, _∙_, subst}
 use mathlib.Core.Bool.{true, Bool-discrete}
 use mathlib.Core.List.{List, [], _∷_}
-use Prim.Native.Nat.{ℕ, zero, suc, _+_, _-_, _*_, _^_, _≤_, _<_, zero-le, suc-le-suc}
+use Prim.Native.Nat.{ℕ, zero, suc, _+_, _*_, _^_, _≤_, _<_, zero-le, suc-le-suc}
 use native.Mathlib.Nat.{le-of-suc-le-suc, not-suc-le-zero, div-add-mod'}
 use native.Mathlib.Decide.{map-dec, decLe, decLt, ℕ-discrete}
 use native.Mathlib.Omega.{arith}
 use lib.ListN.{length, getD}
-use Rattle.ledger.specs.Settings.{Settings, inRows, ids, row}
+use Rattle.ledger.specs.Settings.{Settings, inRows, row}
 use Rattle.ledger.specs.Header.{leastLength, price}
 use Rattle.ledger.specs.Ledger.{owner, index, entryId, isNode, Packet, Place, free, ingress, egress, prefetched, placeOf, Ledger, listAt}
-use Rattle.ledger.specs.Ledger.{arrivalOf, outwardOf, lastOf, mapOf}
+use Rattle.ledger.specs.Ledger.{arrivalOf, mapped, Column, column#, tall, bound}
 use Rattle.ledger.specs.Ready.{bit}
 use Rattle.ledger.specs.Sound.{All, Everywhere, weigh, Shaped, InRange, one, Once, OwnPort, OwnQueue, Proper, WellRecorded, owed, Orderly, Sound, Roomy}
 use Rattle.ledger.proofs.Lists.{everywhere-map, counted}
 use Rattle.ledger.proofs.Places.{node-of, node-is}
 use Rattle.ledger.proofs.Rows.{roomy}
 use Rattle.ledger.proofs.Find.{once-by-test}
+use Rattle.ledger.proofs.Columns.{column-at, columnAt, column-low}
 
 -- ---- decisions of parts
 
@@ -48,15 +49,17 @@ everywhere-dec P d ls =
 -- ---- the rules
 
 module _ (S : Settings) where
+  -- for each column
+  columns-dec : (P : Column → Type 0) → ((c : Column) → Dec (P c)) → Dec ((c : Column) → P c)
+  columns-dec P d =
+      map-dec (λ f c. subst P (column-at c) (f (column# c) (column-low c))) (λ f i h. f (columnAt i))
+      (below-dec (λ i. P (columnAt i)) (suc (column# mapped)) (λ i. d (columnAt i)))
+
   shaped-dec : (L : Ledger) → Dec (Shaped S L)
   shaped-dec L =
-      map-dec
-      (λ t. record { lists-long = t .0; arrival-long = t .1 .0; outward-long = t .1 .1 .0; last-long = t .1 .1 .1 .0; mapped-long = t .1 .1 .1 .1 })
-      (λ r. (r .lists-long, (r .arrival-long, (r .outward-long, (r .last-long, r .mapped-long)))))
+      map-dec (λ t. record { lists-long = t .0; numbers-long = t .1 }) (λ r. (r .lists-long, r .numbers-long))
       (and-dec (ℕ-discrete (length (L .lists)) (S .ports * row S))
-      (and-dec (ℕ-discrete (length (L .arrival)) (S .ports * (S .queues - 1)))
-      (and-dec (ℕ-discrete (length (L .outward)) (S .ports * (S .queues - 1)))
-      (and-dec (ℕ-discrete (length (L .last)) (S .ports)) (ℕ-discrete (length (L .mapped)) ids)))))
+      (columns-dec (λ c. length (L .numbers c) ≡ tall S c) (λ c. ℕ-discrete (length (L .numbers c)) (tall S c))))
 
   -- for each port and queue
   both-dec : (P : ℕ → ℕ → Type 0) → ((p q : ℕ) → Dec (P p q)) → Dec ((p q : ℕ) → p < S .ports → q < S .queues → P p q)
@@ -66,14 +69,10 @@ module _ (S : Settings) where
 
   ranges-dec : (L : Ledger) → Dec (InRange S L)
   ranges-dec L =
-      map-dec
-      (λ t. record { last-in = t .0; map-in = t .1 .0; arrival-in = t .1 .1 .0; outward-in = t .1 .1 .1 .0; slots-in = t .1 .1 .1 .1 })
-      (λ r. (r .last-in, (r .map-in, (r .arrival-in, (r .outward-in, r .slots-in)))))
-      (and-dec (below-dec (λ p. lastOf L p < S .queues) (S .ports) (λ p. decLt (lastOf L p) (S .queues)))
-      (and-dec (below-dec (λ d. mapOf L d < S .ports) ids (λ d. decLt (mapOf L d) (S .ports)))
-      (and-dec (both-dec (λ p q. arrivalOf S L p q ≤ 65535) (λ p q. decLe (arrivalOf S L p q) 65535))
-      (and-dec (both-dec (λ p q. outwardOf S L p q ≤ 65535) (λ p q. decLe (outwardOf S L p q) 65535))
-      (both-dec (λ p q. length (listAt S L (prefetched p q)) ≤ S .slots) (λ p q. decLe (length (listAt S L (prefetched p q))) (S .slots)))))))
+      map-dec (λ t. record { numbers-in = t .0; slots-in = t .1 }) (λ r. (r .numbers-in, r .slots-in))
+      (and-dec (columns-dec (λ c. (i : ℕ) → i < tall S c → getD (L .numbers c) i 0 < bound S c)
+      (λ c. below-dec (λ i. getD (L .numbers c) i 0 < bound S c) (tall S c) (λ i. decLt (getD (L .numbers c) i 0) (bound S c))))
+      (both-dec (λ p q. length (listAt S L (prefetched p q)) ≤ S .slots) (λ p q. decLe (length (listAt S L (prefetched p q))) (S .slots))))
 
   -- rule (c) speaks of all numbers; it is enough to look at the members of the lists, and at the nodes
   once-dec : S .nodes ≤ 2048 → (ls : List (List Packet)) → Dec (Once S ls)

@@ -13,9 +13,9 @@ use lib.Dec.{eqb}
 use Rattle.ledger.specs.Settings.{Settings}
 use Rattle.ledger.specs.Rules.{Clear}
 use Rattle.ledger.specs.Ledger.{owner, Packet, bare, recorded, Place, free, ingress, egress, prefetched, Ledger, listAt, lastOf, mapOf, move}
-use Rattle.ledger.specs.Ledger.{putArrival, putOutward, putLast, putMap}
+use Rattle.ledger.specs.Ledger.{change}
 use Rattle.ledger.specs.Ready.{bit, readyWord, pick}
-use Rattle.ledger.specs.Calls.{Act, arrive, stitch, prefetch, credit, mapTo, turn, ready, whereIs, Reply, refused, stitched, idle, isEmpty}
+use Rattle.ledger.specs.Calls.{Act, arrive, stitch, prefetch, credit, mapTo, turn, ready, whereIs, Reply, stitched, idle, isEmpty}
 use Rattle.ledger.specs.Calls.{firstOf, stitchRecord, arriving, arrived, served, serve, turned, rules, result, step}
 use Rattle.ledger.specs.Sound.{All, Orderly, Roomy}
 use Rattle.ledger.specs.Demand.{isTurn, InHand}
@@ -26,7 +26,7 @@ use Rattle.ledger.proofs.Lists.{All-append, All-at}
 use Rattle.ledger.proofs.Places.{Place·In}
 use Rattle.ledger.proofs.Keep.{some-queue, first-node, from-moved, to-moved, else-moved}
 use Rattle.ledger.proofs.Passes.{Admits, admits}
-use Rattle.ledger.proofs.Steps.{guarded, cleared, picked-some}
+use Rattle.ledger.proofs.Steps.{picked-some, stepped, step-clear, refused-lists}
 use Rattle.ledger.proofs.Walk.{countIn, Does, ends, nears, Course}
 use Rattle.ledger.proofs.Line.{grown-moved, stitch-in, Waits, waits-from}
 use Rattle.ledger.proofs.Chances.{Among, among-left, among-each, all-each, Quiet, quiet-stitches, chancesOf, chance-after}
@@ -67,7 +67,7 @@ module _ (S : Settings) (ok : Roomy S) (r : ℕ) (hr : r < S .ports) where
     longer-moved v w hv hw e d k same n = grown-moved S ok L s v w hv hw e d k same (ingress r) door-in n
 
     longer-arrived : (p : ℕ) (h : List ℕ) → Admits S L p h → Longer (arrived S L p (arriving S L p h))
-    unfolding arrived putArrival
+    unfolding arrived change
     longer-arrived p h a =
         let v-in : Place·In S (free p) = (a .port, some-queue S ok L s) in
         longer-moved (free p) (ingress p) v-in v-in (a .some) (λ i. let z : _≡_ {A = ℕ} 0 1 = cc in omega arith)
@@ -75,7 +75,7 @@ module _ (S : Settings) (ok : Roomy S) (r : ℕ) (hr : r < S .ports) where
 
     longer-served : (p q : ℕ) → p < S .ports → q < S .queues → isEmpty (listAt S L (prefetched p q)) ≡ false
         → Longer (served S L p q (firstOf S L (prefetched p q)))
-    unfolding served putLast putOutward putArrival
+    unfolding served change
     longer-served p q hp hq e =
         let k : Packet = firstOf S L (prefetched p q) in
         let w-in : Place·In S (free (owner (k .node))) = (first-node S ok L s (prefetched p q) (hp, hq) e .home, some-queue S ok L s) in
@@ -109,8 +109,8 @@ module _ (S : Settings) (ok : Roomy S) (r : ℕ) (hr : r < S .ports) where
         longer-moved (egress p q) (prefetched p q) (hp, hq) (hp, hq) (c .1 .1 .0)
         (λ j. let z : _≡_ {A = ℕ} 0 1 = cc in omega arith) (firstOf S L (egress p q)) refl
         (λ j. let z : _≡_ {A = ℕ} 0 1 = cc in omega arith)
-    longer-result (credit p q n) i c = unfold putOutward in longer-refl
-    longer-result (mapTo d p) i c = unfold putMap in longer-refl
+    longer-result (credit p q n) i c = unfold change in longer-refl
+    longer-result (mapTo d p) i c = unfold change in longer-refl
     longer-result (turn p) i c =
         let hp : p < S .ports = leb-no (S .ports) p (c .0) in
         longer-turned p (readyWord S L p) hp (picked-some S ok L s p hp)
@@ -119,11 +119,11 @@ module _ (S : Settings) (ok : Roomy S) (r : ℕ) (hr : r < S .ports) where
 
     longer-step : (a : Act) → isStitch r a ≡ false → Longer (step S L a .1)
     longer-step a i =
-        guarded (λ out. Longer (out .1)) (rules S L a) (λ n. (refused n, L)) (result S L a) (λ n. longer-refl) (longer-result a i)
+        stepped S L a (λ out. Longer (out .1)) (λ n. rw (refused-lists S n a L) longer-refl) (longer-result a i)
 
     -- its own stitch is not refused while somebody stands there
     stitch-step : isEmpty (listAt S L (ingress r)) ≡ false → step S L (stitch r) ≡ result S L (stitch r)
-    stitch-step e = cleared (rules S L (stitch r)) (λ n. (refused n, L)) (result S L (stitch r)) (leb-not (S .ports) r hr, (e, tt))
+    stitch-step e = step-clear S L (stitch r) (leb-not (S .ports) r hr, (e, tt))
 
     shorter : isEmpty (listAt S L (ingress r)) ≡ false → listAt S (step S L (stitch r) .1) (ingress r) ≡ drop 1 (listAt S L (ingress r))
     shorter e =

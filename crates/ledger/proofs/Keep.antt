@@ -11,7 +11,7 @@ use lib.Dec.{eqb}
 use Rattle.ledger.specs.Settings.{Settings, row}
 use Rattle.ledger.specs.Header.{price}
 use Rattle.ledger.specs.Ledger.{owner, Packet, Place, prefetched, place#, placeOf, Ledger, listAt, arrivalOf, behind, pop, push, move}
-use Rattle.ledger.specs.Ledger.{putArrival, putOutward, putLast, putMap, setCredit}
+use Rattle.ledger.specs.Ledger.{putCredit, putIn, setCredit, arrival, outward, Column, tall, bound, change, creditAt, cell}
 use Rattle.ledger.specs.Ready.{bit}
 use Rattle.ledger.specs.Calls.{isEmpty, firstOf}
 use Rattle.ledger.specs.Sound.{Everywhere, weigh, one, Once, OwnPort, OwnQueue, Proper, WellRecorded, owes, due, owed, Orderly, Roomy}
@@ -20,15 +20,8 @@ use Rattle.ledger.proofs.Lists.{drop-le, weigh-pop, weigh-push, length-
 use Rattle.ledger.proofs.Lists.{All-front, everywhere-map, everywhere-both, everywhere-pop, everywhere-push, counted}
 use Rattle.ledger.proofs.Header.{price-free}
 use Rattle.ledger.proofs.Places.{Place·In, place#-lt, place-number, place#-inj, place#-other, Node, node-of, length-credit, credit-none}
-use Rattle.ledger.proofs.Places.{credit-at, credit-other, credit-le}
-
--- a bound on every entry of a table outlasts a change of one
-pub set-lt : (xs : List ℕ) (i v j m : ℕ) → v < m → getD xs j 0 < m → getD (set xs i v) j 0 < m
-set-lt [] i v j m h k = k
-set-lt (x ∷ xs) zero v zero m h k = h
-set-lt (x ∷ xs) zero v (suc j) m h k = k
-set-lt (x ∷ xs) (suc i) v zero m h k = k
-set-lt (x ∷ xs) (suc i) v (suc j) m h k = set-lt xs i v j m h k
+use Rattle.ledger.proofs.Places.{credit-at, credit-other, cells-all, set-lt, credit-lt}
+use Rattle.ledger.proofs.Columns.{changed, change-other}
 
 -- a node owes its price to its owner's queue, and nothing to any other
 pub owes-cases : (k : Packet) (p q : ℕ)
@@ -144,20 +137,8 @@ module _ (S : Settings) (roomy : Roomy S) (L : Ledger) (s : Orderly S L) where
             → ((p q : ℕ) → due p q v (firstOf S L v) ≡ due p q w k) → Orderly S (move S v w k L)
         unfolding move
         keep-moved f ok same-due = record {
-          shaped = record {
-            lists-long = long-moved;
-            arrival-long = s .shaped .arrival-long;
-            outward-long = s .shaped .outward-long;
-            last-long = s .shaped .last-long;
-            mapped-long = s .shaped .mapped-long;
-          };
-          ranges = record {
-            last-in = s .ranges .last-in;
-            map-in = s .ranges .map-in;
-            arrival-in = s .ranges .arrival-in;
-            outward-in = s .ranges .outward-in;
-            slots-in = slots-moved f;
-          };
+          shaped = record { lists-long = long-moved; numbers-long = s .shaped .numbers-long };
+          ranges = record { numbers-in = s .ranges .numbers-in; slots-in = slots-moved f };
           once = once-moved;
           owned = everywhere-moved (λ l j. OwnPort (placeOf S l) j) (s .owned) (at-w OwnPort (ok .0));
           queued = everywhere-moved (λ l j. OwnQueue (placeOf S l) j) (s .queued) (at-w OwnQueue (ok .1));
@@ -168,111 +149,74 @@ module _ (S : Settings) (roomy : Roomy S) (L : Ledger) (s : Orderly S L) where
         -- a movement with which the arrival credit of one port and queue changes by as much as is owed
         pub keep-traded : ((p q : ℕ) → prefetched p q ≡ w → length (listAt S L w) < S .slots) → Fits S w k
             → (a t c : ℕ)
-            → ((p q : ℕ) → q < S .queues → arrivalOf S (putArrival S a t c L) p q + due p q w k ≡ arrivalOf S L p q + due p q v (firstOf S L v))
-            → Orderly S (putArrival S a t c (move S v w k L))
-        unfolding move putArrival
+            → ((p q : ℕ) → q < S .queues → arrivalOf S (putCredit arrival S a t c L) p q + due p q w k ≡ arrivalOf S L p q + due p q v (firstOf S L v))
+            → Orderly S (putCredit arrival S a t c (move S v w k L))
         keep-traded f ok a t c traded = record {
           shaped = record {
-            lists-long = long-moved;
-            arrival-long = length-credit S (L .arrival) a t c ∙ s .shaped .arrival-long;
-            outward-long = s .shaped .outward-long;
-            last-long = s .shaped .last-long;
-            mapped-long = s .shaped .mapped-long;
+            lists-long = unfold move change in long-moved;
+            numbers-long = changed arrival give N (λ d xs. length xs ≡ tall S d)
+                (length-credit S (N .numbers arrival) a t c ∙ unfold move in (s .shaped .numbers-long arrival))
+                (unfold move in (s .shaped .numbers-long));
           };
           ranges = record {
-            last-in = s .ranges .last-in;
-            map-in = s .ranges .map-in;
-            arrival-in = λ p q hp hq. in-range p q hp hq;
-            outward-in = s .ranges .outward-in;
-            slots-in = slots-moved f;
+            numbers-in = changed arrival give N (λ d xs. (i : ℕ) → i < tall S d → getD xs i 0 < bound S d)
+                (cells-all S (roomy .some-queues) (λ i. getD (give (N .numbers arrival)) i 0 < 65536) in-cell)
+                (unfold move in (s .ranges .numbers-in));
+            slots-in = unfold change in (slots-moved f);
           };
-          once = once-moved;
-          owned = everywhere-moved (λ l j. OwnPort (placeOf S l) j) (s .owned) (at-w OwnPort (ok .0));
-          queued = everywhere-moved (λ l j. OwnQueue (placeOf S l) j) (s .queued) (at-w OwnQueue (ok .1));
-          proper = everywhere-moved (λ l j. WellRecorded S (placeOf S l) j) (s .proper) (at-w (WellRecorded S) (ok .2));
-          paid = paid-traded;
+          once = unfold move change in once-moved;
+          owned = unfold move change in (everywhere-moved (λ l j. OwnPort (placeOf S l) j) (s .owned) (at-w OwnPort (ok .0)));
+          queued = unfold move change in (everywhere-moved (λ l j. OwnQueue (placeOf S l) j) (s .queued) (at-w OwnQueue (ok .1)));
+          proper = unfold move change in (everywhere-moved (λ l j. WellRecorded S (placeOf S l) j) (s .proper) (at-w (WellRecorded S) (ok .2)));
+          paid = unfold move change in paid-traded;
         }
           where
-            paid-traded : (p q : ℕ) → p < S .ports → 0 < q → q < S .queues → arrivalOf S (putArrival S a t c L) p q + weigh (owed S p q) moved ≡ S .credit
+            N : Ledger
+            N = move S v w k L
+
+            give : List ℕ → List ℕ
+            give xs = setCredit S xs a t c
+
+            paid-traded : (p q : ℕ) → p < S .ports → 0 < q → q < S .queues
+                → arrivalOf S (putCredit arrival S a t c L) p q + weigh (owed S p q) moved ≡ S .credit
             paid-traded p q hp h0 hq = omega (arith, owed-moved p q, traded p q hq, s .paid p q hp h0 hq)
 
-            in-range : (p q : ℕ) → p < S .ports → q < S .queues → arrivalOf S (putArrival S a t c L) p q ≤ 65535
-            in-range p zero hp hq = omega (arith, credit-none S (setCredit S (L .arrival) a t c) p)
-            in-range p (suc q) hp hq = omega (arith, paid-traded p (suc q) hp (suc-le-suc zero-le) hq, roomy .low-credit)
+            in-cell : (p r : ℕ) → p < S .ports → suc r < S .queues → getD (give (N .numbers arrival)) (cell S p r) 0 < 65536
+            in-cell p r hp hr =
+                let e = paid-traded p (suc r) hp (suc-le-suc zero-le) hr in
+                unfold move change creditAt in omega (arith, e, roomy .low-credit)
 
-  -- ---- outward credit, the mark and the map
+  -- ---- a column that is no arrival credit
 
-  pub keep-outward : (p q v : ℕ) → v ≤ 65535 → Orderly S (putOutward S p q v L)
-  unfolding putOutward
-  keep-outward p q v hv = record {
+  keep-changed : (c : Column) → c ≢ arrival → (f : List ℕ → List ℕ) → length (f (L .numbers c)) ≡ length (L .numbers c)
+      → ((i : ℕ) → i < tall S c → getD (f (L .numbers c)) i 0 < bound S c) → Orderly S (change c f L)
+  keep-changed c other f same low = record {
     shaped = record {
-      lists-long = s .shaped .lists-long;
-      arrival-long = s .shaped .arrival-long;
-      outward-long = length-credit S (L .outward) p q v ∙ s .shaped .outward-long;
-      last-long = s .shaped .last-long;
-      mapped-long = s .shaped .mapped-long;
+      lists-long = unfold change in (s .shaped .lists-long);
+      numbers-long = changed c f L (λ d xs. length xs ≡ tall S d) (same ∙ s .shaped .numbers-long c) (s .shaped .numbers-long);
     };
     ranges = record {
-      last-in = s .ranges .last-in;
-      map-in = s .ranges .map-in;
-      arrival-in = s .ranges .arrival-in;
-      outward-in = λ p′ q′ hp′ hq′. credit-le S (L .outward) p q v p′ q′ 65535 hv (s .ranges .outward-in p′ q′ hp′ hq′);
-      slots-in = s .ranges .slots-in;
+      numbers-in = changed c f L (λ d xs. (i : ℕ) → i < tall S d → getD xs i 0 < bound S d) low (s .ranges .numbers-in);
+      slots-in = unfold change in (s .ranges .slots-in);
     };
-    once = s .once;
-    owned = s .owned;
-    queued = s .queued;
-    proper = s .proper;
-    paid = s .paid;
+    once = unfold change in (s .once);
+    owned = unfold change in (s .owned);
+    queued = unfold change in (s .queued);
+    proper = unfold change in (s .proper);
+    paid = λ p q hp h0 hq.
+        ap (λ (xs : List ℕ). creditAt S xs p q + weigh (owed S p q) (change c f L .lists)) (change-other c f L arrival other)
+        ∙ unfold change in (s .paid p q hp h0 hq);
   }
 
-  pub keep-last : (p q : ℕ) → q < S .queues → Orderly S (putLast p q L)
-  unfolding putLast
-  keep-last p q hq = record {
-    shaped = record {
-      lists-long = s .shaped .lists-long;
-      arrival-long = s .shaped .arrival-long;
-      outward-long = s .shaped .outward-long;
-      last-long = length-set (L .last) p q ∙ s .shaped .last-long;
-      mapped-long = s .shaped .mapped-long;
-    };
-    ranges = record {
-      last-in = λ r hr. set-lt (L .last) p q r (S .queues) hq (s .ranges .last-in r hr);
-      map-in = s .ranges .map-in;
-      arrival-in = s .ranges .arrival-in;
-      outward-in = s .ranges .outward-in;
-      slots-in = s .ranges .slots-in;
-    };
-    once = s .once;
-    owned = s .owned;
-    queued = s .queued;
-    proper = s .proper;
-    paid = s .paid;
-  }
+  pub keep-put : (c : Column) → c ≢ arrival → (i v : ℕ) → v < bound S c → Orderly S (putIn c i v L)
+  keep-put c other i v h =
+      keep-changed c other (λ xs. set xs i v) (length-set (L .numbers c) i v)
+      (λ j k. set-lt (L .numbers c) i v j (bound S c) h (s .ranges .numbers-in c j k))
 
-  pub keep-mapped : (d p : ℕ) → p < S .ports → Orderly S (putMap d p L)
-  unfolding putMap
-  keep-mapped d p hp = record {
-    shaped = record {
-      lists-long = s .shaped .lists-long;
-      arrival-long = s .shaped .arrival-long;
-      outward-long = s .shaped .outward-long;
-      last-long = s .shaped .last-long;
-      mapped-long = length-set (L .mapped) d p ∙ s .shaped .mapped-long;
-    };
-    ranges = record {
-      last-in = s .ranges .last-in;
-      map-in = λ i hi. set-lt (L .mapped) d p i (S .ports) hp (s .ranges .map-in i hi);
-      arrival-in = s .ranges .arrival-in;
-      outward-in = s .ranges .outward-in;
-      slots-in = s .ranges .slots-in;
-    };
-    once = s .once;
-    owned = s .owned;
-    queued = s .queued;
-    proper = s .proper;
-    paid = s .paid;
-  }
+  pub keep-outward : (p q v : ℕ) → v ≤ 65535 → Orderly S (putCredit outward S p q v L)
+  keep-outward p q v h =
+      keep-changed outward (λ e. let z : _≡_ {A = ℕ} 0 1 = cc in omega arith) (λ xs. setCredit S xs p q v) (length-credit S (L .numbers outward) p q v)
+      (λ i k. credit-lt S (L .numbers outward) p q v i 65536 (omega arith) (s .ranges .numbers-in outward i k))
 
   -- ---- arrival credit trades with what is owed
 
@@ -293,27 +237,27 @@ module _ (S : Settings) (roomy : Roomy S) (L : Ledger) (s : Orderly S L) where
         go (inr h) = h .1
 
     pub lowered : k .price ≤ arrivalOf S L own (k .queue) → (r t : ℕ) → t < S .queues
-        → arrivalOf S (putArrival S own (k .queue) (arrivalOf S L own (k .queue) - k .price) L) r t + owes r t k ≡ arrivalOf S L r t
-    unfolding putArrival
+        → arrivalOf S (putCredit arrival S own (k .queue) (arrivalOf S L own (k .queue) - k .price) L) r t + owes r t k ≡ arrivalOf S L r t
+    unfolding change
     lowered afford r zero ht =
-        omega (arith, nothing-owed r, credit-none S (setCredit S (L .arrival) own (k .queue) (arrivalOf S L own (k .queue) - k .price)) r, credit-none S (L .arrival) r)
+        omega (arith, nothing-owed r, credit-none S (setCredit S (L .numbers arrival) own (k .queue) (arrivalOf S L own (k .queue) - k .price)) r, credit-none S (L .numbers arrival) r)
     lowered afford r (suc t) ht = go (owes-cases k r (suc t))
       where
         lo : ℕ
         lo = arrivalOf S L own (k .queue) - k .price
 
         go : ((own ≡ r) × (k .queue ≡ suc t) × (owes r (suc t) k ≡ k .price)) ⊎ (((own ≡ r) → (k .queue ≡ suc t) → ⊥) × (owes r (suc t) k ≡ 0))
-            → arrivalOf S (putArrival S own (k .queue) lo L) r (suc t) + owes r (suc t) k ≡ arrivalOf S L r (suc t)
+            → arrivalOf S (putCredit arrival S own (k .queue) lo L) r (suc t) + owes r (suc t) k ≡ arrivalOf S L r (suc t)
         go (inl h) =
             let same : arrivalOf S L own (k .queue) ≡ arrivalOf S L r (suc t) = ap (λ (a : ℕ). arrivalOf S L a (k .queue)) (h .0) ∙ ap (λ (b : ℕ). arrivalOf S L r b) (h .1) in
-            omega (arith, h .2, same, credit-at S (L .arrival) own (k .queue) lo (s .shaped .arrival-long) home (good .queue-in) r (suc t) (h .0) (h .1) (suc-le-suc zero-le))
-        go (inr h) = omega (arith, h .1, credit-other S (L .arrival) own (k .queue) lo (s .shaped .arrival-long) home (good .queue-in) r (suc t) ht (h .0))
+            omega (arith, h .2, same, credit-at S (L .numbers arrival) own (k .queue) lo (s .shaped .numbers-long arrival) home (good .queue-in) r (suc t) (h .0) (h .1) (suc-le-suc zero-le))
+        go (inr h) = omega (arith, h .1, credit-other S (L .numbers arrival) own (k .queue) lo (s .shaped .numbers-long arrival) home (good .queue-in) r (suc t) ht (h .0))
 
     pub raised : (q : ℕ) → k .queue ≡ q → (r t : ℕ) → t < S .queues
-        → arrivalOf S (putArrival S own q (arrivalOf S L own q + k .price) L) r t ≡ arrivalOf S L r t + owes r t k
-    unfolding putArrival
+        → arrivalOf S (putCredit arrival S own q (arrivalOf S L own q + k .price) L) r t ≡ arrivalOf S L r t + owes r t k
+    unfolding change
     raised q kq r zero ht =
-        omega (arith, nothing-owed r, credit-none S (setCredit S (L .arrival) own q (arrivalOf S L own q + k .price)) r, credit-none S (L .arrival) r)
+        omega (arith, nothing-owed r, credit-none S (setCredit S (L .numbers arrival) own q (arrivalOf S L own q + k .price)) r, credit-none S (L .numbers arrival) r)
     raised q kq r (suc t) ht = go (owes-cases k r (suc t))
       where
         hi : ℕ
@@ -323,9 +267,9 @@ module _ (S : Settings) (roomy : Roomy S) (L : Ledger) (s : Orderly S L) where
         hq = omega (arith, good .queue-in)
 
         go : ((own ≡ r) × (k .queue ≡ suc t) × (owes r (suc t) k ≡ k .price)) ⊎ (((own ≡ r) → (k .queue ≡ suc t) → ⊥) × (owes r (suc t) k ≡ 0))
-            → arrivalOf S (putArrival S own q hi L) r (suc t) ≡ arrivalOf S L r (suc t) + owes r (suc t) k
+            → arrivalOf S (putCredit arrival S own q hi L) r (suc t) ≡ arrivalOf S L r (suc t) + owes r (suc t) k
         go (inl h) =
             let qt : q ≡ suc t = sym kq ∙ h .1 in
             let same : arrivalOf S L own q ≡ arrivalOf S L r (suc t) = ap (λ (a : ℕ). arrivalOf S L a q) (h .0) ∙ ap (λ (b : ℕ). arrivalOf S L r b) qt in
-            omega (arith, h .2, same, credit-at S (L .arrival) own q hi (s .shaped .arrival-long) home hq r (suc t) (h .0) qt (suc-le-suc zero-le))
-        go (inr h) = omega (arith, h .1, credit-other S (L .arrival) own q hi (s .shaped .arrival-long) home hq r (suc t) ht (λ a b. h .0 a (kq ∙ b)))
+            omega (arith, h .2, same, credit-at S (L .numbers arrival) own q hi (s .shaped .numbers-long arrival) home hq r (suc t) (h .0) qt (suc-le-suc zero-le))
+        go (inr h) = omega (arith, h .1, credit-other S (L .numbers arrival) own q hi (s .shaped .numbers-long arrival) home hq r (suc t) ht (λ a b. h .0 a (kq ∙ b)))

@@ -1,6 +1,7 @@
 pub mod Tests
 pub mod Lists
 pub mod Places
+pub mod Columns
 pub mod Header
 pub mod Ready
 pub mod Rows

@@ -12,10 +12,10 @@ use lib.Dec.{eqb, leb}
 use Rattle.ledger.specs.Settings.{Settings}
 use Rattle.ledger.specs.Rules.{Clear}
 use Rattle.ledger.specs.Ledger.{owner, Packet, bare, recorded, Place, free, ingress, egress, prefetched, place#, Ledger, listAt, outwardOf}
-use Rattle.ledger.specs.Ledger.{lastOf, mapOf, creditAt, setCredit, cell, move, putArrival, putOutward, putLast, putMap}
+use Rattle.ledger.specs.Ledger.{lastOf, mapOf, creditAt, setCredit, cell, move, outward, last, mapped, change}
 use Rattle.ledger.specs.Ready.{bit, covered, isReady, readyWord, pick}
-use Rattle.ledger.specs.Calls.{Act, arrive, stitch, prefetch, credit, mapTo, turn, ready, whereIs, Reply, refused, idle, leaves, sideOf}
-use Rattle.ledger.specs.Calls.{isEmpty, firstOf, arriving, arrived, served, serve, turned, rules, result, step}
+use Rattle.ledger.specs.Calls.{Act, arrive, stitch, prefetch, credit, mapTo, turn, ready, whereIs, Reply, idle, leaves, sideOf}
+use Rattle.ledger.specs.Calls.{isEmpty, firstOf, arriving, arrived, served, serve, turned, rules, result, step, onRefusal}
 use Rattle.ledger.specs.Sound.{sum, Orderly, Roomy}
 use Rattle.ledger.specs.Demand.{isTurn, InHand}
 use Rattle.ledger.specs.Door.{lineOf}
@@ -25,7 +25,7 @@ use Rattle.ledger.proofs.Places.{Place·In, credit-same, credit-other}
 use Rattle.ledger.proofs.Keep.{some-queue, first-fits, first-node, from-moved, to-moved, else-moved}
 use Rattle.ledger.proofs.Ready.{gap, gap-pos, gap-le, word-some, picked-nearer}
 use Rattle.ledger.proofs.Passes.{Admits, admits}
-use Rattle.ledger.proofs.Steps.{guarded, picked-some}
+use Rattle.ledger.proofs.Steps.{picked-some, stepped, refused-lists, refused-numbers}
 use Rattle.ledger.proofs.Walk.{Does, ends, nears, Course}
 
 -- a chance for queue q of port p: a turn of p that finds the slots of q not empty
@@ -75,7 +75,7 @@ pub stitch-in : (S : Settings) (ok : Roomy S) (L : Ledger) → Orderly S L → (
     → (k : Packet) → k ≡ firstOf S L (ingress r) → Place·In S (egress (mapOf L (k .dest)) (k .queue))
 stitch-in S ok L s r hr e k first =
     let f = rw (← first) at (first-fits S ok L s (ingress r) (hr, some-queue S ok L s) e .2) in
-    (s .ranges .map-in (k .dest) (f .dest-in), f .queue-in)
+    (s .ranges .numbers-in mapped (k .dest) (f .dest-in), f .queue-in)
 
 module _ (S : Settings) (ok : Roomy S) (p q : ℕ) (hp : p < S .ports) (hq : q < S .queues) where
   -- the slots of our queue, and its egress list
@@ -138,7 +138,7 @@ module _ (S : Settings) (ok : Roomy S) (p q : ℕ) (hp : p < S .ports) (hq : q <
       }
 
   spared-arrived : (L : Ledger) → Orderly S L → (r : ℕ) (h : List ℕ) → Admits S L r h → Spared L (arrived S L r (arriving S L r h))
-  unfolding arrived putArrival
+  unfolding arrived change
   spared-arrived L s r h a =
       let v-in : Place·In S (free r) = (a .port, some-queue S ok L s) in
       record {
@@ -180,7 +180,7 @@ module _ (S : Settings) (ok : Roomy S) (p q : ℕ) (hp : p < S .ports) (hq : q <
   -- a turn that serves another queue
   spared-served : (L : Ledger) → Orderly S L → (r t : ℕ) → r < S .ports → t < S .queues → isEmpty (listAt S L (prefetched r t)) ≡ false
       → ((r ≡ p) → (t ≡ q) → ⊥) → Spared L (served S L r t (firstOf S L (prefetched r t)))
-  unfolding served putLast putOutward putArrival
+  unfolding served change
   spared-served L s r t hr ht e n =
       let k : Packet = firstOf S L (prefetched r t) in
       record {
@@ -190,7 +190,7 @@ module _ (S : Settings) (ok : Roomy S) (p q : ℕ) (hp : p < S .ports) (hq : q <
             (λ i. n (cc) (cc)) (λ i. let z : _≡_ {A = ℕ} 0 1 = cc in omega arith) (λ i. let z : _≡_ {A = ℕ} 0 1 = cc in omega arith);
         funded =
             unfold move in
-            omega (arith, credit-other S (L .outward) r t (outwardOf S L r t - k .price) (s .shaped .outward-long) hr ht p q hq n);
+            omega (arith, credit-other S (L .numbers outward) r t (outwardOf S L r t - k .price) (s .shaped .numbers-long outward) hr ht p q hq n);
       }
 
   -- ---- waiting: packet k leaves within n chances
@@ -212,7 +212,7 @@ module _ (S : Settings) (ok : Roomy S) (p q : ℕ) (hp : p < S .ports) (hq : q <
     where
       go : (b : Bool) → 1 ≤ cond b (S .queues) (gap (lastOf L p) q (S .queues))
       go true = omega arith
-      go false = gap-pos (lastOf L p) q (S .queues) (s .ranges .last-in p hp)
+      go false = gap-pos (lastOf L p) q (S .queues) (s .ranges .numbers-in last p hp)
 
   abbrev Afford : List Packet → Ledger → Type 0
   Afford ks L = InHand S L p q ks
@@ -250,7 +250,7 @@ module _ (S : Settings) (ok : Roomy S) (p q : ℕ) (hp : p < S .ports) (hq : q <
 
   module _ (d : ℕ) (k : Packet) (n : ℕ) (L : Ledger) (s : Orderly S L) (w : Waits d k n L) where
     last-lt : lastOf L p < S .queues
-    last-lt = s .ranges .last-in p hp
+    last-lt = s .ranges .numbers-in last p hp
 
     -- with slots that are not empty, who waits makes the queue ready
     ready-now : isEmpty (listAt S L ours) ≡ false → isReady S L p q ≡ true
@@ -298,7 +298,7 @@ module _ (S : Settings) (ok : Roomy S) (p q : ℕ) (hp : p < S .ports) (hq : q <
       step-up : (y : Packet) (ys : List Packet) → lineOf S L p q ≡ y ∷ (ys ++ (k ∷ w .behind))
           → length ys + 1 < length (listAt S L ours) + d
           → Afford (y ∷ (ys ++ (k ∷ []))) L → Waits d k (length ys * S .queues + S .queues) (served S L p q (firstOf S L ours))
-      unfolding served putLast putOutward putArrival
+      unfolding served change
       step-up y ys e h c = record {
         ahead = ys;
         behind = w .behind;
@@ -335,11 +335,11 @@ module _ (S : Settings) (ok : Roomy S) (p q : ℕ) (hp : p < S .ports) (hq : q <
           left-over = outwardOf S L p q - z .price
 
           afford : Dec (q ≡ 0) → Afford (y ∷ (ys ++ (k ∷ []))) L
-              → (q ≡ 0) ⊎ (sum (λ j. j .price) (ys ++ (k ∷ [])) ≤ creditAt S (setCredit S (L .outward) p q left-over) p q)
+              → (q ≡ 0) ⊎ (sum (λ j. j .price) (ys ++ (k ∷ [])) ≤ creditAt S (setCredit S (L .numbers outward) p q left-over) p q)
           afford (yes i) a = inl i
           afford (no i) (inl a) = inl a
           afford (no i) (inr a) =
-              let o = credit-same S (L .outward) p q left-over (s .shaped .outward-long) hp hq (omega arith) in
+              let o = credit-same S (L .numbers outward) p q left-over (s .shaped .numbers-long outward) hp hq (omega arith) in
               inr (omega (arith, o, ap (λ (j : Packet). j .price) zy, a))
 
       ours-served : After (serve S L p q)
@@ -359,11 +359,11 @@ module _ (S : Settings) (ok : Roomy S) (p q : ℕ) (hp : p < S .ports) (hq : q <
       -- another queue of our port is served
       other-served : (t : ℕ) → t < S .queues → isEmpty (listAt S L (prefetched p t)) ≡ false → t ≢ q
           → gap t q (S .queues) < gap (lastOf L p) q (S .queues) → After (serve S L p t)
-      unfolding served putLast putOutward putArrival move
+      unfolding served change move
       other-served t ht e j h =
           let M : Ledger = served S L p t (firstOf S L (prefetched p t)) in
           let g : Spared L M = spared-served L s p t hp ht e (λ a b. j b) in
-          let marked : getD (set (L .last) p t) p 0 ≡ t = getD-set-same (L .last) p t 0 (omega (arith, s .shaped .last-long)) in
+          let marked : getD (set (L .numbers last) p t) p 0 ≡ t = getD-set-same (L .numbers last) p t 0 (omega (arith, s .shaped .numbers-long last)) in
           let v : wait M ≡ gap t q (S .queues) = rw (some-spared L M g some, marked) in
           let nn : wait L ≤ n = omega (arith, w .soon) in
           nearer (n - 1) (omega (arith, one-chance, wait-is)) (go-on d k n (n - 1) L M g w (omega (arith, v, wait-is)))
@@ -428,7 +428,7 @@ module _ (S : Settings) (ok : Roomy S) (p q : ℕ) (hp : p < S .ports) (hq : q <
     aside-turned : (r u : ℕ) → r < S .ports → r ≢ p
         → (eqb u 0 ≡ false → (pick (lastOf L r) u < S .queues) × (isEmpty (listAt S L (prefetched r (pick (lastOf L r) u))) ≡ false))
         → Aside L (turned S L r u .1)
-    unfolding served putLast
+    unfolding served change
     aside-turned r u hr n some = go (eqb u 0) some
       where
         t : ℕ
@@ -439,13 +439,13 @@ module _ (S : Settings) (ok : Roomy S) (p q : ℕ) (hp : p < S .ports) (hq : q <
         go true f = aside-refl L
         go false f = record {
           spared = spared-served L s r t hr (f refl .0) (f refl .1) (λ a b. n a);
-          mark = unfold move putOutward putArrival in (getD-set-other (L .last) r p t 0 (λ i. n (sym i)));
+          mark = unfold move change in (getD-set-other (L .numbers last) r p t 0 (λ i. n (sym i)));
         }
 
     aside-result : (a : Act) → isTurn p a ≡ false → Clear (rules S L a) → Aside L (result S L a .1)
     aside-result (arrive r h) i c = record {
       spared = spared-arrived L s r h (admits S L r h c);
-      mark = unfold arrived putArrival move in refl;
+      mark = unfold arrived change move in refl;
     }
     aside-result (stitch r) i c = record {
       spared = spared-stitched L s r (leb-no (S .ports) r (c .0)) (c .1 .0) (firstOf S L (ingress r)) refl;
@@ -457,14 +457,14 @@ module _ (S : Settings) (ok : Roomy S) (p q : ℕ) (hp : p < S .ports) (hq : q <
     }
     aside-result (credit r t n) i c = record {
       spared = record {
-        lists = unfold putOutward in (grown-refl (L .lists));
-        funded = unfold putOutward in (raise-ge S (L .outward) r t n p q);
+        lists = unfold change in (grown-refl (L .lists));
+        funded = unfold change in (raise-ge S (L .numbers outward) r t n p q);
       };
-      mark = unfold putOutward in refl;
+      mark = unfold change in refl;
     }
     aside-result (mapTo d r) i c = record {
-      spared = record { lists = unfold putMap in (grown-refl (L .lists)); funded = unfold putMap in omega arith };
-      mark = unfold putMap in refl;
+      spared = record { lists = unfold change in (grown-refl (L .lists)); funded = unfold change in omega arith };
+      mark = unfold change in refl;
     }
     aside-result (turn r) i c =
         let hr : r < S .ports = leb-no (S .ports) r (c .0) in
@@ -472,9 +472,15 @@ module _ (S : Settings) (ok : Roomy S) (p q : ℕ) (hp : p < S .ports) (hq : q <
     aside-result (ready r) i c = aside-refl L
     aside-result (whereIs y) i c = aside-refl L
 
+    aside-refused : (n : ℕ) (a : Act) → Aside L (onRefusal S n a L)
+    aside-refused n a = record {
+      spared = record { lists = rw (refused-lists S n a L) (grown-refl (L .lists)); funded = rw (refused-numbers S n a L outward) (omega arith) };
+      mark = rw (refused-numbers S n a L last);
+    }
+
     aside-step : (a : Act) → isTurn p a ≡ false → Aside L (step S L a .1)
     aside-step a i =
-        guarded (λ out. Aside L (out .1)) (rules S L a) (λ n. (refused n, L)) (result S L a) (λ n. aside-refl L) (aside-result a i)
+        stepped S L a (λ out. Aside L (out .1)) (λ n. aside-refused n a) (aside-result a i)
 
     -- slots that are not empty stay so, and so does the line
     pub some-slots-step : (a : Act) → isTurn p a ≡ false → isEmpty (listAt S L ours) ≡ false

@@ -10,9 +10,9 @@ use lib.ListN.{length, getD, length-map}
 use lib.Dec.{eqb, ltb}
 use Rattle.ledger.specs.Settings.{Settings}
 use Rattle.ledger.specs.Ledger.{owner, index, entryId, isNode, Packet, recorded, Place, free, ingress, egress, prefetched, place#, placeOf}
-use Rattle.ledger.specs.Ledger.{Ledger, listAt, arrivalOf, pop, move, putArrival}
+use Rattle.ledger.specs.Ledger.{Ledger, listAt, arrivalOf, pop, move, putCredit, arrival, change, setCredit}
 use Rattle.ledger.specs.Ready.{bit}
-use Rattle.ledger.specs.Calls.{arrive, Reply, refused, entry, firstOf, arriving, arrived, rules, result, step, run}
+use Rattle.ledger.specs.Calls.{arrive, Reply, entry, firstOf, arriving, arrived, step, run, onRefusal}
 use Rattle.ledger.specs.Desk.{Desk, has, Call, act, desk, SetupsRefused}
 use Rattle.ledger.specs.Sound.{All, Everywhere, weigh, one, OwnPort, Proper, owes, Orderly, Roomy}
 use Rattle.ledger.specs.Order.{isFree}
@@ -23,16 +23,17 @@ use Rattle.ledger.proofs.Lists.{at-push-other, at-pop-other}
 use Rattle.ledger.proofs.Places.{Place·In, place-of, place-number, row-div, row-mod, Node, node-is}
 use Rattle.ledger.proofs.Keep.{some-queue, nodes, first-fits, from-moved, to-moved, lowered}
 use Rattle.ledger.proofs.Passes.{Admits, admits}
-use Rattle.ledger.proofs.Steps.{guarded, recorded-proper, keep-run}
+use Rattle.ledger.proofs.Steps.{recorded-proper, keep-run, stepped}
 use Rattle.ledger.proofs.Promises.{home-only}
 use Rattle.ledger.proofs.Courses.{actsIn, Faithful, act-answer, act-shows, calls-show, desk-faithful}
 use Rattle.ledger.proofs.Order.{keeps-order}
+use Rattle.ledger.proofs.Columns.{change-other}
 
 -- ---- an arrival at port p, whatever its bytes
 
 module _ (S : Settings) (ok : Roomy S) (L : Ledger) (s : Orderly S L) (p : ℕ) (h : List ℕ) where
   taken-in : Admits S L p h → TakenIn S L p h (firstOf S L (free p) .node) (arrived S L p (arriving S L p h))
-  unfolding arrived putArrival
+  unfolding arrived change
   taken-in a =
       let k : Packet = arriving S L p h in
       let v-in : Place·In S (free p) = (a .port, some-queue S ok L s) in
@@ -50,9 +51,9 @@ module _ (S : Settings) (ok : Roomy S) (L : Ledger) (s : Orderly S L) (p : ℕ) 
           other-lists = λ l n m. unfold move in
               (at-push-other (place# S (ingress p)) k l (pop (place# S (free p)) (L .lists)) m ∙ at-pop-other (place# S (free p)) l (L .lists) n);
           other-credit = λ r q hq n. omega (arith, credit own a r q hq, nothing own r q n);
-          outward = unfold move in refl;
-          last = unfold move in refl;
-          mapped = unfold move in refl;
+          other-numbers = λ c n.
+              change-other arrival (λ xs. setCredit S xs p (k .queue) (arrivalOf S L p (k .queue) - k .price)) (move S (free p) (ingress p) k L) c (λ e. n (sym e))
+              ∙ unfold move in refl;
         };
       }
     where
@@ -61,8 +62,8 @@ module _ (S : Settings) (ok : Roomy S) (L : Ledger) (s : Orderly S L) (p : ℕ) 
       credit own a r q hq =
           let k : Packet = arriving S L p h in
           let good : Proper S k = recorded-proper S ok (firstOf S L (free p) .node) p h (a .header) in
-          unfold arrived putArrival move in
-          subst (λ (o : ℕ). arrivalOf S (putArrival S o (k .queue) (arrivalOf S L o (k .queue) - k .price) L) r q + owes r q k ≡ arrivalOf S L r q) own
+          unfold arrived change move in
+          subst (λ (o : ℕ). arrivalOf S (putCredit arrival S o (k .queue) (arrivalOf S L o (k .queue) - k .price) L) r q + owes r q k ≡ arrivalOf S L r q) own
           (lowered S ok L s k good (omega (arith, a .port)) (rw own (a .afford)) r q hq)
 
       nothing : owner (arriving S L p h .node) ≡ p → (r q : ℕ) → r ≢ p → owes r q (arriving S L p h) ≡ 0
@@ -71,8 +72,7 @@ module _ (S : Settings) (ok : Roomy S) (L : Ledger) (s : Orderly S L) (p : ℕ) 
   -- refused, and nothing differs; or taken in, and nothing differs but at p
   pub hurts-only-itself : Arrival S L p h (step S L (arrive p h) .0) (step S L (arrive p h) .1)
   hurts-only-itself =
-      guarded (λ out. Arrival S L p h (out .0) (out .1)) (rules S L (arrive p h)) (λ n. (refused n, L)) (result S L (arrive p h))
-      (λ n. turned-away n)
+      stepped S L (arrive p h) (λ out. Arrival S L p h (out .0) (out .1)) (λ n. unfold onRefusal in (turned-away n))
       (λ c. taken (firstOf S L (free p) .node) (arrived S L p (arriving S L p h)) (taken-in (admits S L p h c)))
 
 -- no field of a header decides whose node is taken: any two headers that are taken in here take the same node
@@ -82,8 +82,7 @@ whose-node S L p h h′ x y d e = first h x d ∙ sym (first h′ y e)
   where
     first : (g : List ℕ) (z : ℕ) → step S L (arrive p g) .0 ≡ entry z → z ≡ firstOf S L (free p) .node
     first g z =
-        guarded {X = Reply × Ledger} (λ out. out .0 ≡ entry z → z ≡ firstOf S L (free p) .node)
-        (rules S L (arrive p g)) (λ n. (refused n, L)) (result S L (arrive p g))
+        stepped S L (arrive p g) (λ out. out .0 ≡ entry z → z ≡ firstOf S L (free p) .node)
         (λ n i. absurd (let o : _≡_ {A = ℕ} 0 1 = cc in omega arith))
         (λ c i. cc)
 

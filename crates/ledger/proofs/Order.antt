@@ -12,10 +12,10 @@ use Rattle.numbers.specs.Bytes.{number}
 use Rattle.ledger.specs.Settings.{Settings}
 use Rattle.ledger.specs.Rules.{Clear}
 use Rattle.ledger.specs.Ledger.{owner, Packet, bare, recorded, Place, free, ingress, egress, prefetched, portOf, Ledger, listAt, lastOf, mapOf}
-use Rattle.ledger.specs.Ledger.{move, putArrival, putOutward, putLast, putMap}
+use Rattle.ledger.specs.Ledger.{move, mapped, change}
 use Rattle.ledger.specs.Ready.{readyWord, pick}
 use Rattle.ledger.specs.Calls.{Act, arrive, stitch, prefetch, credit, mapTo, turn, ready, whereIs, Reply, refused, idle, isEmpty, firstOf}
-use Rattle.ledger.specs.Calls.{stitchRecord, arriving, arrived, served, serve, rules, result, step, run}
+use Rattle.ledger.specs.Calls.{stitchRecord, arriving, arrived, served, serve, rules, result, step, run, onRefusal}
 use Rattle.ledger.specs.Desk.{Desk, has, Call, setup, act, desk, answersOf, SetupsRefused}
 use Rattle.ledger.specs.Sound.{Orderly, Roomy}
 use Rattle.ledger.specs.Order.{kindIn, queueIn, samePlace, Movement, stays, moves, movement, cameBy, leftBy, cameTo, leftFrom, idsAt}
@@ -25,7 +25,7 @@ use Rattle.ledger.proofs.Lists.{cons-form}
 use Rattle.ledger.proofs.Places.{Place·In, Node}
 use Rattle.ledger.proofs.Keep.{some-queue, first-fits, first-node, from-moved, to-moved, else-moved}
 use Rattle.ledger.proofs.Passes.{admits}
-use Rattle.ledger.proofs.Steps.{guarded, picked-some, keep-step}
+use Rattle.ledger.proofs.Steps.{picked-some, keep-step, stepped, refused-lists}
 use Rattle.ledger.proofs.Courses.{actsIn, Faithful, act-answer, act-shows, refused-shows, calls-show, desk-faithful}
 
 -- ---- the test whether two places are the same
@@ -123,7 +123,7 @@ module _ (S : Settings) (ok : Roomy S) (L : Ledger) (s : Orderly S L) where
 
   served-moved : (p q : ℕ) → p < S .ports → q < S .queues → isEmpty (listAt S L (prefetched p q)) ≡ false
       → Moved (movement (turn p) (serve S L p q .0)) (serve S L p q .1)
-  unfolding served putLast putOutward putArrival
+  unfolding served change
   served-moved p q hp hq e =
       let v : Place = prefetched p q in
       let k : Packet = firstOf S L v in
@@ -135,7 +135,7 @@ module _ (S : Settings) (ok : Roomy S) (L : Ledger) (s : Orderly S L) where
   result-moved (arrive p h) c =
       let a = admits S L p h c in
       let v-in : Place·In S (free p) = (a .port, some-queue S ok L s) in
-      unfold arrived putArrival in
+      unfold arrived change in
       moved (free p) (ingress p) v-in v-in (a .some) (λ i. let z : _≡_ {A = ℕ} 0 1 = cc in omega arith) (arriving S L p h) (unfold recorded in refl)
   result-moved (stitch p) c =
       let v-in : Place·In S (ingress p) = (leb-no (S .ports) p (c .0), some-queue S ok L s) in
@@ -145,14 +145,14 @@ module _ (S : Settings) (ok : Roomy S) (L : Ledger) (s : Orderly S L) where
       let id = record-id k to (node-small S ok (k .node) (first-node S ok L s (ingress p) v-in (c .1 .0))) in
       unfold stitchRecord in
       subst (λ (y : ℕ). Moved (moves y (ingress p) (egress to (k .queue))) (move S (ingress p) (egress to (k .queue)) k L)) (sym id)
-      (moved (ingress p) (egress to (k .queue)) v-in (s .ranges .map-in (k .dest) (f .2 .dest-in), f .2 .queue-in) (c .1 .0)
+      (moved (ingress p) (egress to (k .queue)) v-in (s .ranges .numbers-in mapped (k .dest) (f .2 .dest-in), f .2 .queue-in) (c .1 .0)
       (λ i. let z : _≡_ {A = ℕ} 0 1 = cc in omega arith) k refl)
   result-moved (prefetch p q) c =
       let hp : p < S .ports = leb-no (S .ports) p (c .0) in
       let hq : q < S .queues = leb-no (S .queues) q (c .1 .0) in
       moved (egress p q) (prefetched p q) (hp, hq) (hp, hq) (c .1 .1 .0) (λ i. let z : _≡_ {A = ℕ} 0 1 = cc in omega arith) (firstOf S L (egress p q)) refl
-  result-moved (credit p q n) c = unfold putOutward in unmoved
-  result-moved (mapTo d p) c = unfold putMap in unmoved
+  result-moved (credit p q n) c = unfold change in unmoved
+  result-moved (mapTo d p) c = unfold change in unmoved
   result-moved (turn p) c = go (eqb (readyWord S L p) 0) (picked-some S ok L s p (leb-no (S .ports) p (c .0)))
     where
       t : ℕ
@@ -166,19 +166,22 @@ module _ (S : Settings) (ok : Roomy S) (L : Ledger) (s : Orderly S L) where
   result-moved (whereIs y) c = unmoved
 
   -- a refusal names no node
-  refused-moved : (a : Act) (n : ℕ) → Moved (movement a (refused n)) L
-  refused-moved (arrive p h) n = unmoved
-  refused-moved (stitch p) n = unmoved
-  refused-moved (prefetch p q) n = unmoved
-  refused-moved (credit p q m) n = unmoved
-  refused-moved (mapTo d p) n = unmoved
-  refused-moved (turn p) n = unmoved
-  refused-moved (ready p) n = unmoved
-  refused-moved (whereIs y) n = unmoved
+  refused-stays : (a : Act) (n : ℕ) → movement a (refused n) ≡ stays
+  refused-stays (arrive p h) n = refl
+  refused-stays (stitch p) n = refl
+  refused-stays (prefetch p q) n = refl
+  refused-stays (credit p q m) n = refl
+  refused-stays (mapTo d p) n = refl
+  refused-stays (turn p) n = refl
+  refused-stays (ready p) n = refl
+  refused-stays (whereIs y) n = refl
+
+  refused-moved : (a : Act) (n : ℕ) → Moved (movement a (refused n)) (onRefusal S n a L)
+  refused-moved a n = rw (refused-stays a n, refused-lists S n a L) unmoved
 
   act-moved : (a : Act) → Moved (movement a (step S L a .0)) (step S L a .1)
   act-moved a =
-      guarded (λ out. Moved (movement a (out .0)) (out .1)) (rules S L a) (λ n. (refused n, L)) (result S L a) (refused-moved a) (result-moved a)
+      stepped S L a (λ out. Moved (movement a (out .0)) (out .1)) (refused-moved a) (result-moved a)
 
 -- ---- any calls
 
@@ -189,8 +192,8 @@ module _ {X : Type 0} (call : X → Call → Reply × X) (shows : X → Desk) (l
   in-line : (u : Place) → Place·In S u → (x : X) (L : Ledger) → shows x ≡ has S L → Orderly S L → (cs : List Call) → SetupsRefused call x cs → InLine u x L cs
   unfolding actsIn
   in-line u hu x L e s [] f = line-same (idsAt S L u)
-  in-line u hu x L e s (setup N b d c ∷ cs) f =
-      in-line u hu (call x (setup N b d c) .1) L (refused-shows call shows long faithful S x (setup N b d c) (f .0 refl) ∙ e) s cs (f .1)
+  in-line u hu x L e s (setup T ∷ cs) f =
+      in-line u hu (call x (setup T) .1) L (refused-shows call shows long faithful S x (setup T) (f .0 refl) ∙ e) s cs (f .1)
   in-line u hu x L e s (act a ∷ cs) f =
       let r : Reply = call x (act a) .0 in
       let N : Ledger = step S L a .1 in

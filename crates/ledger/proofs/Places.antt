@@ -1,5 +1,5 @@
 -- The numbers of places, credit cells and nodes: in range, and different for different ones. Assumes nothing.
-use mathlib.Core.Path.{_≡_, refl, sym, ap, _∙_}
+use mathlib.Core.Path.{_≡_, refl, sym, ap, _∙_, subst}
 use mathlib.Core.Logic.{_≢_}
 use mathlib.Core.Bool.{Bool, true, false, cond, _&&_}
 use mathlib.Core.List.{List, [], _∷_}
@@ -15,6 +15,14 @@ use Rattle.ledger.specs.Ledger.{owner, index, isNode, Place, free, ingre
 use Rattle.ledger.specs.Ledger.{creditAt, setCredit}
 use Rattle.ledger.specs.Ready.{bit}
 use Rattle.ledger.proofs.Tests.{ltb-yes, ltb-no, ltb-is, ltb-not}
+
+-- a bound on every number of a list outlasts a change of one
+pub set-lt : (xs : List ℕ) (i v j m : ℕ) → v < m → getD xs j 0 < m → getD (set xs i v) j 0 < m
+set-lt [] i v j m h k = k
+set-lt (x ∷ xs) zero v zero m h k = h
+set-lt (x ∷ xs) zero v (suc j) m h k = k
+set-lt (x ∷ xs) (suc i) v zero m h k = k
+set-lt (x ∷ xs) (suc i) v (suc j) m h k = set-lt xs i v j m h k
 
 -- ---- rows of m: a number a * m + i, with i below m
 
@@ -147,19 +155,31 @@ module _ (S : Settings) where
             getD-set-other xs (cell S p r) (cell S p′ s) v 0
             (λ e. let i = cell-inj p r p′ s h k (sym e) in n (i .0) (ap suc (i .1)))
 
-  -- a bound on every credit outlasts a change of one
+  -- every cell is a port's and a queue's
+  pub cells-all : 2 ≤ S .queues → (P : ℕ → Type 0) → ((p r : ℕ) → p < S .ports → suc r < S .queues → P (cell S p r))
+      → (i : ℕ) → i < S .ports * (S .queues - 1) → P i
+  unfolding cell
+  cells-all some P f i h =
+      let pos : 0 < S .queues - 1 = omega arith in
+      subst P (div-add-mod' i (S .queues - 1)) (f (i / (S .queues - 1)) (i % (S .queues - 1)) (div-lt-iff-lt-mul pos .1 h) (omega (arith, mod-lt i pos)))
+
+  -- a bound on the cells is one on the credits
+  pub credit-in : (xs : List ℕ) (m : ℕ) → ((i : ℕ) → i < S .ports * (S .queues - 1) → getD xs i 0 < suc m)
+      → (p q : ℕ) → p < S .ports → q < S .queues → creditAt S xs p q ≤ m
+  unfolding creditAt
+  credit-in xs m f p zero hp hq = zero-le
+  credit-in xs m f p (suc r) hp hq = omega (arith, f (cell S p r) (cell-lt p r hp hq))
+
+  -- and outlasts a change of one
+  pub credit-lt : (xs : List ℕ) (p q v i m : ℕ) → v < m → getD xs i 0 < m → getD (setCredit S xs p q v) i 0 < m
+  unfolding setCredit
+  credit-lt xs p zero v i m h k = k
+  credit-lt xs p (suc r) v i m h k = set-lt xs (cell S p r) v i m h k
+
   pub credit-le : (xs : List ℕ) (p q v p′ q′ m : ℕ) → v ≤ m → creditAt S xs p′ q′ ≤ m → creditAt S (setCredit S xs p q v) p′ q′ ≤ m
-  unfolding creditAt setCredit
-  credit-le xs p zero v p′ q′ m h k = k
-  credit-le xs p (suc r) v p′ zero m h k = zero-le
-  credit-le xs p (suc r) v p′ (suc s) m h k = go xs (cell S p r) (cell S p′ s) k
-    where
-      go : (ys : List ℕ) (i j : ℕ) → getD ys j 0 ≤ m → getD (set ys i v) j 0 ≤ m
-      go [] i j k′ = k′
-      go (y ∷ ys) zero zero k′ = h
-      go (y ∷ ys) zero (suc j) k′ = k′
-      go (y ∷ ys) (suc i) zero k′ = k′
-      go (y ∷ ys) (suc i) (suc j) k′ = go ys i j k′
+  unfolding creditAt
+  credit-le xs p q v p′ zero m h k = zero-le
+  credit-le xs p q v p′ (suc s) m h k = omega (arith, credit-lt xs p q v (cell S p′ s) (suc m) (omega arith) (omega arith))
 
 -- ---- nodes
 

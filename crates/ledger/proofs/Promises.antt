@@ -8,15 +8,15 @@ use Prim.Native.Nat.{ℕ, zero, suc, _+_, _<_}
 use native.Mathlib.Omega.{arith}
 use lib.ListN.{length, getD}
 use lib.Dec.{eqb, ltb}
-use Rattle.ledger.specs.Settings.{Settings, settings, inRows}
+use Rattle.ledger.specs.Settings.{Settings, inRows}
 use Rattle.ledger.specs.Rules.{refuse, guard, Clear}
 use Rattle.ledger.specs.Header.{fieldsOf, headerRules}
 use Rattle.ledger.specs.Ledger.{owner, isNode, Packet, bare, recorded, Place, free, prefetched, place#, Ledger, listAt, arrivalOf, lastOf}
-use Rattle.ledger.specs.Ledger.{putArrival, putOutward, putLast, start}
+use Rattle.ledger.specs.Ledger.{start, change}
 use Rattle.ledger.specs.Ready.{isReady, wordOf, countOf, readyWord, pick}
 use Rattle.ledger.specs.Calls.{Act, arrive, stitch, prefetch, credit, mapTo, turn, ready, whereIs, Side, inside, outside, Reply, refused, done}
 use Rattle.ledger.specs.Calls.{entry, idle, leaves, word, isRefused, sideOf, noPort, isEmpty, firstOf, arriving, lastRules, arrived, served}
-use Rattle.ledger.specs.Calls.{serve, rules, result, step}
+use Rattle.ledger.specs.Calls.{serve, rules, result, step, onRefusal}
 use Rattle.ledger.specs.Desk.{Desk, none, has, Call, setup, act, setupRules, desk, after}
 use Rattle.ledger.specs.Sound.{All, OwnPort, Proper, Orderly, Roomy, Sound}
 use Rattle.ledger.proofs.Tests.{true≢false, leb-no, leb-not, ltb-yes, eqb-yes, eqb-no, not-yes}
@@ -28,7 +28,7 @@ use Rattle.ledger.proofs.Ready.{count-is-ones}
 use Rattle.ledger.proofs.Find.{where-right, one-place}
 use Rattle.ledger.proofs.Start.{start-sound}
 use Rattle.ledger.proofs.Passes.{guard-after, Passes, passes, passes-clear, admits}
-use Rattle.ledger.proofs.Steps.{guarded, recorded-proper, picked-some, keep-step}
+use Rattle.ledger.proofs.Steps.{guarded, recorded-proper, picked-some, keep-step, stepped}
 
 -- ---- a refusal leaves the desk as it was
 
@@ -48,14 +48,13 @@ result-given S L (whereIs y) = refl
 
 pub refusal-keeps : (S : Settings) (L : Ledger) (a : Act) → isRefused (step S L a .0) ≡ true → step S L a .1 ≡ L
 refusal-keeps S L a =
-    guarded (λ out. isRefused (out .0) ≡ true → out .1 ≡ L) (rules S L a) (λ n. (refused n, L)) (result S L a)
-    (λ n e. refl)
+    stepped S L a (λ out. isRefused (out .0) ≡ true → out .1 ≡ L) (λ n e. unfold onRefusal in refl)
     (λ c e. absurd (true≢false (sym e ∙ result-given S L a)))
 
 pub refusal-keeps-desk : (n : ℕ) (D : Desk) (c : Call) → isRefused (desk n D c .0) ≡ true → desk n D c .1 ≡ D
-refusal-keeps-desk n D (setup N b s k) =
-    guarded {X = Reply × Desk} (λ out. isRefused (out .0) ≡ true → out .1 ≡ D) (setupRules n (settings N b s k)) (λ r. (refused r, D))
-    (done, has (settings N b s k) (start (settings N b s k)))
+refusal-keeps-desk n D (setup T) =
+    guarded {X = Reply × Desk} (λ out. isRefused (out .0) ≡ true → out .1 ≡ D) (setupRules n T) (λ r. (refused r, D))
+    (done, has T (start T))
     (λ r e. refl)
     (λ c e. absurd (true≢false (sym e)))
 refusal-keeps-desk n none (act a) = λ e. refl
@@ -86,7 +85,7 @@ pub record Sends (S : Settings) (L : Ledger) (p : ℕ) (k : Packet) (t : Side) :
 pub turn-sends : (S : Settings) → Roomy S → (L : Ledger) → Orderly S L → (p : ℕ) (k : Packet) (t : Side)
     → step S L (turn p) .0 ≡ leaves k t → Sends S L p k t
 turn-sends S ok L s p k t =
-    guarded {X = Reply × Ledger} (λ out. out .0 ≡ leaves k t → Sends S L p k t) (rules S L (turn p)) (λ n. (refused n, L)) (result S L (turn p))
+    stepped S L (turn p) (λ out. out .0 ≡ leaves k t → Sends S L p k t)
     (λ n i. absurd (let z : _≡_ {A = ℕ} 0 1 = cc in omega arith))
     (λ c. let hp = leb-no (S .ports) p (c .0) in go hp (eqb (readyWord S L p) 0) (picked-some S ok L s p hp))
   where
@@ -143,13 +142,13 @@ empty-is (k ∷ ks) e = absurd (true≢false (sym e))
 
 pub sound-arrival : (S : Settings) (L : Ledger) (p : ℕ) (h : List ℕ) → SoundArrival S p h → Wanting S L p h (step S L (arrive p h))
 sound-arrival S L p h c =
-    rw (guard-after (noPort S p ∷ headerRules (S .queues) p h) (lastRules S L p (arriving S L p h)) (λ n. (refused n, L)) (result S L (arrive p h)) c)
+    rw (guard-after (noPort S p ∷ headerRules (S .queues) p h) (lastRules S L p (arriving S L p h)) (λ n. (refused n, onRefusal S n (arrive p h) L)) (result S L (arrive p h)) c)
     (go (ltb (arrivalOf S L p (arriving S L p h .queue)) (arriving S L p h .price)) refl (isEmpty (listAt S L (free p))) refl)
   where
     go : (a : Bool) → ltb (arrivalOf S L p (arriving S L p h .queue)) (arriving S L p h .price) ≡ a → (b : Bool) → isEmpty (listAt S L (free p)) ≡ b
-        → Wanting S L p h (guard (refuse 10 a ∷ refuse 11 b ∷ []) (λ n. (refused n, L)) (result S L (arrive p h)))
-    go true d b e = no-credit (ltb-yes (arrivalOf S L p (arriving S L p h .queue)) (arriving S L p h .price) d)
-    go false d true e = no-node (empty-is (listAt S L (free p)) e)
+        → Wanting S L p h (guard (refuse 10 a ∷ refuse 11 b ∷ []) (λ n. (refused n, onRefusal S n (arrive p h) L)) (result S L (arrive p h)))
+    go true d b e = unfold onRefusal in (no-credit (ltb-yes (arrivalOf S L p (arriving S L p h .queue)) (arriving S L p h .price) d))
+    go false d true e = unfold onRefusal in (no-node (empty-is (listAt S L (free p)) e))
     go false d false e = taken-in
 
 -- ---- none but queue 0 goes for nothing: rule (f) makes every recorded packet proper, and such a one pays
@@ -178,7 +177,7 @@ pub sent-home : (S : Settings) → Roomy S → (L : Ledger) → Orderly S L → 
     → isEmpty (listAt S L (prefetched p q)) ≡ false
     → (k : Packet) → k ≡ firstOf S L (prefetched p q)
     → listAt S (served S L p q k) (free (owner (k .node))) ≡ listAt S L (free (owner (k .node))) ++ (bare (k .node) ∷ [])
-unfolding served putLast putOutward putArrival
+unfolding served change
 sent-home S ok L s p q hp hq e k i =
     rw i
     (to-moved S ok L s (prefetched p q) (hp, hq) e (free (owner (firstOf S L (prefetched p q) .node)))
@@ -192,11 +191,11 @@ Fine none = Unit {0}
 Fine (has S L) = Sound S L
 
 pub fine-call : (n : ℕ) (D : Desk) → Fine D → (c : Call) → Fine (desk n D c .1)
-fine-call n D f (setup N b s k) =
-    guarded {X = Reply × Desk} (λ out. Fine (out .1)) (setupRules n (settings N b s k)) (λ r. (refused r, D))
-    (done, has (settings N b s k) (start (settings N b s k)))
+fine-call n D f (setup T) =
+    guarded {X = Reply × Desk} (λ out. Fine (out .1)) (setupRules n T) (λ r. (refused r, D))
+    (done, has T (start T))
     (λ r. f)
-    (λ c. start-sound (settings N b s k) (not-yes (inRows (settings N b s k)) (c .0)))
+    (λ c. start-sound T (not-yes (inRows T) (c .0)))
 fine-call n none f (act a) = tt
 fine-call n (has S L) f (act a) = record { rows = f .rows; orderly = keep-step S (roomy S (f .rows)) L (f .orderly) a }
 

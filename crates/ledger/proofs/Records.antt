@@ -13,10 +13,10 @@ use Rattle.numbers.specs.Bytes.{number}
 use Rattle.ledger.specs.Settings.{Settings}
 use Rattle.ledger.specs.Rules.{Clear}
 use Rattle.ledger.specs.Ledger.{owner, isNode, Packet, bare, recorded, Place, free, ingress, egress, prefetched, place#, placeOf, Ledger, listAt}
-use Rattle.ledger.specs.Ledger.{lastOf, mapOf, pop, move, putArrival, putOutward, putLast, putMap}
+use Rattle.ledger.specs.Ledger.{lastOf, mapOf, pop, move, mapped, change}
 use Rattle.ledger.specs.Ready.{bit, readyWord, pick}
 use Rattle.ledger.specs.Calls.{Act, arrive, stitch, prefetch, credit, mapTo, turn, ready, whereIs, Side, Reply, refused, idle, leaves}
-use Rattle.ledger.specs.Calls.{stitched, isEmpty, firstOf, stitchRecord, arriving, arrived, served, serve, rules, result, step, run}
+use Rattle.ledger.specs.Calls.{stitched, isEmpty, firstOf, stitchRecord, arriving, arrived, served, serve, rules, result, step, run, onRefusal}
 use Rattle.ledger.specs.Desk.{Desk, has, Call, setup, act, desk, afterCalls, answersOf, SetupsRefused}
 use Rattle.ledger.specs.Sound.{All, Everywhere, sum, weigh, one, Proper, Orderly, Roomy}
 use Rattle.ledger.specs.Order.{isFree, gathered, heldFrom, held, broughtBy, broughtIn, Latest, Tells, GoesAlong}
@@ -26,7 +26,7 @@ use Rattle.ledger.proofs.Lists.{everywhere-pop, everywhere-push}
 use Rattle.ledger.proofs.Places.{Place·In, place-number, bit-le}
 use Rattle.ledger.proofs.Keep.{some-queue, len, first-fits, first-node}
 use Rattle.ledger.proofs.Passes.{admits}
-use Rattle.ledger.proofs.Steps.{guarded, picked-some, keep-step, keep-run}
+use Rattle.ledger.proofs.Steps.{picked-some, keep-step, keep-run, stepped, refused-lists}
 use Rattle.ledger.proofs.Order.{node-small}
 use Rattle.ledger.proofs.Promises.{turn-sends}
 use Rattle.ledger.proofs.Courses.{actsIn, Faithful, act-answer, act-shows, refused-shows, calls-show, desk-faithful}
@@ -177,7 +177,7 @@ module _ (S : Settings) (ok : Roomy S) where
     nothing-in N h = rw (append-nil known) h
 
     served-holds : (p q : ℕ) → p < S .ports → q < S .queues → isEmpty (listAt S L (prefetched p q)) ≡ false → Holds known (serve S L p q .1)
-    unfolding served putLast putOutward putArrival
+    unfolding served change
     served-holds p q hp hq some =
         let k : Packet = firstOf S L (prefetched p q) in
         moved (prefetched p q) (free (owner (k .node))) (hp, hq) (first-node S ok L s (prefetched p q) (hp, hq) some .home, some-queue S ok L s)
@@ -187,20 +187,20 @@ module _ (S : Settings) (ok : Roomy S) where
     result-holds (arrive p h) c =
         let a = admits S L p h c in
         let v-in : Place·In S (free p) = (a .port, some-queue S ok L s) in
-        unfold arrived putArrival in brought (free p) (ingress p) v-in v-in (arriving S L p h) (a .some) (unfold recorded in refl)
+        unfold arrived change in brought (free p) (ingress p) v-in v-in (arriving S L p h) (a .some) (unfold recorded in refl)
     result-holds (stitch p) c =
         let v-in : Place·In S (ingress p) = (leb-no (S .ports) p (c .0), some-queue S ok L s) in
         let k : Packet = firstOf S L (ingress p) in
         let f = first-fits S ok L s (ingress p) v-in (c .1 .0) in
         nothing-in (result S L (stitch p) .1)
-        (moved (ingress p) (egress (mapOf L (k .dest)) (k .queue)) v-in (s .ranges .map-in (k .dest) (f .2 .dest-in), f .2 .queue-in) k
+        (moved (ingress p) (egress (mapOf L (k .dest)) (k .queue)) v-in (s .ranges .numbers-in mapped (k .dest) (f .2 .dest-in), f .2 .queue-in) k
         (λ z. first-latest (ingress p) v-in (c .1 .0) refl))
     result-holds (prefetch p q) c =
         let v-in : Place·In S (egress p q) = (leb-no (S .ports) p (c .0), leb-no (S .queues) q (c .1 .0)) in
         nothing-in (result S L (prefetch p q) .1)
         (moved (egress p q) (prefetched p q) v-in v-in (firstOf S L (egress p q)) (λ z. first-latest (egress p q) v-in (c .1 .1 .0) refl))
-    result-holds (credit p q n) c = nothing-in (result S L (credit p q n) .1) (unfold putOutward in e)
-    result-holds (mapTo d p) c = nothing-in (result S L (mapTo d p) .1) (unfold putMap in e)
+    result-holds (credit p q n) c = nothing-in (result S L (credit p q n) .1) (unfold change in e)
+    result-holds (mapTo d p) c = nothing-in (result S L (mapTo d p) .1) (unfold change in e)
     result-holds (turn p) c = go (eqb (readyWord S L p) 0) (picked-some S ok L s p (leb-no (S .ports) p (c .0)))
       where
         t : ℕ
@@ -214,20 +214,22 @@ module _ (S : Settings) (ok : Roomy S) where
     result-holds (whereIs y) c = nothing-in L e
 
     -- a refusal brings nothing in
-    refused-holds : (a : Act) (n : ℕ) → Holds (known ++ broughtBy S a (refused n)) L
-    refused-holds (arrive p h) n = nothing-in L e
-    refused-holds (stitch p) n = nothing-in L e
-    refused-holds (prefetch p q) n = nothing-in L e
-    refused-holds (credit p q m) n = nothing-in L e
-    refused-holds (mapTo d p) n = nothing-in L e
-    refused-holds (turn p) n = nothing-in L e
-    refused-holds (ready p) n = nothing-in L e
-    refused-holds (whereIs y) n = nothing-in L e
+    refused-none : (a : Act) (n : ℕ) → broughtBy S a (refused n) ≡ []
+    refused-none (arrive p h) n = refl
+    refused-none (stitch p) n = refl
+    refused-none (prefetch p q) n = refl
+    refused-none (credit p q m) n = refl
+    refused-none (mapTo d p) n = refl
+    refused-none (turn p) n = refl
+    refused-none (ready p) n = refl
+    refused-none (whereIs y) n = refl
+
+    refused-holds : (a : Act) (n : ℕ) → Holds (known ++ broughtBy S a (refused n)) (onRefusal S n a L)
+    refused-holds a n = rw (refused-none a n, append-nil known, refused-lists S n a L) e
 
     act-holds : (a : Act) → Holds (known ++ broughtBy S a (step S L a .0)) (step S L a .1)
     act-holds a =
-        guarded (λ out. Holds (known ++ broughtBy S a (out .0)) (out .1)) (rules S L a) (λ n. (refused n, L)) (result S L a)
-        (refused-holds a) (result-holds a)
+        stepped S L a (λ out. Holds (known ++ broughtBy S a (out .0)) (out .1)) (refused-holds a) (result-holds a)
 
     -- what a turn sends is the oldest of some slots, so the latest of its node
     sends-latest : (p : ℕ) (k : Packet) (t : Side) → step S L (turn p) .0 ≡ leaves k t → Latest k known
@@ -238,8 +240,7 @@ module _ (S : Settings) (ok : Roomy S) where
     -- what a stitch tells of is the oldest in ingress
     stitch-tells : (p : ℕ) (b : List ℕ) → step S L (stitch p) .0 ≡ stitched b → (k : Packet) × Latest k known × Tells k b
     stitch-tells p b =
-        guarded {X = Reply × Ledger} (λ out. out .0 ≡ stitched b → (k : Packet) × Latest k known × Tells k b)
-        (rules S L (stitch p)) (λ n. (refused n, L)) (result S L (stitch p))
+        stepped S L (stitch p) (λ out. out .0 ≡ stitched b → (k : Packet) × Latest k known × Tells k b)
         (λ n i. absurd (let o : _≡_ {A = ℕ} 0 1 = cc in omega arith))
         (λ c i.
         let v-in : Place·In S (ingress p) = (leb-no (S .ports) p (c .0), some-queue S ok L s) in
@@ -256,8 +257,8 @@ module _ {X : Type 0} (call : X → Call → Reply × X) (shows : X → Desk) (l
       → Holds S ok (known ++ gathered (broughtIn S) cs (answersOf call x cs)) (run S L (actsIn cs))
   unfolding actsIn
   still-latest known x L e s h [] f = rw (append-nil known) h
-  still-latest known x L e s h (setup N t d c ∷ cs) f =
-      still-latest known (call x (setup N t d c) .1) L (refused-shows call shows long faithful S x (setup N t d c) (f .0 refl) ∙ e) s h cs (f .1)
+  still-latest known x L e s h (setup T ∷ cs) f =
+      still-latest known (call x (setup T) .1) L (refused-shows call shows long faithful S x (setup T) (f .0 refl) ∙ e) s h cs (f .1)
   still-latest known x L e s h (act a ∷ cs) f =
       let r : Reply = call x (act a) .0 in
       let N : Ledger = step S L a .1 in

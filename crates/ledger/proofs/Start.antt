@@ -10,9 +10,9 @@ use native.Mathlib.Decide.{ℕ-discrete}
 use lib.ListN.{length, getD, replicate, length-append, length-replicate, getD-replicate, List·getD-append}
 use lib.Seq.{getD-append-add}
 use lib.Dec.{eqb}
-use Rattle.ledger.specs.Settings.{Settings, inRows, ids, row}
+use Rattle.ledger.specs.Settings.{Settings, inRows, row}
 use Rattle.ledger.specs.Ledger.{owner, index, entryId, isNode, Packet, bare, Place, free, ingress, egress, prefetched, column, place#, placeOf}
-use Rattle.ledger.specs.Ledger.{cell, creditAt, listAt, bares, startLists, start}
+use Rattle.ledger.specs.Ledger.{cell, creditAt, listAt, bares, startLists, start, arrival, outward, last, mapped, Column, tall, bound, starting}
 use Rattle.ledger.specs.Ready.{bit}
 use Rattle.ledger.specs.Sound.{All, Everywhere, sum, weigh, one, Once, OwnPort, OwnQueue, WellRecorded, due, owed, Orderly, Sound, Roomy}
 use Rattle.ledger.proofs.Tests.{eqb-is, eqb-not}
@@ -135,9 +135,12 @@ module _ (S : Settings) where
   unfolding creditAt
   credit-all v p q h k = getD-replicate (S .ports * (S .queues - 1)) (cell S p q) v 0 (cell-lt S p q h k)
 
-  credit-most : (v p q : ℕ) → p < S .ports → q < S .queues → v ≤ 65535 → creditAt S (replicate (S .ports * (S .queues - 1)) v) p q ≤ 65535
-  credit-most v p zero h k l = unfold creditAt in zero-le
-  credit-most v p (suc q) h k l = omega (arith, credit-all v p q h k)
+  -- what a column starts with is in range
+  starts-in : Roomy S → (c : Column) → starting S c < bound S c
+  starts-in r arrival = omega (arith, r .low-credit)
+  starts-in r outward = omega arith
+  starts-in r last = omega (arith, r .some-queues)
+  starts-in r mapped = omega (arith, r .some-ports)
 
   -- ---- what holds of the free nodes is all that is to be shown
 
@@ -174,18 +177,9 @@ module _ (S : Settings) where
     pub start-orderly : Orderly S (start S)
     unfolding start
     start-orderly = record {
-      shaped = record {
-        lists-long = start-length 0 (S .ports);
-        arrival-long = length-replicate (S .ports * (S .queues - 1)) (S .credit);
-        outward-long = length-replicate (S .ports * (S .queues - 1)) 0;
-        last-long = length-replicate (S .ports) (S .queues - 1);
-        mapped-long = refl;
-      };
+      shaped = record { lists-long = start-length 0 (S .ports); numbers-long = λ c. length-replicate (tall S c) (starting S c) };
       ranges = record {
-        last-in = λ p h. omega (arith, getD-replicate (S .ports) p (S .queues - 1) 0 h, r .some-queues);
-        map-in = λ d h. omega (arith, getD-replicate {A = ℕ} ids d 0 0 h, r .some-ports);
-        arrival-in = λ p q h k. credit-most (S .credit) p q h k (r .low-credit);
-        outward-in = λ p q h k. credit-most 0 p q h k zero-le;
+        numbers-in = λ c i h. omega (arith, getD-replicate (tall S c) i (starting S c) 0 h, starts-in r c);
         slots-in = λ p q h k. rw (start-else (prefetched p q) (h, k) (omega arith)) zero-le;
       };
       once = start-once;

@@ -11,14 +11,14 @@ use Rattle.ledger.specs.Settings.{Settings}
 use Rattle.ledger.specs.Rules.{Rule, refuse, guard, Clear}
 use Rattle.ledger.specs.Header.{fieldsOf}
 use Rattle.ledger.specs.Ledger.{owner, Packet, bare, recorded, free, ingress, egress, prefetched, Ledger, listAt, arrivalOf, outwardOf, lastOf}
-use Rattle.ledger.specs.Ledger.{mapOf, move, putArrival, putOutward}
+use Rattle.ledger.specs.Ledger.{mapOf, move, putCredit, arrival, outward, last, mapped, Column}
 use Rattle.ledger.specs.Ready.{covered, isReady, wordOf, readyWord, pick}
 use Rattle.ledger.specs.Calls.{Act, arrive, stitch, prefetch, credit, mapTo, turn, ready, whereIs, refused, idle, isEmpty, firstOf, arriving}
-use Rattle.ledger.specs.Calls.{arrived, served, serve, turned, rules, result, step, run}
+use Rattle.ledger.specs.Calls.{arrived, served, serve, turned, rules, result, step, run, onRefusal, Reply}
 use Rattle.ledger.specs.Sound.{Proper, owes, Orderly, Roomy}
 use Rattle.ledger.proofs.Tests.{leb-no, ltb-no}
-use Rattle.ledger.proofs.Places.{Place·In}
-use Rattle.ledger.proofs.Keep.{some-queue, first-fits, first-node, keep-moved, keep-traded, keep-outward, keep-last, keep-mapped, lowered, raised}
+use Rattle.ledger.proofs.Places.{Place·In, credit-in}
+use Rattle.ledger.proofs.Keep.{some-queue, first-fits, first-node, keep-moved, keep-traded, keep-outward, lowered, raised, keep-put}
 use Rattle.ledger.proofs.Header.{fields-in}
 use Rattle.ledger.proofs.Passes.{Passes, Admits, admits}
 use Rattle.ledger.proofs.Ready.{picked-ready}
@@ -35,6 +35,28 @@ pub cleared : {X : Type 0} (rs : List Rule) (no′ : ℕ → X) (out : X) → Cl
 cleared [] no′ out c = refl
 cleared (refuse n true ∷ rs) no′ out c = absurd (Rattle.ledger.proofs.Tests.true≢false (c .0))
 cleared (refuse n false ∷ rs) no′ out c = cleared rs no′ out (c .1)
+
+-- what a refusal leaves, a law each: nothing but these may be used of it
+module _ (S : Settings) (n : ℕ) (a : Act) (L : Ledger) where
+  pub refused-lists : onRefusal S n a L .lists ≡ L .lists
+  unfolding onRefusal
+  refused-lists = refl
+
+  pub refused-numbers : (c : Column) → onRefusal S n a L .numbers c ≡ L .numbers c
+  unfolding onRefusal
+  refused-numbers c = refl
+
+  pub refused-orderly : Orderly S L → Orderly S (onRefusal S n a L)
+  unfolding onRefusal
+  refused-orderly s = s
+
+-- one act, by its refusals and its result
+module _ (S : Settings) (L : Ledger) (a : Act) where
+  pub stepped : (P : Reply × Ledger → Type 0) → ((n : ℕ) → P (refused n, onRefusal S n a L)) → (Clear (rules S L a) → P (result S L a)) → P (step S L a)
+  stepped P = guarded P (rules S L a) (λ n. (refused n, onRefusal S n a L)) (result S L a)
+
+  pub step-clear : Clear (rules S L a) → step S L a ≡ result S L a
+  step-clear = cleared (rules S L a) (λ n. (refused n, onRefusal S n a L)) (result S L a)
 
 covered-some : (q c : ℕ) (ks : List Packet) → covered q c ks ≡ true → isEmpty ks ≡ false
 covered-some q c [] e = sym e
@@ -87,11 +109,11 @@ module _ (S : Settings) (roomy : Roomy S) where
         (λ r t ht. omega (arith, low-by r t ht own good a))
       where
         low-by : (r t : ℕ) → t < S .queues → owner (arriving S L p h .node) ≡ p → Proper S (arriving S L p h) → Admits S L p h
-            → arrivalOf S (putArrival S p (arriving S L p h .queue) (arrivalOf S L p (arriving S L p h .queue) - arriving S L p h .price) L) r t
+            → arrivalOf S (putCredit arrival S p (arriving S L p h .queue) (arrivalOf S L p (arriving S L p h .queue) - arriving S L p h .price) L) r t
             + owes r t (arriving S L p h) ≡ arrivalOf S L r t
         low-by r t ht own good a =
             let k : Packet = arriving S L p h in
-            subst (λ (a : ℕ). arrivalOf S (putArrival S a (k .queue) (arrivalOf S L a (k .queue) - k .price) L) r t + owes r t k ≡ arrivalOf S L r t) own
+            subst (λ (a : ℕ). arrivalOf S (putCredit arrival S a (k .queue) (arrivalOf S L a (k .queue) - k .price) L) r t + owes r t k ≡ arrivalOf S L r t) own
             (lowered S roomy L s k good (omega (arith, a .port)) (rw own (a .afford)) r t ht)
 
     -- stitch
@@ -101,7 +123,7 @@ module _ (S : Settings) (roomy : Roomy S) where
         let k : Packet = firstOf S L (ingress p) in
         let v-in : Place·In S (ingress p) = (hp, some-queue S roomy L s) in
         let f = first-fits S roomy L s (ingress p) v-in e in
-        keep-moved S roomy L s (ingress p) v-in e (egress (mapOf L (k .dest)) (k .queue)) (s .ranges .map-in (k .dest) (f .2 .dest-in), f .2 .queue-in) k refl
+        keep-moved S roomy L s (ingress p) v-in e (egress (mapOf L (k .dest)) (k .queue)) (s .ranges .numbers-in mapped (k .dest) (f .2 .dest-in), f .2 .queue-in) k refl
         (λ i. let z : _≡_ {A = ℕ} 0 1 = cc in omega arith)
         (λ a b i. absurd (let z : _≡_ {A = ℕ} 0 1 = cc in omega arith))
         (tt, refl, f .2)
@@ -125,16 +147,16 @@ module _ (S : Settings) (roomy : Roomy S) where
         let k : Packet = firstOf S L (prefetched p q) in
         let f = first-fits S roomy L s (prefetched p q) (hp, hq) e in
         let n = first-node S roomy L s (prefetched p q) (hp, hq) e in
-        let o : Orderly S (putArrival S (owner (k .node)) q (arrivalOf S L (owner (k .node)) q + k .price) (move S (prefetched p q) (free (owner (k .node))) (bare (k .node)) L)) =
+        let o : Orderly S (putCredit arrival S (owner (k .node)) q (arrivalOf S L (owner (k .node)) q + k .price) (move S (prefetched p q) (free (owner (k .node))) (bare (k .node)) L)) =
         keep-traded S roomy L s (prefetched p q) (hp, hq) e (free (owner (k .node))) (n .home, some-queue S roomy L s) (bare (k .node)) refl
         (λ i. let z : _≡_ {A = ℕ} 0 1 = cc in omega arith)
         (λ a b i. absurd (let z : _≡_ {A = ℕ} 0 1 = cc in omega arith))
         (refl, tt, tt)
         (owner (k .node)) q (arrivalOf S L (owner (k .node)) q + k .price)
         (λ r t ht. omega (arith, raised S roomy L s k (f .2) (n .home) q (f .1) r t ht)) in
-        let u : Orderly S (putOutward S p q (outwardOf S L p q - k .price) (putArrival S (owner (k .node)) q (arrivalOf S L (owner (k .node)) q + k .price) (move S (prefetched p q) (free (owner (k .node))) (bare (k .node)) L))) =
-        keep-outward S roomy _ o p q (outwardOf S L p q - k .price) (omega (arith, s .ranges .outward-in p q hp hq)) in
-        keep-last S roomy _ u p q hq
+        let u : Orderly S (putCredit outward S p q (outwardOf S L p q - k .price) (putCredit arrival S (owner (k .node)) q (arrivalOf S L (owner (k .node)) q + k .price) (move S (prefetched p q) (free (owner (k .node))) (bare (k .node)) L))) =
+        keep-outward S roomy _ o p q (outwardOf S L p q - k .price) (omega (arith, credit-in S (L .numbers outward) 65535 (s .ranges .numbers-in outward) p q hp hq)) in
+        keep-put S roomy _ u last (λ i. let z : _≡_ {A = ℕ} 0 1 = cc in omega arith) p q hq
 
     keep-turned : (p w : ℕ) → p < S .ports
         → (eqb w 0 ≡ false → (pick (lastOf L p) w < S .queues) × (isEmpty (listAt S L (prefetched p (pick (lastOf L p) w))) ≡ false))
@@ -153,7 +175,7 @@ module _ (S : Settings) (roomy : Roomy S) where
         keep-prefetched p q (leb-no (S .ports) p (c .0)) (leb-no (S .queues) q (c .1 .0)) (c .1 .1 .0)
         (leb-no (S .slots) (length (listAt S L (prefetched p q))) (c .1 .1 .1 .0))
     keep-result (credit p q n) c = keep-outward S roomy L s p q (outwardOf S L p q + n) (ltb-no 65535 (outwardOf S L p q + n) (c .1 .1 .0))
-    keep-result (mapTo d p) c = keep-mapped S roomy L s d p (leb-no (S .ports) p (c .1 .0))
+    keep-result (mapTo d p) c = keep-put S roomy L s mapped (λ i. let z : _≡_ {A = ℕ} 0 1 = cc in omega arith) d p (leb-no (S .ports) p (c .1 .0))
     keep-result (turn p) c =
         let hp : p < S .ports = leb-no (S .ports) p (c .0) in
         keep-turned p (readyWord S L p) hp (picked-some p hp)
@@ -161,7 +183,7 @@ module _ (S : Settings) (roomy : Roomy S) where
     keep-result (whereIs y) c = s
 
     pub keep-step : (a : Act) → Orderly S (step S L a .1)
-    keep-step a = guarded (λ out. Orderly S (out .1)) (rules S L a) (λ n. (refused n, L)) (result S L a) (λ n. s) (keep-result a)
+    keep-step a = stepped S L a (λ out. Orderly S (out .1)) (λ n. refused-orderly S n a L s) (keep-result a)
 
   pub keep-run : (L : Ledger) → Orderly S L → (acts : List Act) → Orderly S (run S L acts)
   keep-run L s [] = s

@@ -69,9 +69,9 @@ module _ {X : Type 0} (call : X → Call → Reply × X) (shows : X → Desk) (l
   turns-counted : (p : ℕ) (x : X) (L : Ledger) → shows x ≡ has S L → (cs : List Call) → SetupsRefused call x cs
       → countCalls call shows (λ M a. isTurn p a) x cs ≡ turnsIn p cs
   turns-counted p x L e [] f = refl
-  turns-counted p x L e (setup N b s c ∷ cs) f =
-      let same = refused-shows call shows long faithful S x (setup N b s c) (f .0 refl) in
-      ap (λ (n : ℕ). 0 + n) (turns-counted p (call x (setup N b s c) .1) L (same ∙ e) cs (f .1))
+  turns-counted p x L e (setup T ∷ cs) f =
+      let same = refused-shows call shows long faithful S x (setup T) (f .0 refl) in
+      ap (λ (n : ℕ). 0 + n) (turns-counted p (call x (setup T) .1) L (same ∙ e) cs (f .1))
   turns-counted p x L e (act a ∷ cs) f =
       let o = turns-counted p (call x (act a) .1) (step S L a .1) (act-shows call shows long faithful S x L e a) cs (f .1) in
       rw e (ap (λ (n : ℕ). bit (isTurn p a) + n) o)

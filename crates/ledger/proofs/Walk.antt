@@ -58,7 +58,7 @@ module _ {X : Type 0} (shows : X → Desk) (S : Settings) (W : ℕ → Ledger �
 
 -- a call counts if it is an act that does, in the ledger that the desk has
 abbrev countsAt : (Ledger → Act → Bool) → Desk → Call → Bool
-countsAt c D (setup N b s k) = false
+countsAt c D (setup T) = false
 countsAt c none (act a) = false
 countsAt c (has S L) (act a) = c L a
 
@@ -153,12 +153,12 @@ module _ {X : Type 0} (call : X → Call → Reply × X) (shows : X → Desk) (l
   -- one call: an act goes its course, and a refused setup leaves what is shown
   one-call : (n : ℕ) (x : X) (w : W′ n x) (b : Call) (cs : List Call) → (isSetup b ≡ true → isRefused (call x b .0) ≡ true)
       → ((m : ℕ) → W′ m (call x b .1) → Fate m (call x b .1) cs) → Fate n x (b ∷ cs)
-  one-call n x w (setup N b s k) cs f rec =
-      then n x w (setup N b s k) cs n (omega arith)
+  one-call n x w (setup T) cs f rec =
+      then n x w (setup T) cs n (omega arith)
       (rec n
       (record {
         ledger = w .ledger;
-        shown = refused-shows call shows long faithful S x (setup N b s k) (f refl) ∙ w .shown;
+        shown = refused-shows call shows long faithful S x (setup T) (f refl) ∙ w .shown;
         orderly = w .orderly;
         waits = w .waits;
       }))

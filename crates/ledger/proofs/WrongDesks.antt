@@ -8,7 +8,7 @@ use lib.ListN.{length, getD, replicate}
 use Rattle.ledger.specs.Settings.{Settings, settings, row}
 use Rattle.ledger.specs.Ledger.{owner, Packet, free, place#, placeOf, Ledger, pop, start}
 use Rattle.ledger.specs.Calls.{Act, arrive, stitch, prefetch, credit, mapTo, turn, ready, whereIs, Side, outside, Reply, refused, entry}
-use Rattle.ledger.specs.Calls.{stitched, idle, leaves, isRefused, sideOf}
+use Rattle.ledger.specs.Calls.{stitched, idle, leaves, isRefused, sideOf, onRefusal}
 use Rattle.ledger.specs.Desk.{Desk, none, has, Call, setup, act, desk, afterCalls, SetupsRefused}
 use Rattle.ledger.specs.Demand.{turnsIn, Stands, InHand, NobodyStarvesFrom}
 use Rattle.ledger.specs.Order.{idsAt, KeepsOrder, GoesAlong}
@@ -92,7 +92,7 @@ module _ (S : Settings) (L : Ledger) (r : ℕ) (hr : r < S .ports) (ahead : List
 
 -- a desk at which all goes right but the turns, which are idle: who is stitched does not leave
 abbrev pub idleTurns : ℕ → Desk → Call → Reply × Desk
-idleTurns n D (setup N b s c) = desk n D (setup N b s c)
+idleTurns n D (setup T) = desk n D (setup T)
 idleTurns n D (act (arrive p h)) = desk n D (act (arrive p h))
 idleTurns n D (act (stitch p)) = desk n D (act (stitch p))
 idleTurns n D (act (prefetch p q)) = desk n D (act (prefetch p q))
@@ -121,7 +121,7 @@ two = settings 2 64 1 0
 
 abbrev pub relisted : (List (List Packet) → List (List Packet)) → Desk → Desk
 relisted f none = none
-relisted f (has S L) = has S (record { lists = f (L .lists); arrival = L .arrival; outward = L .outward; last = L .last; mapped = L .mapped })
+relisted f (has S L) = has S (record { lists = f (L .lists); numbers = L .numbers })
 
 abbrev pub turnsRound : ℕ → Desk → Call → Reply × Desk
 turnsRound n D c = (desk n D c .0, relisted (map reverse) (desk n D c .1))
@@ -149,7 +149,7 @@ abbrev pub leaks : ℕ → Desk → Call → Reply × Desk
 leaks n D c = (desk n D c .0, relisted (cond (isRefused (desk n D c .0)) (pop 0) (λ ls. ls)) (desk n D c .1))
 
 pub pool-leaked : (n : ℕ) → PoolKept (leaks n) (λ D. D) two (start two) 0 (has two (start two)) (act (arrive 0 []) ∷ []) → ⊥
-unfolding oldestFree start row place# pop
+unfolding oldestFree start row place# pop onRefusal
 pool-leaked n k =
     let e : _≡_ {A = ℕ} 1 0 = ap oldestFree (k .shown) ∙ ap (λ (xs : List ℕ). getD xs 0 0) (k .in-order .stays-behind) in
     omega arith

@@ -10,7 +10,7 @@ use Rattle.ledger.specs.Settings.{Settings, ids}
 use Rattle.ledger.specs.Rules.{Rule, refuse, guard}
 use Rattle.ledger.specs.Header.{fieldsOf, headerRules}
 use Rattle.ledger.specs.Ledger.{owner, isNode, Packet, bare, recorded, Place, free, ingress, egress, prefetched, placeOf, Ledger, listAt}
-use Rattle.ledger.specs.Ledger.{arrivalOf, outwardOf, lastOf, mapOf, oldest, move, putArrival, putOutward, putLast, putMap}
+use Rattle.ledger.specs.Ledger.{arrival, outward, last, mapped, arrivalOf, outwardOf, lastOf, mapOf, oldest, move, putIn, putCredit}
 use Rattle.ledger.specs.Ready.{readyWord, pick}
 
 pub data Act : Type 0 where
@@ -69,7 +69,7 @@ abbrev pub lastRules : Settings → Ledger → ℕ → Packet → List Rule
 lastRules S L p k = refuse 10 (ltb (arrivalOf S L p (k .queue)) (k .price)) ∷ refuse 11 (isEmpty (listAt S L (free p))) ∷ []
 
 unfoldable pub arrived : Settings → Ledger → ℕ → Packet → Ledger
-arrived S L p k = putArrival S p (k .queue) (arrivalOf S L p (k .queue) - k .price) (move S (free p) (ingress p) k L)
+arrived S L p k = putCredit arrival S p (k .queue) (arrivalOf S L p (k .queue) - k .price) (move S (free p) (ingress p) k L)
 
 -- ---- stitch
 
@@ -89,9 +89,9 @@ sideOf (suc q) = outside
 -- its node goes to the back of its owner's free list, and the queue is the last served
 unfoldable pub served : Settings → Ledger → ℕ → ℕ → Packet → Ledger
 served S L p q k =
-    putLast p q
-    (putOutward S p q (outwardOf S L p q - k .price)
-    (putArrival S (owner (k .node)) q (arrivalOf S L (owner (k .node)) q + k .price)
+    putIn last p q
+    (putCredit outward S p q (outwardOf S L p q - k .price)
+    (putCredit arrival S (owner (k .node)) q (arrivalOf S L (owner (k .node)) q + k .price)
     (move S (prefetched p q) (free (owner (k .node))) (bare (k .node)) L)))
 
 abbrev pub serve : Settings → Ledger → ℕ → ℕ → Reply × Ledger
@@ -144,8 +144,8 @@ result S L (stitch p) =
 result S L (prefetch p q) =
     let k = firstOf S L (egress p q) in
     (entry (k .node), move S (egress p q) (prefetched p q) k L)
-result S L (credit p q n) = (done, putOutward S p q (outwardOf S L p q + n) L)
-result S L (mapTo d p) = (done, putMap d p L)
+result S L (credit p q n) = (done, putCredit outward S p q (outwardOf S L p q + n) L)
+result S L (mapTo d p) = (done, putIn mapped d p L)
 result S L (turn p) = turned S L p (readyWord S L p)
 result S L (ready p) = (word (readyWord S L p) (ones (readyWord S L p)), L)
 result S L (whereIs y) =
@@ -153,12 +153,12 @@ result S L (whereIs y) =
     (found (placeOf S l) (position y (getD (L .lists) l [])), L)
 
 -- what a refusal changes: nothing
-abbrev pub onRefusal : ℕ → Act → Ledger → Ledger
-onRefusal n a L = L
+unfoldable pub onRefusal : Settings → ℕ → Act → Ledger → Ledger
+onRefusal S n a L = L
 
 -- one act: the answer, and the ledger after it
 abbrev pub step : Settings → Ledger → Act → Reply × Ledger
-step S L a = guard (rules S L a) (λ n. (refused n, onRefusal n a L)) (result S L a)
+step S L a = guard (rules S L a) (λ n. (refused n, onRefusal S n a L)) (result S L a)
 
 -- any acts, one after another: the ledger after them
 abbrev pub run : Settings → Ledger → List Act → Ledger

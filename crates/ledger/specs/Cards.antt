@@ -5,6 +5,7 @@ use mathlib.Core.List.{List, [], _∷_, _++_, map}
 use Prim.Native.Nat.{ℕ, zero, suc, _+_, _-_, _*_, _/_, _%_}
 use lib.ListN.{length, drop}
 use Rattle.crc.specs.Crc.{crc8}
+use Rattle.ledger.specs.Settings.{settings, size}
 use Rattle.ledger.specs.Ledger.{Packet, free, ingress, egress, prefetched}
 use Rattle.ledger.specs.Calls.{arrive, stitch, prefetch, credit, mapTo, turn, ready, whereIs, inside, outside, Reply, refused, done, entry}
 use Rattle.ledger.specs.Calls.{stitched, idle, leaves, word, found}
@@ -26,6 +27,10 @@ header dest source queue len = sealed (nine dest source queue len 0)
 abbrev pub zeros : ℕ → List ℕ
 zeros zero = []
 zeros (suc n) = 0 ∷ zeros n
+
+-- a setup of this build's ports and queues
+abbrev pub setUp : ℕ → ℕ → ℕ → ℕ → Call
+setUp N b D K = setup (settings N b D K)
 
 -- a packet of queue q and this length at port 0, brought into the prefetch slots of port 0
 abbrev pub brought : ℕ → ℕ → List Call
@@ -103,7 +108,7 @@ plain-record q len = stitched (0 ∷ 0 ∷ len / 256 ∷ len % 256 ∷ q ∷ 0 �
 -- idle where outward credit is one less, and it leaves with n.
 abbrev pub costs : ℕ → ℕ → Card
 costs len n =
-    says (setup 1 64 1 (n - 1) ∷ act (arrive 0 (header 0 0 1 len)) ∷ setup 1 64 1 n ∷ (brought 1 len
+    says (setUp 1 64 1 (n - 1) ∷ act (arrive 0 (header 0 0 1 len)) ∷ setUp 1 64 1 n ∷ (brought 1 len
     ++ (act (credit 0 1 (n - 1)) ∷ act (turn 0) ∷ act (credit 0 1 1) ∷ act (turn 0) ∷ [])))
     (done ∷ refused 10 ∷ done ∷ entry 0 ∷ plain-record 1 len ∷ entry 0
     ∷ done ∷ idle ∷ done ∷ leaves (plain 1 len n) outside ∷ [])
@@ -112,7 +117,7 @@ costs len n =
 -- node is taken, and K is 0.
 abbrev pub one-by-one : ℕ → Card
 one-by-one q =
-    says (setup 1 64 1 0 ∷ act (arrive 0 twelve)
+    says (setUp 1 64 1 0 ∷ act (arrive 0 twelve)
     ∷ act (arrive 4 (nine 0 1 q 11 1))
     ∷ act (arrive 0 (nine 0 1 q 11 1))
     ∷ act (arrive 0 (nine 0 1 q 11 1 ++ (0 ∷ [])))
@@ -136,7 +141,7 @@ crossed x = record { node = x; len = 100; queue = 5; dest = 3; stamp = 0x0102030
 -- or field in the answers is 0 where another number is right.
 abbrev pub crossing : Card
 crossing =
-    says (setup 4 64 2 200 ∷ act (mapTo 3 2) ∷ act (arrive 1 across) ∷ act (arrive 1 across) ∷ act (whereIs 2049) ∷ act (whereIs 2051)
+    says (setUp 4 64 2 200 ∷ act (mapTo 3 2) ∷ act (arrive 1 across) ∷ act (arrive 1 across) ∷ act (whereIs 2049) ∷ act (whereIs 2051)
     ∷ act (stitch 1) ∷ act (stitch 1) ∷ act (whereIs 2049) ∷ act (prefetch 2 5) ∷ act (prefetch 2 5) ∷ act (whereIs 2049) ∷ act (ready 2)
     ∷ act (arrive 1 (header 3 1 0 12)) ∷ act (stitch 1) ∷ act (prefetch 2 0) ∷ act (credit 2 5 3) ∷ act (ready 2) ∷ act (ready 1)
     ∷ act (turn 2) ∷ act (turn 2) ∷ act (ready 2) ∷ act (turn 2) ∷ act (whereIs 2048) ∷ [])
@@ -151,7 +156,7 @@ crossing =
 -- the last queue for port 3 at port 2
 abbrev pub waiting : List Call
 waiting =
-    setup 4 64 2 200 ∷ act (mapTo 3 2) ∷ act (mapTo 1 3) ∷ act (arrive 0 twelve) ∷ act (arrive 1 across) ∷ act (arrive 1 across)
+    setUp 4 64 2 200 ∷ act (mapTo 3 2) ∷ act (mapTo 1 3) ∷ act (arrive 0 twelve) ∷ act (arrive 1 across) ∷ act (arrive 1 across)
     ∷ act (arrive 2 full) ∷ act (credit 2 5 3) ∷ act (credit 3 23 128) ∷ []
 
 -- then all but port 1, which has nothing, send a packet
@@ -160,37 +165,37 @@ sixteen = 0 ∷ 0 ∷ 0 ∷ 0 ∷ 0 ∷ 1 ∷ 0 ∷ 0 ∷ 0 ∷ 0 ∷ 8 ∷ 0 �
 
 abbrev pub cards : List Card
 cards =
-    says (setup 1 64 1 16 ∷ act (arrive 0 (zeros 10)) ∷ act (arrive 1 (zeros 10)) ∷ [])
+    says (setUp 1 64 1 16 ∷ act (arrive 0 (zeros 10)) ∷ act (arrive 1 (zeros 10)) ∷ [])
     (done ∷ refused 9 ∷ refused 8 ∷ [])
-    ∷ says (setup 1 64 1 16 ∷ act (arrive 0 twelve) ∷ act (stitch 0) ∷ act (arrive 0 spoilt) ∷ [])
+    ∷ says (setUp 1 64 1 16 ∷ act (arrive 0 twelve) ∷ act (stitch 0) ∷ act (arrive 0 spoilt) ∷ [])
     (done ∷ entry 0 ∷ twelve-record ∷ refused 7 ∷ [])
-    ∷ says (setup 1 64 1 200 ∷ act (arrive 2 full) ∷ act (stitch 2) ∷ act (prefetch 0 23) ∷ act (turn 0) ∷ act (credit 0 23 128) ∷ act (turn 0)
+    ∷ says (setUp 1 64 1 200 ∷ act (arrive 2 full) ∷ act (stitch 2) ∷ act (prefetch 0 23) ∷ act (turn 0) ∷ act (credit 0 23 128) ∷ act (turn 0)
     ∷ act (arrive 2 full) ∷ act (stitch 2) ∷ act (prefetch 0 23) ∷ act (turn 0) ∷ [])
     (done ∷ entry 4096 ∷ full-record ∷ entry 4096 ∷ idle ∷ done
     ∷ leaves (record { node = 4096; len = 8191; queue = 23; dest = 1; stamp = 0; poisoned = 0; transaction = 0; price = 128 }) outside
     ∷ entry 4096 ∷ full-record ∷ entry 4096 ∷ idle ∷ [])
-    ∷ says (setup 1 64 1 16 ∷ act (arrive 0 twelve) ∷ act (arrive 0 twelve) ∷ act (stitch 0) ∷ act (prefetch 0 0) ∷ act (turn 0) ∷ act (arrive 0 twelve) ∷ [])
+    ∷ says (setUp 1 64 1 16 ∷ act (arrive 0 twelve) ∷ act (arrive 0 twelve) ∷ act (stitch 0) ∷ act (prefetch 0 0) ∷ act (turn 0) ∷ act (arrive 0 twelve) ∷ [])
     (done ∷ entry 0 ∷ refused 11 ∷ twelve-record ∷ entry 0 ∷ leaves (plain 0 12 0) inside ∷ entry 0 ∷ [])
-    ∷ says (setup 1 64 1 0 ∷ act (credit 0 1 65535) ∷ act (credit 0 1 0) ∷ act (credit 0 1 1) ∷ [])
+    ∷ says (setUp 1 64 1 0 ∷ act (credit 0 1 65535) ∷ act (credit 0 1 0) ∷ act (credit 0 1 1) ∷ [])
     (done ∷ done ∷ done ∷ refused 14 ∷ [])
-    ∷ says (setup 256 64 1 0 ∷ setup 0 64 1 0 ∷ setup 2049 64 1 0 ∷ setup 1222 64 1 0 ∷ setup 1223 64 1 0 ∷ setup 2048 64 1 0 ∷ [])
+    ∷ says (setUp 256 64 1 0 ∷ setUp 0 64 1 0 ∷ setUp 2049 64 1 0 ∷ setUp 1222 64 1 0 ∷ setUp 1223 64 1 0 ∷ setUp 2048 64 1 0 ∷ [])
     (done ∷ refused 2 ∷ refused 2 ∷ done ∷ refused 1 ∷ refused 1 ∷ [])
-    ∷ lent 108483 (setup 2048 64 1 0 ∷ []) (refused 1 ∷ [])
-    ∷ lent 108484 (setup 2048 64 1 0 ∷ act (whereIs 8191) ∷ act (whereIs 8192) ∷ act (arrive 3 (header 0 3 0 12)) ∷ act (whereIs 8191) ∷ [])
+    ∷ lent (size (settings 2048 64 1 0) - 1) (setUp 2048 64 1 0 ∷ []) (refused 1 ∷ [])
+    ∷ lent (size (settings 2048 64 1 0)) (setUp 2048 64 1 0 ∷ act (whereIs 8191) ∷ act (whereIs 8192) ∷ act (arrive 3 (header 0 3 0 12)) ∷ act (whereIs 8191) ∷ [])
     (done ∷ found (free 3) 2047 ∷ refused 15 ∷ entry 6144 ∷ found (free 3) 2046 ∷ [])
-    ∷ says (setup 2 64 1 16 ∷ (brought 0 12 ++ (act (prefetch 0 0) ∷ [])))
+    ∷ says (setUp 2 64 1 16 ∷ (brought 0 12 ++ (act (prefetch 0 0) ∷ [])))
     (done ∷ entry 0 ∷ twelve-record ∷ entry 0 ∷ refused 12 ∷ [])
-    ∷ serves (setup 9 64 2 16 ∷ (brought 5 12 ++ (act (credit 0 5 9) ∷ act (turn 0) ∷ (twice 2 ++ (twice 5 ++ (twice 9 ++ turns 3)))))) 27 (9 ∷ 548 ∷ 2 ∷ 548 ∷ 5 ∷ 548 ∷ [])
-    ∷ serves (setup 49 64 2 16 ∷ (brought 5 12 ++ (act (credit 0 5 9) ∷ act (turn 0) ∷ (all-twice 0 24 ++ turns 24)))) 220 (5 ∷ 16777215 ∷ [])
+    ∷ serves (setUp 9 64 2 16 ∷ (brought 5 12 ++ (act (credit 0 5 9) ∷ act (turn 0) ∷ (twice 2 ++ (twice 5 ++ (twice 9 ++ turns 3)))))) 27 (9 ∷ 548 ∷ 2 ∷ 548 ∷ 5 ∷ 548 ∷ [])
+    ∷ serves (setUp 49 64 2 16 ∷ (brought 5 12 ++ (act (credit 0 5 9) ∷ act (turn 0) ∷ (all-twice 0 24 ++ turns 24)))) 220 (5 ∷ 16777215 ∷ [])
     ∷ costs 12 1 ∷ costs 64 1 ∷ costs 65 2 ∷ costs 76 2 ∷ costs 8191 128
-    ∷ says (setup 1 64 1 0 ∷ (brought 0 8191 ++ (act (turn 0) ∷ [])))
+    ∷ says (setUp 1 64 1 0 ∷ (brought 0 8191 ++ (act (turn 0) ∷ [])))
     (done ∷ entry 0 ∷ plain-record 0 8191 ∷ entry 0 ∷ leaves (plain 0 8191 0) inside ∷ [])
-    ∷ says (setup 1 64 1 1 ∷ act (arrive 0 (sealed (nine 0 0 23 12 1))) ∷ act (arrive 0 (header 0 0 24 12)) ∷ act (arrive 0 (header 0 0 31 12)) ∷ act (arrive 0 (sealed (nine 0 0 23 12 2))) ∷ [])
+    ∷ says (setUp 1 64 1 1 ∷ act (arrive 0 (sealed (nine 0 0 23 12 1))) ∷ act (arrive 0 (header 0 0 24 12)) ∷ act (arrive 0 (header 0 0 31 12)) ∷ act (arrive 0 (sealed (nine 0 0 23 12 2))) ∷ [])
     (done ∷ refused 20 ∷ refused 19 ∷ refused 19 ∷ entry 0 ∷ [])
     ∷ one-by-one 24 ∷ one-by-one 31
     ∷ crossing
     ∷ rounds [] (zeros 15) (refused 3) (zeros 15)
-    ∷ rounds (setup 2 64 1 0 ∷ act (arrive 1 (header 0 1 0 12)) ∷ act (arrive 0 twelve) ∷ []) (zeros 16) done
+    ∷ rounds (setUp 2 64 1 0 ∷ act (arrive 1 (header 0 1 0 12)) ∷ act (arrive 0 twelve) ∷ []) (zeros 16) done
     (0 ∷ 0 ∷ 0 ∷ 0 ∷ 0 ∷ 1 ∷ 0 ∷ 0 ∷ 0 ∷ 1 ∷ 0 ∷ 0 ∷ 0 ∷ 1 ∷ 0 ∷ 0 ∷ [])
     ∷ rounds waiting (zeros 15) (refused 27) (zeros 15)
     ∷ rounds waiting (zeros 16) done sixteen

@@ -36,7 +36,7 @@ InHand S L p q ks = (q ≡ 0) ⊎ (sum (λ k. k .price) ks ≤ outwardOf S L p q
 -- ---- over calls, on whatever takes calls and shows a desk: the desk itself, or a memory
 
 abbrev pub isTurnCall : ℕ → Call → Bool
-isTurnCall p (setup N b s c) = false
+isTurnCall p (setup T) = false
 isTurnCall p (act a) = isTurn p a
 
 -- how many turns of port p are among the calls

@@ -5,7 +5,7 @@ use mathlib.Core.Bool.{Bool, true, false, not}
 use mathlib.Core.List.{List, [], _∷_}
 use Prim.Native.Nat.{ℕ}
 use lib.Dec.{ltb}
-use Rattle.ledger.specs.Settings.{Settings, settings, inRows, size}
+use Rattle.ledger.specs.Settings.{Settings, inRows, size}
 use Rattle.ledger.specs.Rules.{Rule, refuse, guard}
 use Rattle.ledger.specs.Ledger.{Ledger, start}
 use Rattle.ledger.specs.Calls.{Act, Reply, refused, done, isRefused, step}
@@ -15,13 +15,12 @@ pub data Desk : Type 0 where
   none : Desk
   has : Settings → Ledger → Desk
 
--- setup is told N, beat, D and K
 pub data Call : Type 0 where
-  setup : ℕ → ℕ → ℕ → ℕ → Call
+  setup : Settings → Call
   act : Act → Call
 
 abbrev pub isSetup : Call → Bool
-isSetup (setup N b s c) = true
+isSetup (setup T) = true
 isSetup (act a) = false
 
 -- memory of n bytes: a setting not in its row, then memory shorter than N needs
@@ -33,7 +32,7 @@ onDesk S out = (out .0, has S (out .1))
 
 -- one call at a desk whose memory has n bytes: the answer, and the desk after it
 abbrev pub desk : ℕ → Desk → Call → Reply × Desk
-desk n D (setup N b s c) = guard (setupRules n (settings N b s c)) (λ r. (refused r, D)) (done, has (settings N b s c) (start (settings N b s c)))
+desk n D (setup T) = guard (setupRules n T) (λ r. (refused r, D)) (done, has T (start T))
 desk n none (act a) = (refused 3, none)
 desk n (has S L) (act a) = onDesk S (step S L a)
 

@@ -3,7 +3,7 @@ use mathlib.Core.Bool.{Bool, cond, _&&_}
 use mathlib.Core.List.{List, [], _∷_, _++_}
 use Prim.Native.Nat.{ℕ, zero, suc, _+_, _-_, _*_, _/_, _%_}
 use lib.ListN.{getD, set, drop, replicate}
-use lib.Dec.{ltb}
+use lib.Dec.{eqb, ltb}
 use Rattle.ledger.specs.Settings.{Settings, ids, row}
 use Rattle.ledger.specs.Header.{Fields, price}
 
@@ -96,29 +96,56 @@ unfoldable pub setCredit : Settings → List ℕ → ℕ → ℕ → ℕ → Lis
 setCredit S xs p zero v = xs
 setCredit S xs p (suc r) v = set xs (cell S p r) v
 
--- ---- the ledger
+-- ---- the ledger: lists of packets, and numbers in columns
+
+pub data Column : Type 0 where
+  arrival outward last mapped : Column
+
+abbrev pub column# : Column → ℕ
+column# arrival = 0
+column# outward = 1
+column# last = 2
+column# mapped = 3
+
+-- the numbers of a column: credits have one for each port and each queue but 0, last served queues one for each port, the map one for each id
+abbrev pub tall : Settings → Column → ℕ
+tall S arrival = S .ports * (S .queues - 1)
+tall S outward = S .ports * (S .queues - 1)
+tall S last = S .ports
+tall S mapped = ids
+
+-- each number of a column is below this
+abbrev pub bound : Settings → Column → ℕ
+bound S arrival = 65536
+bound S outward = 65536
+bound S last = S .queues
+bound S mapped = S .ports
+
+-- and is this in the starting ledger: all arrival credit in hand, the last queue last served
+abbrev pub starting : Settings → Column → ℕ
+starting S arrival = S .credit
+starting S outward = 0
+starting S last = S .queues - 1
+starting S mapped = 0
 
 pub record Ledger : Type 0 where
   pub lists : List (List Packet)
-  pub arrival : List ℕ
-  pub outward : List ℕ
-  pub last : List ℕ
-  pub mapped : List ℕ
+  pub numbers : Column → List ℕ
 
 abbrev pub listAt : Settings → Ledger → Place → List Packet
 listAt S L v = getD (L .lists) (place# S v) []
 
 abbrev pub arrivalOf : Settings → Ledger → ℕ → ℕ → ℕ
-arrivalOf S L p q = creditAt S (L .arrival) p q
+arrivalOf S L p q = creditAt S (L .numbers arrival) p q
 
 abbrev pub outwardOf : Settings → Ledger → ℕ → ℕ → ℕ
-outwardOf S L p q = creditAt S (L .outward) p q
+outwardOf S L p q = creditAt S (L .numbers outward) p q
 
 abbrev pub lastOf : Ledger → ℕ → ℕ
-lastOf L p = getD (L .last) p 0
+lastOf L p = getD (L .numbers last) p 0
 
 abbrev pub mapOf : Ledger → ℕ → ℕ
-mapOf L d = getD (L .mapped) d 0
+mapOf L d = getD (L .numbers mapped) d 0
 
 -- ---- lists change in two ways: the oldest is taken off, a last one is put on
 
@@ -134,55 +161,24 @@ behind k ks = ks ++ (k ∷ [])
 unfoldable pub push : ℕ → Packet → List (List Packet) → List (List Packet)
 push b k ls = set ls b (behind k (getD ls b []))
 
--- ---- setters, one for each part of the ledger
+-- ---- setters: a packet moves, or numbers of one column change
 
 -- the oldest of place v goes to the end of place w, as k
 unfoldable pub move : Settings → Place → Place → Packet → Ledger → Ledger
-move S v w k L = record {
-  lists = push (place# S w) k (pop (place# S v) (L .lists));
-  arrival = L .arrival;
-  outward = L .outward;
-  last = L .last;
-  mapped = L .mapped;
-}
+move S v w k L = record { lists = push (place# S w) k (pop (place# S v) (L .lists)); numbers = L .numbers }
 
-unfoldable pub putArrival : Settings → ℕ → ℕ → ℕ → Ledger → Ledger
-putArrival S p q v L = record {
-  lists = L .lists;
-  arrival = setCredit S (L .arrival) p q v;
-  outward = L .outward;
-  last = L .last;
-  mapped = L .mapped;
-}
+unfoldable pub change : Column → (List ℕ → List ℕ) → Ledger → Ledger
+change c f L = record { lists = L .lists; numbers = λ d. cond (eqb (column# c) (column# d)) (f (L .numbers d)) (L .numbers d) }
 
-unfoldable pub putOutward : Settings → ℕ → ℕ → ℕ → Ledger → Ledger
-putOutward S p q v L = record {
-  lists = L .lists;
-  arrival = L .arrival;
-  outward = setCredit S (L .outward) p q v;
-  last = L .last;
-  mapped = L .mapped;
-}
+-- number i of a column becomes v
+abbrev pub putIn : Column → ℕ → ℕ → Ledger → Ledger
+putIn c i v = change c (λ xs. set xs i v)
 
-unfoldable pub putLast : ℕ → ℕ → Ledger → Ledger
-putLast p q L = record {
-  lists = L .lists;
-  arrival = L .arrival;
-  outward = L .outward;
-  last = set (L .last) p q;
-  mapped = L .mapped;
-}
+-- the credit of port p and queue q becomes v, in a column of credits
+abbrev pub putCredit : Column → Settings → ℕ → ℕ → ℕ → Ledger → Ledger
+putCredit c S p q v = change c (λ xs. setCredit S xs p q v)
 
-unfoldable pub putMap : ℕ → ℕ → Ledger → Ledger
-putMap d p L = record {
-  lists = L .lists;
-  arrival = L .arrival;
-  outward = L .outward;
-  last = L .last;
-  mapped = set (L .mapped) d p;
-}
-
--- ---- the starting ledger: every node free, in order; all arrival credit in hand; the last queue last served
+-- ---- the starting ledger: every node free, in order
 
 abbrev pub bares : ℕ → ℕ → List Packet
 bares x zero = []
@@ -193,10 +189,4 @@ startLists S p zero = []
 startLists S p (suc n) = (bares (entryId p 0) (S .nodes) ∷ []) ++ (replicate (1 + 2 * S .queues) [] ++ startLists S (suc p) n)
 
 unfoldable pub start : Settings → Ledger
-start S = record {
-  lists = startLists S 0 (S .ports);
-  arrival = replicate (S .ports * (S .queues - 1)) (S .credit);
-  outward = replicate (S .ports * (S .queues - 1)) 0;
-  last = replicate (S .ports) (S .queues - 1);
-  mapped = replicate ids 0;
-}
+start S = record { lists = startLists S 0 (S .ports); numbers = λ c. replicate (tall S c) (starting S c) }

@@ -9,7 +9,7 @@ use lib.ListN.{length, getD}
 use lib.Dec.{eqb}
 use Rattle.ledger.specs.Settings.{Settings}
 use Rattle.ledger.specs.Header.{fieldsOf}
-use Rattle.ledger.specs.Ledger.{owner, Packet, recorded, free, ingress, place#, placeOf, Ledger, listAt, arrivalOf}
+use Rattle.ledger.specs.Ledger.{owner, Packet, recorded, free, ingress, place#, placeOf, Column, arrival, Ledger, listAt, arrivalOf}
 use Rattle.ledger.specs.Ready.{bit}
 use Rattle.ledger.specs.Calls.{Reply, refused, entry}
 use Rattle.ledger.specs.Desk.{Desk, has, Call, afterCalls, answersOf}
@@ -22,9 +22,7 @@ use Rattle.ledger.specs.Order.{isFree, cameTo, leftFrom, idsAt, FirstInF
 pub record OnlyAt (S : Settings) (p : ℕ) (L N : Ledger) : Type 0 where
   pub other-lists : (l : ℕ) → l ≢ place# S (free p) → l ≢ place# S (ingress p) → getD (N .lists) l [] ≡ getD (L .lists) l []
   pub other-credit : (r q : ℕ) → q < S .queues → r ≢ p → arrivalOf S N r q ≡ arrivalOf S L r q
-  pub outward : N .outward ≡ L .outward
-  pub last : N .last ≡ L .last
-  pub mapped : N .mapped ≡ L .mapped
+  pub other-numbers : (c : Column) → c ≢ arrival → N .numbers c ≡ L .numbers c
 
 -- port p's oldest free node x, one of its own, took the header in: it stands last in p's ingress list with what the header says recorded,
 -- and p's arrival credit for the queue is lower by the price

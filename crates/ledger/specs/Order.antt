@@ -72,7 +72,7 @@ movement (ready p) r = stays
 movement (whereIs y) r = stays
 
 abbrev pub movementOf : Call → Reply → Movement
-movementOf (setup N b s c) r = stays
+movementOf (setup T) r = stays
 movementOf (act a) r = movement a r
 
 -- ---- what came to place u, and what left it, in the order of the calls
@@ -141,7 +141,7 @@ broughtBy S (ready p) r = []
 broughtBy S (whereIs y) r = []
 
 abbrev pub broughtIn : Settings → Call → Reply → List Packet
-broughtIn S (setup N b s c) r = []
+broughtIn S (setup T) r = []
 broughtIn S (act a) r = broughtBy S a r
 
 -- packet k is in the list, and behind it there is no other of its node

@@ -85,7 +85,7 @@ doneBy (has S L) (round n) = guard (roundRules S n) (λ r. nothing) (wholeRound 
 
 -- of a call and its answer: the answer, if the call is a turn
 abbrev pub ofTurn : Call → Reply → List Reply
-ofTurn (setup N b s c) r = []
+ofTurn (setup T) r = []
 ofTurn (act (arrive p h)) r = []
 ofTurn (act (stitch p)) r = []
 ofTurn (act (prefetch p q)) r = []

@@ -2,13 +2,13 @@
 use mathlib.Core.Path.{_≡_}
 use mathlib.Core.Bool.{true, cond, _&&_}
 use mathlib.Core.List.{List, [], _∷_}
-use Prim.Native.Nat.{ℕ, suc, _+_, _-_, _*_, _^_, _≤_, _<_}
+use Prim.Native.Nat.{ℕ, suc, _+_, _*_, _^_, _≤_, _<_}
 use lib.ListN.{length, getD}
 use lib.Dec.{eqb}
-use Rattle.ledger.specs.Settings.{Settings, inRows, ids, row}
+use Rattle.ledger.specs.Settings.{Settings, inRows, row}
 use Rattle.ledger.specs.Header.{leastLength, price}
-use Rattle.ledger.specs.Ledger.{owner, isNode, Packet, Place, free, ingress, egress, prefetched, placeOf, Ledger, listAt, arrivalOf, outwardOf}
-use Rattle.ledger.specs.Ledger.{lastOf, mapOf}
+use Rattle.ledger.specs.Ledger.{owner, isNode, Packet, Place, free, ingress, egress, prefetched, placeOf, Column, tall, bound, Ledger, listAt}
+use Rattle.ledger.specs.Ledger.{arrivalOf}
 use Rattle.ledger.specs.Ready.{bit}
 
 -- ---- words for facts about the nodes of the lists
@@ -31,21 +31,15 @@ abbrev pub weigh : (ℕ → Packet → ℕ) → List (List Packet) → ℕ
 weigh f [] = 0
 weigh f (l ∷ ls) = sum (f 0) l + weigh (λ i. f (suc i)) ls
 
--- ---- the tables have an entry for each place, for each port and queue but 0, for each port, for each id
+-- ---- there is a list for each place, and a column has all its numbers
 
 pub record Shaped (S : Settings) (L : Ledger) : Type 0 where
   pub lists-long : length (L .lists) ≡ S .ports * row S
-  pub arrival-long : length (L .arrival) ≡ S .ports * (S .queues - 1)
-  pub outward-long : length (L .outward) ≡ S .ports * (S .queues - 1)
-  pub last-long : length (L .last) ≡ S .ports
-  pub mapped-long : length (L .mapped) ≡ ids
+  pub numbers-long : (c : Column) → length (L .numbers c) ≡ tall S c
 
 -- (b) last served queues, map entries and credits are in range and no prefetch list exceeds D
 pub record InRange (S : Settings) (L : Ledger) : Type 0 where
-  pub last-in : (p : ℕ) → p < S .ports → lastOf L p < S .queues
-  pub map-in : (d : ℕ) → d < ids → mapOf L d < S .ports
-  pub arrival-in : (p q : ℕ) → p < S .ports → q < S .queues → arrivalOf S L p q ≤ 65535
-  pub outward-in : (p q : ℕ) → p < S .ports → q < S .queues → outwardOf S L p q ≤ 65535
+  pub numbers-in : (c : Column) (i : ℕ) → i < tall S c → getD (L .numbers c) i 0 < bound S c
   pub slots-in : (p q : ℕ) → p < S .ports → q < S .queues → length (listAt S L (prefetched p q)) ≤ S .slots
 
 -- (c) how often y stands in the lists: once if it is a node, else never

@@ -1,5 +1,5 @@
 -- The lists of a memory: what they show, who stands in them, and which changes leave them as they are. Assumes nothing.
-use mathlib.Core.Path.{_≡_, refl, ap, _∙_}
+use mathlib.Core.Path.{_≡_, sym, refl, ap, _∙_}
 use mathlib.Core.Logic.{_≢_}
 use mathlib.Core.Bool.{Bool, true, false, cond}
 use mathlib.Core.List.{List, [], _∷_, _++_, map}
@@ -10,8 +10,8 @@ use native.Mathlib.Omega.{arith}
 use lib.ListN.{length, getD, set, length-set, length-map}
 use lib.Seq.{getD-set-same, getD-set-other, ext-getD}
 use lib.Dec.{eqb, ltb}
-use Rattle.ledger.specs.Settings.{Settings, ids, row}
-use Rattle.ledger.specs.Ledger.{owner, index, isNode, Packet, bare, Ledger}
+use Rattle.ledger.specs.Settings.{Settings, row}
+use Rattle.ledger.specs.Ledger.{owner, index, isNode, Packet, bare, Ledger, arrival, outward, last, mapped, Column, tall}
 use Rattle.ledger.specs.Ready.{bit}
 use Rattle.ledger.specs.Sound.{All, sum, weigh, one, Roomy}
 use Rattle.ledger.proofs.Tests.{eqb-is, eqb-not, ltb-is, ltb-not}
@@ -20,9 +20,27 @@ use Rattle.ledger.proofs.Places.{row-lt, row-inj, Node, node-of, bit-le}
 use Rattle.layout.specs.declared.Table.{Table}
 use Rattle.layout.specs.declared.Table.the-variants.{Setting, Mapped, Last, Arrival, Outward, Head, Tail, Count, Next, Length, Stamp, Queue, Dest}
 use Rattle.layout.specs.declared.Table.the-variants.{Poisoned, Transaction, Price}
-use Rattle.layout.specs.Tables.{turnOf, cells, lists, all, many, get}
+use Rattle.layout.specs.Tables.{turnOf, lists, all, many, get, tableOf}
 use Rattle.layout.specs.Picture.{slot, chain, nodesOf, packetAt, nodeIn, tabulate, ledgerIn, lastD, StateOf}
-use Rattle.memory.specs.Ends.{Tidy, IsRecord, withLists, SameRest}
+use Rattle.memory.specs.Ends.{Tidy, IsRecord, withLists, SameNumbers}
+use Rattle.ledger.proofs.Columns.{columnAt}
+
+-- ---- the table of a column: before the lists', as long as the column, and no other column's
+
+pub record ColumnTable (S : Settings) (c : Column) : Type 0 where
+  pub low : turnOf (tableOf c) < turnOf Head
+  pub above : 0 < turnOf (tableOf c)
+  pub long : many S (tableOf c) ≡ tall S c
+  pub back : columnAt (getD (2 ∷ 3 ∷ 2 ∷ 0 ∷ 1 ∷ []) (turnOf (tableOf c)) 0) ≡ c
+
+pub column-table : (S : Settings) (c : Column) → ColumnTable S c
+column-table S arrival = record { low = omega arith; above = omega arith; long = refl; back = refl }
+column-table S outward = record { low = omega arith; above = omega arith; long = refl; back = refl }
+column-table S last = record { low = omega arith; above = omega arith; long = refl; back = refl }
+column-table S mapped = record { low = omega arith; above = omega arith; long = refl; back = refl }
+
+pub table-inj : (S : Settings) (c d : Column) → turnOf (tableOf c) ≡ turnOf (tableOf d) → c ≡ d
+table-inj S c d e = sym (column-table S c .back) ∙ ap (λ (n : ℕ). columnAt (getD (2 ∷ 3 ∷ 2 ∷ 0 ∷ 1 ∷ []) n 0)) e ∙ column-table S d .back
 
 -- ---- tables as lists
 
@@ -348,17 +366,13 @@ module _ (S : Settings) (m m′ : List ℕ) where
   items-same l ys a = map-same (nodeIn S m′ l) (nodeIn S m l) ys (All-map ys (item-same l) a)
 
   -- tables before those of the lists that are the same
-  pub rest-same : ((t : Table) (j : ℕ) → turnOf t < turnOf Head → j < many S t → get S m′ t j ≡ get S m t j) → SameRest (ledgerIn S m) (ledgerIn S m′)
+  pub rest-same : ((t : Table) (j : ℕ) → turnOf t < turnOf Head → j < many S t → get S m′ t j ≡ get S m t j) → SameNumbers (ledgerIn S m) (ledgerIn S m′)
   unfolding ledgerIn
-  rest-same h = record {
-    arrival = table-ext (get S m′ Arrival) (get S m Arrival) (cells S) (λ j k. h Arrival j (omega arith) k);
-    outward = table-ext (get S m′ Outward) (get S m Outward) (cells S) (λ j k. h Outward j (omega arith) k);
-    last = table-ext (get S m′ Last) (get S m Last) (S .ports) (λ j k. h Last j (omega arith) k);
-    mapped = table-ext (get S m′ Mapped) (get S m Mapped) ids (λ j k. h Mapped j (omega arith) k);
-  }
+  rest-same h c =
+      table-ext (get S m′ (tableOf c)) (get S m (tableOf c)) (tall S c) (λ j k. let f = column-table S c in h (tableOf c) j (f .low) (rw (f .long) k))
 
-pub with-lists : (L L′ : Ledger) (ls : List (List Packet)) → L′ .lists ≡ ls → SameRest L L′ → L′ ≡ withLists ls L
-with-lists L L′ ls e r = λ i. record { lists = e i; arrival = r .arrival i; outward = r .outward i; last = r .last i; mapped = r .mapped i }
+pub with-lists : (L L′ : Ledger) (ls : List (List Packet)) → L′ .lists ≡ ls → SameNumbers L L′ → L′ ≡ withLists ls L
+with-lists L L′ ls e r = λ i. record { lists = e i; numbers = λ c. r c i }
 
 -- tables apart in their order are different tables
 pub differ : (t r : Table) → turnOf t ≢ turnOf r → t ≢ r

@@ -8,16 +8,16 @@ use native.Mathlib.Nat.{add-zero, zero-add, mod-lt, div-add-mod', div-lt-iff-lt-
 use native.Mathlib.Omega.{arith}
 use lib.ListN.{length, getD, drop, replicate, length-append, length-drop, length-replicate, getD-replicate}
 use lib.Seq.{drop-at}
-use Rattle.ledger.specs.Settings.{Settings, inRows, ids, row, size}
-use Rattle.ledger.specs.Ledger.{entryId, Packet, bare, bares, startLists, start}
+use Rattle.ledger.specs.Settings.{Settings, inRows, row, size}
+use Rattle.ledger.specs.Ledger.{entryId, Packet, bare, bares, startLists, start, tall, starting}
 use Rattle.ledger.specs.Sound.{Roomy}
 use Rattle.ledger.specs.Desk.{none, has}
 use Rattle.ledger.proofs.Tests.{eqb-is}
 use Rattle.ledger.proofs.Places.{row-div, row-mod}
 use Rattle.ledger.proofs.Rows.{rows, roomy}
 use Rattle.ledger.proofs.Start.{start-length, start-first, start-empty, start-sound}
-use Rattle.layout.specs.declared.Table.the-variants.{Setting, Mapped, Last, Arrival, Outward, Next}
-use Rattle.layout.specs.Tables.{cells, lists, startOf, get}
+use Rattle.layout.specs.declared.Table.the-variants.{Setting, Next}
+use Rattle.layout.specs.Tables.{lists, startOf, get, tableOf}
 use Rattle.layout.specs.Picture.{settingsIn, slot, chain, nodesOf, nodeIn, tabulate, ledgerIn, lastD, Hangs, StateOf, State}
 use Rattle.memory.specs.Image.{written, image, setupMem}
 use Rattle.memory.specs.Memory.{picture}
@@ -121,10 +121,7 @@ module _ (S : Settings) (r : Roomy S) (m : List ℕ) (F : Fresh S m) where
   unfolding ledgerIn start
   fresh-ledger = λ i. record {
     lists = tabulate-is [] (λ l. map (nodeIn S m l) (nodesOf S m l)) (lists S) (startLists S 0 (S .ports)) (start-length S 0 (S .ports)) fresh-list i;
-    arrival = tabulate-all (get S m Arrival) (cells S) (S .credit) (F .arrival-at) i;
-    outward = tabulate-all (get S m Outward) (cells S) 0 (F .outward-at) i;
-    last = tabulate-all (get S m Last) (S .ports) (S .queues - 1) (F .last-at) i;
-    mapped = tabulate-all (get S m Mapped) ids 0 (F .mapped-at) i;
+    numbers = λ c. tabulate-all (get S m (tableOf c)) (tall S c) (starting S c) (F .number-at c) i;
   }
 
   pub fresh-hangs : (l : ℕ) → l < lists S → Hangs S m l

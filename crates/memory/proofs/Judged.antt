@@ -15,7 +15,7 @@ use Rattle.memory.specs.declared.Verdict.{Verdict}
 use Rattle.memory.specs.declared.Verdict.the-variants.{Go, No}
 use Rattle.memory.specs.Judged.{good, bad, judgementOf, judged}
 use Rattle.memory.specs.Writes.{write}
-use Rattle.memory.specs.Memory.{acted}
+use Rattle.memory.specs.Memory.{acted, refusedMem}
 
 pub judgement-inj : (a b : Verdict) → judgementOf a ≡ judgementOf b → a ≡ b
 judgement-inj Go Go e = refl
@@ -41,9 +41,10 @@ judged-clear S L a e = clear-of (rules S L a) e
 -- where none applies the act is done
 pub acted-good : (S : Settings) (m : List ℕ) (a : Act) → judged S (ledgerIn S m) a ≡ good → acted S m a ≡ (result S (ledgerIn S m) a .0, write S m a)
 unfolding acted
-acted-good S m a e = cleared (rules S (ledgerIn S m) a) (λ n. (refused n, m)) (result S (ledgerIn S m) a .0, write S m a) (judged-clear S (ledgerIn S m) a e)
+acted-good S m a e =
+    cleared (rules S (ledgerIn S m) a) (λ n. (refused n, refusedMem S n a m)) (result S (ledgerIn S m) a .0, write S m a) (judged-clear S (ledgerIn S m) a e)
 
 -- else it is refused, and no byte changes
 pub acted-bad : (S : Settings) (m : List ℕ) (a : Act) (n : ℕ) → judged S (ledgerIn S m) a ≡ bad n → acted S m a ≡ (refused n, m)
-unfolding acted judged
-acted-bad S m a n e = first-of (rules S (ledgerIn S m) a) n (λ k. (refused k, m)) (result S (ledgerIn S m) a .0, write S m a) e
+unfolding acted judged refusedMem
+acted-bad S m a n e = first-of (rules S (ledgerIn S m) a) n (λ k. (refused k, refusedMem S k a m)) (result S (ledgerIn S m) a .0, write S m a) e

@@ -1,30 +1,31 @@
 -- What each write does to the picture, a law each, in the ledger's own words. Assumes nothing.
 use mathlib.Core.Path.{_≡_, refl, sym, ap, _∙_, subst}
 use mathlib.Core.Logic.{_≢_}
-use mathlib.Core.Bool.{true, false}
+use mathlib.Core.Bool.{true, false, cond, Bool}
 use mathlib.Core.List.{List, [], _∷_}
-use Prim.Native.Nat.{ℕ, zero, suc, _≤_, _<_}
+use Prim.Native.Nat.{ℕ, zero, suc, _≤_, _<_, _^_, _-_, _*_}
 use native.Mathlib.Omega.{arith}
 use lib.ListN.{length, getD, drop}
-use Rattle.ledger.specs.Settings.{Settings, ids, size}
-use Rattle.ledger.specs.Ledger.{isNode, Packet, cell, oldest, pop, push, setCredit, putArrival, putOutward, putLast, putMap}
+use Rattle.ledger.specs.Settings.{Settings, size}
+use Rattle.ledger.specs.Ledger.{isNode, Packet, cell, oldest, pop, push, setCredit, putCredit, putIn, Column, column#, tall, change, Ledger}
 use Rattle.ledger.specs.Sound.{weigh, one, Proper, Roomy}
 use Rattle.ledger.specs.Calls.{isEmpty}
 use Rattle.ledger.proofs.Tests.{true≢false}
 use Rattle.ledger.proofs.Places.{cell-lt}
 use Rattle.ledger.proofs.Header.{price-le}
 use Rattle.layout.specs.declared.Table.{Table}
-use Rattle.layout.specs.declared.Table.the-variants.{Setting, Mapped, Last, Arrival, Outward, Head, Count, Length, Stamp, Queue, Dest, Poisoned}
+use Rattle.layout.specs.declared.Table.the-variants.{Setting, Head, Count, Length, Stamp, Queue, Dest, Poisoned}
 use Rattle.layout.specs.declared.Table.the-variants.{Transaction, Price}
-use Rattle.layout.specs.Tables.{turnOf, many, lists, get, put}
+use Rattle.layout.specs.Tables.{turnOf, many, lists, get, put, tableOf, width}
 use Rattle.layout.specs.Picture.{settingsIn, slot, packetAt, nodeIn, ledgerIn}
 use Rattle.layout.proofs.Tables.{length-put, get-put, get-put-else, settings-put, drop-put}
 use Rattle.memory.specs.Ends.{popMem, pushMem, Tidy, IsRecord, withLists}
 use Rattle.memory.specs.Writes.{recordMem, creditMem}
-use Rattle.memory.proofs.Chains.{list-length, list-empty, slot-record, differ}
+use Rattle.memory.proofs.Chains.{list-length, list-empty, slot-record, differ, column-table}
 use Rattle.memory.proofs.Pop as take-off
 use Rattle.memory.proofs.Push as put-on
-use Rattle.memory.proofs.Records.{record-ledger, record-tidy, column-tidy, arrival-put, outward-put, last-put, mapped-put}
+use Rattle.memory.proofs.Records.{record-ledger, record-tidy, column-tidy, column-put}
+use lib.Dec.{eqb}
 
 -- what every write keeps: the settings, the length, the bytes past the size, and that the lists are tidy
 pub record Kept (S : Settings) (m m′ : List ℕ) : Type 0 where
@@ -35,6 +36,15 @@ pub record Kept (S : Settings) (m m′ : List ℕ) : Type 0 where
 
 pub kept-then : (S : Settings) (m m′ m″ : List ℕ) → Kept S m m′ → Kept S m′ m″ → Kept S m m″
 kept-then S m m′ m″ a b = record { settings = b .settings ∙ a .settings; same-length = b .same-length ∙ a .same-length; past = b .past ∙ a .past; tidy = b .tidy }
+
+-- a column that is put back as it was
+unchanged : (c : Column) (L : Ledger) → L ≡ change c (λ xs. xs) L
+unfolding change
+unchanged c L = λ k. record { lists = L .lists; numbers = λ d. same (eqb (column# c) (column# d)) (L .numbers d) k }
+  where
+    same : (b : Bool) (xs : List ℕ) → xs ≡ cond b xs xs
+    same true xs = refl
+    same false xs = refl
 
 -- a list with something in it has a count
 pub counted-some : (S : Settings) (m : List ℕ) (l : ℕ) → l < lists S → isEmpty (getD (ledgerIn S m .lists) l []) ≡ false → 0 < get S m Count l
@@ -94,43 +104,33 @@ module _ (S : Settings) (ok : Roomy S) (m : List ℕ) (t : Tidy S m) where
       tidy = put-on.push-tidy S m b x ok t hb n gone;
     }
 
-  -- credits, marks and the map: a table before the lists'
-  column-kept : (r : Table) (i v : ℕ) → i < many S r → turnOf r < turnOf Head → r ≢ Setting → Kept S m (put S r i v m)
-  column-kept r i v h low n = record { settings = settings-put S m r i v h n; same-length = length-put S r i v m; past = drop-put S r i v m h; tidy = column-tidy S m r i v t h low }
+  -- a column of numbers
+  module _ (c : Column) where
+    pub column-kept : (i v : ℕ) → i < tall S c → Kept S m (put S (tableOf c) i v m)
+    column-kept i v h =
+        let f = column-table S c in
+        let hi : i < many S (tableOf c) = rw (f .long) h in
+        record {
+          settings = settings-put S m (tableOf c) i v hi (differ (tableOf c) Setting (λ e. omega (arith, f .above)));
+          same-length = length-put S (tableOf c) i v m;
+          past = drop-put S (tableOf c) i v m hi;
+          tidy = column-tidy S m (tableOf c) i v t hi (f .low);
+        }
 
-  pub arrival-paint : (p q v : ℕ) → p < S .ports → q < S .queues → v < 65536 → ledgerIn S (creditMem S Arrival p q v m) ≡ putArrival S p q v (ledgerIn S m)
-  unfolding creditMem putArrival setCredit
-  arrival-paint p zero v hp hq hv = refl
-  arrival-paint p (suc r) v hp hq hv = arrival-put S m (cell S p r) v t (cell-lt S p r hp hq) hv
+    pub column-paint : (i v : ℕ) → i < tall S c → v < 256 ^ width (tableOf c) → ledgerIn S (put S (tableOf c) i v m) ≡ putIn c i v (ledgerIn S m)
+    column-paint i v h b = column-put S m c i v t h b
 
-  pub arrival-kept : (p q v : ℕ) → p < S .ports → q < S .queues → v < 65536 → Kept S m (creditMem S Arrival p q v m)
-  unfolding creditMem
-  arrival-kept p zero v hp hq hv = record { settings = refl; same-length = refl; past = refl; tidy = t }
-  arrival-kept p (suc r) v hp hq hv = column-kept Arrival (cell S p r) v (cell-lt S p r hp hq) (omega arith) (differ Arrival Setting (λ e. omega arith))
+    -- of credits
+    module _ (credits : tall S c ≡ S .ports * (S .queues - 1)) (p : ℕ) (hp : p < S .ports) where
+      pub credit-kept : (q v : ℕ) → q < S .queues → Kept S m (creditMem S (tableOf c) p q v m)
+      unfolding creditMem
+      credit-kept zero v hq = record { settings = refl; same-length = refl; past = refl; tidy = t }
+      credit-kept (suc r) v hq = column-kept (cell S p r) v (rw credits (cell-lt S p r hp hq))
 
-  pub outward-paint : (p q v : ℕ) → p < S .ports → q < S .queues → v < 65536 → ledgerIn S (creditMem S Outward p q v m) ≡ putOutward S p q v (ledgerIn S m)
-  unfolding creditMem putOutward setCredit
-  outward-paint p zero v hp hq hv = refl
-  outward-paint p (suc r) v hp hq hv = outward-put S m (cell S p r) v t (cell-lt S p r hp hq) hv
-
-  pub outward-kept : (p q v : ℕ) → p < S .ports → q < S .queues → v < 65536 → Kept S m (creditMem S Outward p q v m)
-  unfolding creditMem
-  outward-kept p zero v hp hq hv = record { settings = refl; same-length = refl; past = refl; tidy = t }
-  outward-kept p (suc r) v hp hq hv = column-kept Outward (cell S p r) v (cell-lt S p r hp hq) (omega arith) (differ Outward Setting (λ e. omega arith))
-
-  pub last-paint : (p q : ℕ) → p < S .ports → q < S .queues → ledgerIn S (put S Last p q m) ≡ putLast p q (ledgerIn S m)
-  unfolding putLast
-  last-paint p q hp hq = last-put S m p q t hp (omega (arith, ok .few-queues))
-
-  pub last-kept : (p q : ℕ) → p < S .ports → q < S .queues → Kept S m (put S Last p q m)
-  last-kept p q hp hq = column-kept Last p q hp (omega arith) (differ Last Setting (λ e. omega arith))
-
-  pub map-paint : (d p : ℕ) → d < ids → p < S .ports → ledgerIn S (put S Mapped d p m) ≡ putMap d p (ledgerIn S m)
-  unfolding putMap
-  map-paint d p hd hp = mapped-put S m d p t hd (omega (arith, ok .few-ports))
-
-  pub map-kept : (d p : ℕ) → d < ids → p < S .ports → Kept S m (put S Mapped d p m)
-  map-kept d p hd hp = column-kept Mapped d p hd (omega arith) (differ Mapped Setting (λ e. omega arith))
+      pub credit-paint : (q v : ℕ) → q < S .queues → v < 256 ^ width (tableOf c) → ledgerIn S (creditMem S (tableOf c) p q v m) ≡ putCredit c S p q v (ledgerIn S m)
+      unfolding creditMem setCredit
+      credit-paint zero v hq b = unchanged c (ledgerIn S m)
+      credit-paint (suc r) v hq b = column-paint (cell S p r) v (rw credits (cell-lt S p r hp hq)) b
 
 -- ---- a record: seven puts for a node that stands nowhere
 

@@ -18,7 +18,7 @@ use Rattle.layout.specs.declared.Table.{Table}
 use Rattle.layout.specs.declared.Table.the-variants.{Setting, Head, Tail, Count, Next}
 use Rattle.layout.specs.Tables.{turnOf, lists, many, get}
 use Rattle.layout.specs.Picture.{settingsIn, slot, chain, nodesOf, packetAt, nodeIn, ledgerIn, lastD, Hangs}
-use Rattle.memory.specs.Ends.{popMem, Tidy, withLists, SameRest}
+use Rattle.memory.specs.Ends.{popMem, Tidy, withLists, SameNumbers}
 use Rattle.layout.proofs.Tables.{length-put, get-lt, get-put, get-put-else, settings-put, drop-put}
 use Rattle.memory.proofs.Chains as C
 
@@ -56,7 +56,7 @@ module _ (S : Settings) (m : List ℕ) (a : ℕ) (ha : a < lists S) where
       C.packet-same S m (popMem S a m) y
       (λ t h. pop-get t (slot S y) (omega arith) (omega arith) (C.slot-record S y t e h))
 
-  pub pop-else : SameRest (ledgerIn S m) (ledgerIn S (popMem S a m))
+  pub pop-else : SameNumbers (ledgerIn S m) (ledgerIn S (popMem S a m))
   pop-else = C.rest-same S m (popMem S a m) (λ t j h k. pop-get t j (omega arith) (omega arith) k)
 
 module _ (S : Settings) (m : List ℕ) (a : ℕ) (P : Tidy S m) (ha : a < lists S) (pos : 0 < get S m Count a) where

@@ -18,7 +18,7 @@ use Rattle.layout.specs.declared.Table.{Table}
 use Rattle.layout.specs.declared.Table.the-variants.{Setting, Head, Tail, Count, Next}
 use Rattle.layout.specs.Tables.{turnOf, width, lists, many, get, put}
 use Rattle.layout.specs.Picture.{settingsIn, slot, chain, nodesOf, packetAt, nodeIn, ledgerIn, lastD, Hangs}
-use Rattle.memory.specs.Ends.{link, pushMem, Tidy, withLists, SameRest}
+use Rattle.memory.specs.Ends.{link, pushMem, Tidy, withLists, SameNumbers}
 use Rattle.layout.proofs.Tables.{length-put, get-put, get-put-else, settings-put, drop-put}
 use Rattle.memory.proofs.Chains as C
 
@@ -222,7 +222,7 @@ module _ (S : Settings) (m : List ℕ) (b x : ℕ) (R : Roomy S) (P : Tidy S m) 
       C.packet-same S m (pushMem S b x m) y
       (λ t h. push-get t (slot S y) (omega arith) (omega arith) (omega arith) (omega arith) (C.slot-record S y t e h))
 
-  pub push-else : SameRest (ledgerIn S m) (ledgerIn S (pushMem S b x m))
+  pub push-else : SameNumbers (ledgerIn S m) (ledgerIn S (pushMem S b x m))
   push-else = C.rest-same S m (pushMem S b x m) (λ t j h k. push-get t j (omega arith) (omega arith) (omega arith) (omega arith) k)
 
   items : (l : ℕ) (ys : List ℕ) → All (λ y. isNode S y ≡ true) ys → map (nodeIn S (pushMem S b x m) l) ys ≡ map (nodeIn S m l) ys

@@ -1,22 +1,26 @@
 -- What a store outside the lists' own tables does: to the record of a node that stands nowhere, to a credit, a mark, the map. Assumes nothing.
-use mathlib.Core.Path.{_≡_, sym, ap}
+use mathlib.Core.Path.{_≡_, sym, ap, subst, refl}
 use mathlib.Core.Logic.{_≢_}
-use mathlib.Core.Bool.{true}
+use mathlib.Core.Bool.{true, cond}
 use mathlib.Core.List.{List}
 use Prim.Native.Nat.{ℕ, _^_, _≤_, _<_}
 use native.Mathlib.Omega.{arith}
 use lib.ListN.{length, set}
-use Rattle.ledger.specs.Settings.{Settings, ids}
-use Rattle.ledger.specs.Ledger.{isNode}
+use Rattle.ledger.specs.Settings.{Settings}
+use Rattle.ledger.specs.Ledger.{isNode, Column, column#, tall, change, putIn}
 use Rattle.ledger.specs.Sound.{All, weigh, one}
 use Rattle.ledger.proofs.Lists.{All-map, All-both}
 use Rattle.layout.specs.declared.Table.{Table}
-use Rattle.layout.specs.declared.Table.the-variants.{Mapped, Last, Arrival, Outward, Head, Tail, Count, Next}
-use Rattle.layout.specs.Tables.{turnOf, width, cells, lists, many, get, put}
+use Rattle.layout.specs.declared.Table.the-variants.{Head, Tail, Count, Next}
+use Rattle.layout.specs.Tables.{turnOf, width, lists, many, get, put, tableOf}
 use Rattle.layout.specs.Picture.{slot, nodesOf, packetAt, tabulate, ledgerIn}
-use Rattle.memory.specs.Ends.{Tidy, IsRecord, withArrival, withOutward, withLast, withMapped}
+use Rattle.memory.specs.Ends.{Tidy, IsRecord}
 use Rattle.layout.proofs.Tables.{length-put, get-put, get-put-else}
 use Rattle.memory.proofs.Chains as C
+use Rattle.ledger.proofs.Columns.{column-inj}
+use lib.Dec.{eqb}
+use Rattle.ledger.proofs.Tests.{eqb-is, eqb-not}
+use native.Mathlib.Decide.{ℕ-discrete}
 
 -- ---- a memory with the same lists: their tables are the same, and so is what is recorded for the nodes in them
 
@@ -101,47 +105,25 @@ module _ (S : Settings) (m : List ℕ) (t : Table) (i v : ℕ) (P : Tidy S m) (h
     pub column-tidy : Tidy S (put S t i v m)
     column-tidy = kept-tidy S m (put S t i v m) P column-kept
 
-module _ (S : Settings) (m : List ℕ) (i v : ℕ) (P : Tidy S m) where
-  pub arrival-put : i < cells S → v < 65536 → ledgerIn S (put S Arrival i v m) ≡ withArrival (set (ledgerIn S m .arrival) i v) (ledgerIn S m)
-  unfolding ledgerIn
-  arrival-put h b =
-      λ k. record {
-        lists = column-lists S m Arrival i v P h (omega arith) k;
-        arrival = column-set S m Arrival i v P h b k;
-        outward = column-same S m Arrival i v P h Outward (omega arith) k;
-        last = column-same S m Arrival i v P h Last (omega arith) k;
-        mapped = column-same S m Arrival i v P h Mapped (omega arith) k;
-      }
+-- a number written into a column's table is the number set in the column
+module _ (S : Settings) (m : List ℕ) (c : Column) (i v : ℕ) (P : Tidy S m) (h : i < tall S c) (b : v < 256 ^ width (tableOf c)) where
+  abbrev now : List ℕ
+  now = put S (tableOf c) i v m
 
-  pub outward-put : i < cells S → v < 65536 → ledgerIn S (put S Outward i v m) ≡ withOutward (set (ledgerIn S m .outward) i v) (ledgerIn S m)
-  unfolding ledgerIn
-  outward-put h b =
-      λ k. record {
-        lists = column-lists S m Outward i v P h (omega arith) k;
-        arrival = column-same S m Outward i v P h Arrival (omega arith) k;
-        outward = column-set S m Outward i v P h b k;
-        last = column-same S m Outward i v P h Last (omega arith) k;
-        mapped = column-same S m Outward i v P h Mapped (omega arith) k;
-      }
+  hi : i < many S (tableOf c)
+  hi = rw (C.column-table S c .long) h
 
-  pub last-put : i < S .ports → v < 256 → ledgerIn S (put S Last i v m) ≡ withLast (set (ledgerIn S m .last) i v) (ledgerIn S m)
-  unfolding ledgerIn
-  last-put h b =
-      λ k. record {
-        lists = column-lists S m Last i v P h (omega arith) k;
-        arrival = column-same S m Last i v P h Arrival (omega arith) k;
-        outward = column-same S m Last i v P h Outward (omega arith) k;
-        last = column-set S m Last i v P h b k;
-        mapped = column-same S m Last i v P h Mapped (omega arith) k;
-      }
+  pub column-put : ledgerIn S now ≡ putIn c i v (ledgerIn S m)
+  unfolding ledgerIn change
+  column-put = λ k. record { lists = column-lists S m (tableOf c) i v P hi (C.column-table S c .low) k; numbers = λ d. go d (ℕ-discrete (column# c) (column# d)) k }
+    where
+      shown : List ℕ → Column → List ℕ
+      shown x d = tabulate (get S x (tableOf d)) 0 (tall S d)
 
-  pub mapped-put : i < ids → v < 256 → ledgerIn S (put S Mapped i v m) ≡ withMapped (set (ledgerIn S m .mapped) i v) (ledgerIn S m)
-  unfolding ledgerIn
-  mapped-put h b =
-      λ k. record {
-        lists = column-lists S m Mapped i v P h (omega arith) k;
-        arrival = column-same S m Mapped i v P h Arrival (omega arith) k;
-        outward = column-same S m Mapped i v P h Outward (omega arith) k;
-        last = column-same S m Mapped i v P h Last (omega arith) k;
-        mapped = column-set S m Mapped i v P h b k;
-      }
+      go : (d : Column) → Dec (column# c ≡ column# d) → shown now d ≡ cond (eqb (column# c) (column# d)) (set (shown m d) i v) (shown m d)
+      go d (yes e) =
+          subst (λ (d : Column). shown now d ≡ cond (eqb (column# c) (column# d)) (set (shown m d) i v) (shown m d)) (column-inj c d e)
+          (rw (eqb-is (column# c) (column# c) refl) (rw (C.column-table S c .long) at (column-set S m (tableOf c) i v P hi b)))
+      go d (no n) =
+          rw (eqb-not (column# c) (column# d) n)
+          (rw (C.column-table S d .long) at (column-same S m (tableOf c) i v P hi (tableOf d) (λ e. n (ap column# (C.table-inj S c d (sym e))))))

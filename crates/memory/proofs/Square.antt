@@ -12,32 +12,32 @@ use Rattle.ledger.specs.Settings.{Settings, settings, inRows, ids, row, size}
 use Rattle.ledger.specs.Rules.{Rule, refuse, guard, Clear}
 use Rattle.ledger.specs.Header.{fieldsOf, price}
 use Rattle.ledger.specs.Ledger.{owner, isNode, Packet, bare, recorded, Place, free, ingress, egress, prefetched, place#, column, portOf, Ledger}
-use Rattle.ledger.specs.Ledger.{listAt, arrivalOf, outwardOf, lastOf, mapOf, push, move, putArrival, putOutward, putLast, start}
+use Rattle.ledger.specs.Ledger.{listAt, arrivalOf, outwardOf, lastOf, mapOf, push, move, putCredit, putIn, start, arrival, outward, last, mapped, change}
 use Rattle.ledger.specs.Ready.{readyWord, pick}
 use Rattle.ledger.specs.Calls.{Act, arrive, stitch, prefetch, credit, mapTo, turn, ready, whereIs, Reply, refused, done, idle, isRefused, isEmpty}
-use Rattle.ledger.specs.Calls.{firstOf, arriving, arrived, served, serve, turned, rules, result}
-use Rattle.ledger.specs.Desk.{Desk, has, Call, setup, act, setupRules, onDesk, desk}
+use Rattle.ledger.specs.Calls.{firstOf, arriving, arrived, served, serve, turned, rules, result, onRefusal, step}
+use Rattle.ledger.specs.Desk.{Desk, has, Call, setup, act, setupRules, desk}
 use Rattle.ledger.specs.Sound.{weigh, one, Proper, Orderly, Roomy}
 use Rattle.ledger.proofs.Promises.{result-given}
 use Rattle.ledger.proofs.Tests.{true≢false, leb-no, ltb-no, eqb-not, or-left, not-yes}
-use Rattle.ledger.proofs.Places.{Place·In, place#-lt, row-mod, column-lt, credit-none, credit-same}
+use Rattle.ledger.proofs.Places.{Place·In, place#-lt, row-mod, column-lt, credit-none, credit-same, credit-in}
 use Rattle.ledger.proofs.Header.{price-free}
 use Rattle.ledger.proofs.Keep.{some-queue, first-fits, first-node}
 use Rattle.ledger.proofs.Rows.{roomy}
 use Rattle.ledger.proofs.Passes.{Admits, admits}
-use Rattle.ledger.proofs.Steps.{guarded, cleared, recorded-proper, picked-some, keep-served, keep-step}
+use Rattle.ledger.proofs.Steps.{guarded, recorded-proper, picked-some, keep-served, keep-step}
 use Rattle.layout.specs.declared.Table.the-variants.{Arrival, Outward}
 use Rattle.layout.specs.Tables.{lists}
 use Rattle.layout.specs.Picture.{settingsIn, packetAt, nodeIn, ledgerIn, StateOf, State}
 use Rattle.memory.specs.Ends.{popMem, pushMem, Tidy, withLists}
 use Rattle.memory.specs.Writes.{headOf, moveMem, recordMem, creditMem, arriveMem, serveMem, turnMem, write}
 use Rattle.memory.specs.Image.{setupMem}
-use Rattle.memory.specs.Memory.{state-dec, picture, acted, tested, M}
+use Rattle.memory.specs.Memory.{state-dec, picture, acted, tested, M, refusedMem}
 use Rattle.memory.proofs.Picture.{picture-is, picture-none, picture-state}
 use Rattle.memory.proofs.Image.{setup-picture}
 use Rattle.memory.proofs.Paint.{Kept, kept-then, pop-paint, pop-kept, pop-item, pop-node, pop-gone, pop-packet, push-paint, push-kept}
-use Rattle.memory.proofs.Paint.{record-paint, record-kept, record-packet, arrival-paint, arrival-kept, outward-paint, outward-kept, last-paint}
-use Rattle.memory.proofs.Paint.{last-kept, map-paint, map-kept}
+use Rattle.memory.proofs.Paint.{record-paint, record-kept, record-packet}
+use Rattle.memory.proofs.Paint.{credit-paint, credit-kept, column-paint, column-kept}
 
 -- ---- how a list shows a node: a free list shows it bare, any other with its record
 
@@ -166,13 +166,13 @@ module _ (S : Settings) (ok : Roomy S) (m : List ℕ) (s : StateOf S m) where
         ∙ ap (λ (N : Ledger). withLists (push (place# S (ingress p)) k (N .lists)) N) (same₂ ∙ pop-paint S ok m tidy-of (place# S (free p)) (place#-lt S (free p) v-in) e)
 
     few : arrivalOf S L p (k .queue) - k .price < 65536
-    few = omega (arith, o .ranges .arrival-in p (k .queue) hp (good .queue-in))
+    few = omega (arith, credit-in S (L .numbers arrival) 65535 (o .ranges .numbers-in arrival) p (k .queue) hp (good .queue-in))
 
     arrive-paint : ledgerIn S (arriveMem S p k m) ≡ arrived S L p (arriving S L p h)
     unfolding arriveMem arrived
     arrive-paint =
-        arrival-paint S ok n₃ (s₃ .tidy) p (k .queue) (arrivalOf S L p (k .queue) - k .price) hp (good .queue-in) few
-        ∙ ap (putArrival S p (k .queue) (arrivalOf S L p (k .queue) - k .price)) lists₃
+        credit-paint S ok n₃ (s₃ .tidy) arrival refl p hp (k .queue) (arrivalOf S L p (k .queue) - k .price) (good .queue-in) few
+        ∙ ap (putCredit arrival S p (k .queue) (arrivalOf S L p (k .queue) - k .price)) lists₃
         ∙ ap (λ (j : Packet). arrived S L p j) (sym k-is)
 
     arrive-kept : Kept S m (arriveMem S p k m)
@@ -180,7 +180,7 @@ module _ (S : Settings) (ok : Roomy S) (m : List ℕ) (s : StateOf S m) where
     arrive-kept =
         kept-then S m n₁ _ (pop-kept S ok m tidy-of (place# S (free p)) (place#-lt S (free p) v-in) e)
         (kept-then S n₁ n₂ _ s₂ (kept-then S n₂ n₃ _ s₃
-        (arrival-kept S ok n₃ (s₃ .tidy) p (k .queue) (arrivalOf S L p (k .queue) - k .price) hp (good .queue-in) few)))
+        (credit-kept S ok n₃ (s₃ .tidy) arrival refl p hp (k .queue) (arrivalOf S L p (k .queue) - k .price) (good .queue-in))))
 
   -- ---- a turn that serves queue q
 
@@ -209,20 +209,21 @@ module _ (S : Settings) (ok : Roomy S) (m : List ℕ) (s : StateOf S m) where
       where
         after-in : 0 < q → arrivalOf S L (owner (j .node)) q + j .price ≤ 65535
         after-in h =
-            let k = keep-served S ok L o p q hp hq e .ranges .arrival-in (owner (j .node)) q (home .0) hq in
-            let c = credit-same S (L .arrival) (owner (j .node)) q given (o .shaped .arrival-long) (home .0) hq h in
-            unfold served putLast putOutward putArrival move in omega (arith, k, c)
+            let N : Ledger = served S L p q j in
+            let k = credit-in S (N .numbers arrival) 65535 (keep-served S ok L o p q hp hq e .ranges .numbers-in arrival) (owner (j .node)) q (home .0) hq in
+            let c = credit-same S (L .numbers arrival) (owner (j .node)) q given (o .shaped .numbers-long arrival) (home .0) hq h in
+            unfold served change move in omega (arith, k, c)
 
         go : (t : ℕ) → t < S .queues → j .queue ≡ t → (0 < t → arrivalOf S L (owner (j .node)) t + j .price ≤ 65535) → arrivalOf S L (owner (j .node)) t + j .price < 65536
         go zero h i f =
-            omega (arith, credit-none S (L .arrival) (owner (j .node)), fits .1 .price-is ∙ ap (λ (t : ℕ). price (S .beat) t (j .len)) i ∙ price-free (S .beat) (j .len))
+            omega (arith, credit-none S (L .numbers arrival) (owner (j .node)), fits .1 .price-is ∙ ap (λ (t : ℕ). price (S .beat) t (j .len)) i ∙ price-free (S .beat) (j .len))
         go (suc t) h i f = omega (arith, f (omega arith))
 
     abbrev left : ℕ
     left = outwardOf S L p q - j .price
 
     left-fits : left < 65536
-    left-fits = omega (arith, o .ranges .outward-in p q hp hq)
+    left-fits = omega (arith, credit-in S (L .numbers outward) 65535 (o .ranges .numbers-in outward) p q hp hq)
 
     abbrev q₁ : List ℕ
     q₁ = moveMem S (prefetched p q) (free (owner (j .node))) m
@@ -237,10 +238,10 @@ module _ (S : Settings) (ok : Roomy S) (m : List ℕ) (s : StateOf S m) where
     k₁ = move-kept (prefetched p q) (free (owner (j .node))) (hp, hq) home e
 
     k₂ : Kept S q₁ q₂
-    k₂ = arrival-kept S ok q₁ (k₁ .tidy) (owner (j .node)) q given (home .0) hq given-fits
+    k₂ = credit-kept S ok q₁ (k₁ .tidy) arrival refl (owner (j .node)) (home .0) q given hq
 
     k₃ : Kept S q₂ q₃
-    k₃ = outward-kept S ok q₂ (k₂ .tidy) p q left hp hq left-fits
+    k₃ = credit-kept S ok q₂ (k₂ .tidy) outward refl p hp q left hq
 
     lists₁ : ledgerIn S q₁ ≡ move S (prefetched p q) (free (owner (j .node))) (bare (j .node)) L
     lists₁ =
@@ -250,16 +251,16 @@ module _ (S : Settings) (ok : Roomy S) (m : List ℕ) (s : StateOf S m) where
     serve-paint : ledgerIn S (serveMem S p q j m) ≡ served S L p q j
     unfolding serveMem served
     serve-paint =
-        last-paint S ok q₃ (k₃ .tidy) p q hp hq
-        ∙ ap (putLast p q)
-        (outward-paint S ok q₂ (k₂ .tidy) p q left hp hq left-fits
-        ∙ ap (putOutward S p q left)
-        (arrival-paint S ok q₁ (k₁ .tidy) (owner (j .node)) q given (home .0) hq given-fits
-        ∙ ap (putArrival S (owner (j .node)) q given) lists₁))
+        column-paint S ok q₃ (k₃ .tidy) last p q hp (omega (arith, ok .few-queues))
+        ∙ ap (putIn last p q)
+        (credit-paint S ok q₂ (k₂ .tidy) outward refl p hp q left hq left-fits
+        ∙ ap (putCredit outward S p q left)
+        (credit-paint S ok q₁ (k₁ .tidy) arrival refl (owner (j .node)) (home .0) q given hq given-fits
+        ∙ ap (putCredit arrival S (owner (j .node)) q given) lists₁))
 
     serve-kept : Kept S m (serveMem S p q j m)
     unfolding serveMem
-    serve-kept = kept-then S m q₁ _ k₁ (kept-then S q₁ q₂ _ k₂ (kept-then S q₂ q₃ _ k₃ (last-kept S ok q₃ (k₃ .tidy) p q hp hq)))
+    serve-kept = kept-then S m q₁ _ k₁ (kept-then S q₁ q₂ _ k₂ (kept-then S q₂ q₃ _ k₃ (column-kept S ok q₃ (k₃ .tidy) last p q hp)))
 
   -- ---- every act
 
@@ -298,7 +299,7 @@ module _ (S : Settings) (ok : Roomy S) (m : List ℕ) (s : StateOf S m) where
       let v-in : Place·In S (ingress p) = (hp, some-queue S ok L o) in
       let f = first-fits S ok L o (ingress p) v-in (c .1 .0) in
       let w-in : (k : Packet) → firstOf S L (ingress p) ≡ k → Place·In S (egress (mapOf L (k .dest)) (k .queue)) =
-      λ k i. subst (λ (k : Packet). Place·In S (egress (mapOf L (k .dest)) (k .queue))) i (o .ranges .map-in (firstOf S L (ingress p) .dest) (f .2 .dest-in), f .2 .queue-in) in
+      λ k i. subst (λ (k : Packet). Place·In S (egress (mapOf L (k .dest)) (k .queue))) i (o .ranges .numbers-in mapped (firstOf S L (ingress p) .dest) (f .2 .dest-in), f .2 .queue-in) in
       let k-is = first-held (ingress p) v-in (omega arith) (c .1 .0) in
       subst (λ (k : Packet). Painted (moveMem S (ingress p) (egress (mapOf L (k .dest)) (k .queue)) m) (result S L (stitch p) .1)) k-is
       (record {
@@ -317,31 +318,51 @@ module _ (S : Settings) (ok : Roomy S) (m : List ℕ) (s : StateOf S m) where
       let hq = leb-no (S .queues) q (or-left (lib.Dec.leb (S .queues) q) (eqb q 0) (c .1 .0)) in
       let v : outwardOf S L p q + n < 65536 = omega (arith, ltb-no 65535 (outwardOf S L p q + n) (c .1 .1 .0)) in
       record {
-        kept = outward-kept S ok m tidy-of p q (outwardOf S L p q + n) hp hq v;
-        shows = outward-paint S ok m tidy-of p q (outwardOf S L p q + n) hp hq v;
+        kept = credit-kept S ok m tidy-of outward refl p hp q (outwardOf S L p q + n) hq;
+        shows = credit-paint S ok m tidy-of outward refl p hp q (outwardOf S L p q + n) hq v;
       }
   painted (mapTo d p) c =
       let hd = leb-no ids d (c .0) in
       let hp = leb-no (S .ports) p (c .1 .0) in
-      record { kept = map-kept S ok m tidy-of d p hd hp; shows = map-paint S ok m tidy-of d p hd hp }
+      record {
+        kept = column-kept S ok m tidy-of mapped d p hd;
+        shows = column-paint S ok m tidy-of mapped d p hd (omega (arith, ok .few-ports));
+      }
   painted (turn p) c =
       let hp = leb-no (S .ports) p (c .0) in
       turn-painted p (readyWord S L p) hp (picked-some S ok L o p hp)
   painted (ready p) c = same
   painted (whereIs y) c = same
 
-  -- after an accepted act memory is a state again, and shows what the desk has
-  write-state : (a : Act) → Clear (rules S L a) → StateOf S (write S m a)
-  write-state a c =
-      let w = painted a c in
+  -- a refusal writes what it changes of the ledger
+  refused-painted : (n : ℕ) (a : Act) → Painted (refusedMem S n a m) (onRefusal S n a L)
+  unfolding refusedMem onRefusal
+  refused-painted n a = same
+
+  -- so an act leaves what the desk's step leaves
+  act-painted : (a : Act) → (acted S m a .0 ≡ step S L a .0) × Painted (acted S m a .1) (step S L a .1)
+  unfolding acted
+  act-painted a = go (rules S L a) (painted a)
+    where
+      bytes : List Rule → Reply × List ℕ
+      bytes rs = guard rs (λ n. (refused n, refusedMem S n a m)) (result S L a .0, write S m a)
+
+      ledger : List Rule → Reply × Ledger
+      ledger rs = guard rs (λ n. (refused n, onRefusal S n a L)) (result S L a)
+
+      go : (rs : List Rule) → (Clear rs → Painted (write S m a) (result S L a .1)) → (bytes rs .0 ≡ ledger rs .0) × Painted (bytes rs .1) (ledger rs .1)
+      go [] f = (refl, f tt)
+      go (refuse n true ∷ rs) f = (refl, refused-painted n a)
+      go (refuse n false ∷ rs) f = go rs (λ c. f (refl, c))
+
+  -- and memory is a state again
+  act-state : (a : Act) → StateOf S (acted S m a .1)
+  act-state a =
+      let w = act-painted a .1 in
       record {
         long = omega (arith, s .long, w .kept .same-length);
         hangs = w .kept .tidy .hangs;
-        sound = record {
-          rows = s .sound .rows;
-          orderly = subst (Orderly S) (sym (w .shows))
-              (subst (Orderly S) (ap (λ (r : Reply × Ledger). r .1) (cleared (rules S L a) (λ n. (refused n, L)) (result S L a) c)) (keep-step S ok L o a));
-        };
+        sound = record { rows = s .sound .rows; orderly = subst (Orderly S) (sym (w .shows)) (keep-step S ok L o a) };
       }
 
 -- ---- every call, on every memory
@@ -363,31 +384,21 @@ abbrev pub pictured : Reply × List ℕ → Reply × Desk
 pictured out = (out .0, picture (out .1))
 
 acted-square : (m : List ℕ) → State m → (a : Act) → pictured (acted (settingsIn m) m a) ≡ desk (length m) (picture m) (act a)
-unfolding acted
 acted-square m s a =
     let S : Settings = settingsIn m in
     let ok : Roomy S = roomy S (s .sound .rows) in
-    let D = picture-state m s in
-    rw D
-    (guard-map pictured (rules S (ledgerIn S m) a) (λ n. (refused n, m)) (result S (ledgerIn S m) a .0, write S m a)
-    ∙ guard-same (rules S (ledgerIn S m) a)
-    (λ n. pictured (refused n, m)) (λ n. onDesk S (refused n, ledgerIn S m))
-    (pictured (result S (ledgerIn S m) a .0, write S m a)) (onDesk S (result S (ledgerIn S m) a))
-    (λ n. ap (λ (E : Desk). (refused n, E)) D)
-    (λ c.
-    let w = painted S ok m s a c in
-    ap (λ (E : Desk). (result S (ledgerIn S m) a .0, E))
-    (picture-is S (write S m a) (result S (ledgerIn S m) a .1) (w .kept .settings) (write-state S ok m s a c) (w .shows)))
-    ∙ sym (guard-map (onDesk S) (rules S (ledgerIn S m) a) (λ n. (refused n, ledgerIn S m)) (result S (ledgerIn S m) a)))
+    let w = act-painted S ok m s a in
+    rw (picture-state m s, w .0)
+    (ap (λ (E : Desk). (step S (ledgerIn S m) a .0, E))
+    (picture-is S (acted S m a .1) (step S (ledgerIn S m) a .1) (w .1 .kept .settings) (act-state S ok m s a) (w .1 .shows)))
 
 pub square : (c : Call) (m : List ℕ) → pictured (M c m) ≡ desk (length m) (picture m) c
 unfolding M
-square (setup N b d k) m =
-    let S : Settings = settings N b d k in
-    guard-map pictured (setupRules (length m) S) (λ r. (refused r, m)) (done, setupMem S m)
-    ∙ guard-same (setupRules (length m) S) (λ r. pictured (refused r, m)) (λ r. (refused r, picture m)) (pictured (done, setupMem S m)) (done, has S (start S))
+square (setup T) m =
+    guard-map pictured (setupRules (length m) T) (λ r. (refused r, m)) (done, setupMem T m)
+    ∙ guard-same (setupRules (length m) T) (λ r. pictured (refused r, m)) (λ r. (refused r, picture m)) (pictured (done, setupMem T m)) (done, has T (start T))
     (λ r. refl)
-    (λ c. ap (λ (E : Desk). (done, E)) (setup-picture S (not-yes (inRows S) (c .0)) m))
+    (λ c. ap (λ (E : Desk). (done, E)) (setup-picture T (not-yes (inRows T) (c .0)) m))
 square (act a) m = go (state-dec m)
   where
     go : (d : Dec (State m)) → pictured (tested m d a) ≡ desk (length m) (picture m) (act a)
@@ -399,15 +410,16 @@ square (act a) m = go (state-dec m)
 -- a refusal changes no byte
 pub refusal-keeps-bytes : (c : Call) (m : List ℕ) → isRefused (M c m .0) ≡ true → M c m .1 ≡ m
 unfolding M acted
-refusal-keeps-bytes (setup N b d k) m =
-    guarded {X = Reply × List ℕ} (λ out. isRefused (out .0) ≡ true → out .1 ≡ m) (setupRules (length m) (settings N b d k)) (λ r. (refused r, m))
-    (done, setupMem (settings N b d k) m) (λ r e. refl) (λ c e. absurd (true≢false (sym e)))
+refusal-keeps-bytes (setup T) m =
+    guarded {X = Reply × List ℕ} (λ out. isRefused (out .0) ≡ true → out .1 ≡ m) (setupRules (length m) T) (λ r. (refused r, m))
+    (done, setupMem T m) (λ r e. refl) (λ c e. absurd (true≢false (sym e)))
 refusal-keeps-bytes (act a) m = go (state-dec m)
   where
     go : (d : Dec (State m)) → isRefused (tested m d a .0) ≡ true → tested m d a .1 ≡ m
     go (yes s) =
-        guarded {X = Reply × List ℕ} (λ out. isRefused (out .0) ≡ true → out .1 ≡ m) (rules (settingsIn m) (ledgerIn (settingsIn m) m) a) (λ n. (refused n, m))
-        (result (settingsIn m) (ledgerIn (settingsIn m) m) a .0, write (settingsIn m) m a) (λ n e. refl)
+        guarded {X = Reply × List ℕ} (λ out. isRefused (out .0) ≡ true → out .1 ≡ m)
+        (rules (settingsIn m) (ledgerIn (settingsIn m) m) a) (λ n. (refused n, refusedMem (settingsIn m) n a m))
+        (result (settingsIn m) (ledgerIn (settingsIn m) m) a .0, write (settingsIn m) m a) (λ n e. unfold refusedMem in refl)
         (λ c e. absurd (true≢false (sym e ∙ result-given (settingsIn m) (ledgerIn (settingsIn m) m) a)))
     go (no n) = λ e. refl
 
@@ -420,10 +432,7 @@ past-kept a m = go (state-dec m)
     S = settingsIn m
 
     go : (d : Dec (State m)) → (drop (size S) (tested m d a .1) ≡ drop (size S) m) × (length (tested m d a .1) ≡ length m)
-    go (yes s) =
-        guarded {X = Reply × List ℕ} (λ out. (drop (size S) (out .1) ≡ drop (size S) m) × (length (out .1) ≡ length m)) (rules S (ledgerIn S m) a) (λ n. (refused n, m))
-        (result S (ledgerIn S m) a .0, write S m a) (λ n. (refl, refl))
-        (λ c. let w = painted S (roomy S (s .sound .rows)) m s a c in (w .kept .past, w .kept .same-length))
+    go (yes s) = let w = act-painted S (roomy S (s .sound .rows)) m s a .1 in (w .kept .past, w .kept .same-length)
     go (no n) = (refl, refl)
 
 -- an act on a state leaves a state of the same settings
@@ -432,11 +441,6 @@ pub record StillOf (S : Settings) (m′ : List ℕ) : Type 0 where
   pub state : StateOf S m′
 
 pub act-keeps : (S : Settings) (m : List ℕ) → settingsIn m ≡ S → StateOf S m → (a : Act) → StillOf S (acted S m a .1)
-unfolding acted
 act-keeps S m e s a =
     let ok = roomy S (s .sound .rows) in
-    guarded {X = Reply × List ℕ} (λ out. StillOf S (out .1)) (rules S (ledgerIn S m) a) (λ n. (refused n, m)) (result S (ledgerIn S m) a .0, write S m a)
-    (λ n. record { settings = e; state = s })
-    (λ c.
-    let w = painted S ok m s a c in
-    record { settings = w .kept .settings ∙ e; state = write-state S ok m s a c })
+    record { settings = act-painted S ok m s a .1 .kept .settings ∙ e; state = act-state S ok m s a }

@@ -5,15 +5,16 @@ use Prim.Native.Nat.{ℕ, zero, suc, _+_, _-_, _*_, _^_, _≤_, _<_}
 use native.Mathlib.Nat.{le-refl}
 use native.Mathlib.Omega.{arith}
 use lib.ListN.{length}
-use Rattle.ledger.specs.Settings.{Settings, ids, row, size}
-use Rattle.ledger.specs.Ledger.{entryId}
+use Rattle.ledger.specs.Settings.{Settings, row, size}
+use Rattle.ledger.specs.Ledger.{entryId, arrival, outward, last, mapped, Column, tall, starting}
 use Rattle.ledger.specs.Sound.{Roomy}
 use Rattle.ledger.proofs.Places.{row-lt, row-inj}
 use Rattle.layout.specs.declared.Table.{Table}
 use Rattle.layout.specs.declared.Table.the-variants.{Setting, Mapped, Last, Arrival, Outward, Head, Tail, Count, Next}
-use Rattle.layout.specs.Tables.{turnOf, width, many, cells, lists, get}
+use Rattle.layout.specs.Tables.{turnOf, width, many, cells, lists, get, tableOf}
 use Rattle.memory.specs.Image.{fill, settingAt, written}
 use Rattle.memory.proofs.Fill.{Fits, length-fill, fill-append, fill-else, fill-other, fill-get, length-links, links-append, links-other, links-get}
+use mathlib.Core.Logic.{_≢_}
 
 -- ---- `written` by its parts: the tables in their order, so that what is written of a table is not touched later
 
@@ -43,10 +44,7 @@ written-length S m = simp (length-links, length-fill)
 
 pub record Fresh (S : Settings) (m : List ℕ) : Type 0 where
   pub setting-at : (i : ℕ) → i < 6 → get S m Setting i ≡ settingAt S i
-  pub mapped-at : (d : ℕ) → d < ids → get S m Mapped d ≡ 0
-  pub last-at : (p : ℕ) → p < S .ports → get S m Last p ≡ S .queues - 1
-  pub arrival-at : (c : ℕ) → c < cells S → get S m Arrival c ≡ S .credit
-  pub outward-at : (c : ℕ) → c < cells S → get S m Outward c ≡ 0
+  pub number-at : (c : Column) (i : ℕ) → i < tall S c → get S m (tableOf c) i ≡ starting S c
   pub head-at : (p : ℕ) → p < S .ports → get S m Head (p * row S) ≡ entryId p 0
   pub tail-at : (p : ℕ) → p < S .ports → get S m Tail (p * row S) ≡ entryId p (S .nodes - 1)
   pub count-at : (p : ℕ) → p < S .ports → get S m Count (p * row S) ≡ S .nodes
@@ -112,28 +110,23 @@ module _ (S : Settings) where
           (links-append S r (S .ports) (counted S m) ys (le-refl (S .ports)) (simp length-fill long))
 
       -- what a table holds at the end stood there once the table was written
-      from-counted : (t : Table) (j : ℕ) → j < many S t → turnOf t < 8 → get S (written S m) t j ≡ get S (counted S m) t j
+      from-counted : (t : Table) (j : ℕ) → j < many S t → turnOf t < turnOf Next → get S (written S m) t j ≡ get S (counted S m) t j
       unfolding written
       from-counted t j k h = links-other S r (S .ports) (counted S m) t j (le-refl (S .ports)) k (omega arith)
 
-      from-tailed : (t : Table) (j : ℕ) → j < many S t → turnOf t < 7 → get S (written S m) t j ≡ get S (tailed S m) t j
+      from-tailed : (t : Table) (j : ℕ) → j < many S t → turnOf t < turnOf Count → get S (written S m) t j ≡ get S (tailed S m) t j
       from-tailed t j k h = from-counted t j k (omega arith) ∙ fill-other S Count _ _ (S .ports) (tailed S m) t j counts-fit k (omega arith)
 
-      from-headed : (t : Table) (j : ℕ) → j < many S t → turnOf t < 6 → get S (written S m) t j ≡ get S (headed S m) t j
+      from-headed : (t : Table) (j : ℕ) → j < many S t → turnOf t < turnOf Tail → get S (written S m) t j ≡ get S (headed S m) t j
       from-headed t j k h = from-tailed t j k (omega arith) ∙ fill-other S Tail _ _ (S .ports) (headed S m) t j tails-fit k (omega arith)
 
-      from-credited : (t : Table) (j : ℕ) → j < many S t → turnOf t < 5 → get S (written S m) t j ≡ get S (credited S m) t j
+      from-credited : (t : Table) (j : ℕ) → j < many S t → turnOf t < turnOf Head → get S (written S m) t j ≡ get S (credited S m) t j
       from-credited t j k h = from-headed t j k (omega arith) ∙ fill-other S Head _ _ (S .ports) (credited S m) t j heads-fit k (omega arith)
 
-      from-marked : (t : Table) (j : ℕ) → j < many S t → turnOf t < 3 → get S (written S m) t j ≡ get S (marked S m) t j
-      from-marked t j k h = from-credited t j k (omega arith) ∙ fill-other S Arrival _ _ (cells S) (marked S m) t j credits-fit k (omega arith)
-
-      from-settled : (t : Table) (j : ℕ) → j < many S t → turnOf t < 2 → get S (written S m) t j ≡ get S (settled S m) t j
-      from-settled t j k h = from-marked t j k (omega arith) ∙ fill-other S Last _ _ (S .ports) (settled S m) t j marks-fit k (omega arith)
-
-      -- and until then it is as it was
-      to-credited : (t : Table) (j : ℕ) → j < many S t → 3 < turnOf t → get S (credited S m) t j ≡ get S m t j
-      to-credited t j k h =
+      -- and until the lists' tables are written, what is no setting, mark or arrival credit is as it was
+      unfilled : (t : Table) (j : ℕ) → j < many S t → turnOf t ≢ turnOf Setting → turnOf t ≢ turnOf Last → turnOf t ≢ turnOf Arrival
+          → get S (credited S m) t j ≡ get S m t j
+      unfilled t j k x y z =
           fill-other S Arrival _ _ (cells S) (marked S m) t j credits-fit k (omega arith)
           ∙ fill-other S Last _ _ (S .ports) (settled S m) t j marks-fit k (omega arith)
           ∙ fill-other S Setting _ _ 6 m t j settings-fit k (omega arith)
@@ -141,11 +134,12 @@ module _ (S : Settings) where
       pub written-fresh : ((t : Table) (j : ℕ) → j < many S t → get S m t j ≡ 0) → Fresh S (written S m)
       unfolding written
       written-fresh blank = record {
-        setting-at = λ i h. from-settled Setting i h (omega arith) ∙ fill-get S Setting _ _ 6 m i settings-fit long h;
-        mapped-at = λ d h. from-settled Mapped d h (omega arith) ∙ fill-other S Setting _ _ 6 m Mapped d settings-fit h (omega arith) ∙ blank Mapped d h;
-        last-at = λ p h. from-marked Last p h (omega arith) ∙ fill-get S Last _ _ (S .ports) (settled S m) p marks-fit (simp length-fill long) h;
-        arrival-at = λ c h. from-credited Arrival c h (omega arith) ∙ fill-get S Arrival _ _ (cells S) (marked S m) c credits-fit (simp length-fill long) h;
-        outward-at = λ c h. from-credited Outward c h (omega arith) ∙ to-credited Outward c h (omega arith) ∙ blank Outward c h;
+        setting-at = λ i h.
+            from-credited Setting i h (omega arith)
+            ∙ fill-other S Arrival _ _ (cells S) (marked S m) Setting i credits-fit h (omega arith)
+            ∙ fill-other S Last _ _ (S .ports) (settled S m) Setting i marks-fit h (omega arith)
+            ∙ fill-get S Setting _ _ 6 m i settings-fit long h;
+        number-at = number;
         head-at = λ p h. from-headed Head (p * row S) (first-lt p h) (omega arith) ∙ fill-get S Head _ _ (S .ports) (credited S m) p heads-fit (simp length-fill long) h;
         tail-at = λ p h. from-tailed Tail (p * row S) (first-lt p h) (omega arith) ∙ fill-get S Tail _ _ (S .ports) (headed S m) p tails-fit (simp length-fill long) h;
         count-at = λ p h. from-counted Count (p * row S) (first-lt p h) (omega arith) ∙ fill-get S Count _ _ (S .ports) (tailed S m) p counts-fit (simp length-fill long) h;
@@ -155,7 +149,16 @@ module _ (S : Settings) where
             ∙ fill-else S Count _ _ (S .ports) (tailed S m) Count (p * row S + suc c) counts-fit l (λ q b z e. omega (arith, row-inj (row S) q p 0 (suc c) (row-pos S) k (omega arith)))
             ∙ fill-other S Tail _ _ (S .ports) (headed S m) Count (p * row S + suc c) tails-fit l (omega arith)
             ∙ fill-other S Head _ _ (S .ports) (credited S m) Count (p * row S + suc c) heads-fit l (omega arith)
-            ∙ to-credited Count (p * row S + suc c) l (omega arith)
+            ∙ unfilled Count (p * row S + suc c) l (omega arith) (omega arith) (omega arith)
             ∙ blank Count (p * row S + suc c) l;
         next-at = λ p i h k. links-get S r (S .ports) (counted S m) p i (le-refl (S .ports)) (simp length-fill long) h k;
       }
+        where
+          number : (c : Column) (i : ℕ) → i < tall S c → get S (written S m) (tableOf c) i ≡ starting S c
+          number arrival i h = from-credited Arrival i h (omega arith) ∙ fill-get S Arrival _ _ (cells S) (marked S m) i credits-fit (simp length-fill long) h
+          number outward i h = from-credited Outward i h (omega arith) ∙ unfilled Outward i h (omega arith) (omega arith) (omega arith) ∙ blank Outward i h
+          number last i h =
+              from-credited Last i h (omega arith)
+              ∙ fill-other S Arrival _ _ (cells S) (marked S m) Last i credits-fit h (omega arith)
+              ∙ fill-get S Last _ _ (S .ports) (settled S m) i marks-fit (simp length-fill long) h
+          number mapped i h = from-credited Mapped i h (omega arith) ∙ unfilled Mapped i h (omega arith) (omega arith) (omega arith) ∙ blank Mapped i h

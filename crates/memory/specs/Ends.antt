@@ -6,7 +6,7 @@ use Prim.Native.Nat.{ℕ, _+_, _-_, _≤_, _<_}
 use lib.ListN.{length}
 use lib.Dec.{eqb}
 use Rattle.ledger.specs.Settings.{Settings, size}
-use Rattle.ledger.specs.Ledger.{isNode, Packet, Ledger}
+use Rattle.ledger.specs.Ledger.{isNode, Packet, Column, Ledger}
 use Rattle.ledger.specs.Ready.{bit}
 use Rattle.ledger.specs.Sound.{weigh, one}
 use Rattle.layout.specs.declared.Table.{Table}
@@ -36,26 +36,10 @@ pub record Tidy (S : Settings) (m : List ℕ) : Type 0 where
 abbrev pub IsRecord : Table → Type 0
 IsRecord t = turnOf Next < turnOf t
 
--- ---- a ledger with one part changed
+-- ---- a ledger with other lists, and two ledgers that differ in their lists alone
 
 abbrev pub withLists : List (List Packet) → Ledger → Ledger
-withLists ls L = record { lists = ls; arrival = L .arrival; outward = L .outward; last = L .last; mapped = L .mapped }
+withLists ls L = record { lists = ls; numbers = L .numbers }
 
-abbrev pub withArrival : List ℕ → Ledger → Ledger
-withArrival xs L = record { lists = L .lists; arrival = xs; outward = L .outward; last = L .last; mapped = L .mapped }
-
-abbrev pub withOutward : List ℕ → Ledger → Ledger
-withOutward xs L = record { lists = L .lists; arrival = L .arrival; outward = xs; last = L .last; mapped = L .mapped }
-
-abbrev pub withLast : List ℕ → Ledger → Ledger
-withLast xs L = record { lists = L .lists; arrival = L .arrival; outward = L .outward; last = xs; mapped = L .mapped }
-
-abbrev pub withMapped : List ℕ → Ledger → Ledger
-withMapped xs L = record { lists = L .lists; arrival = L .arrival; outward = L .outward; last = L .last; mapped = xs }
-
--- what is no list is the same in both ledgers
-pub record SameRest (L L′ : Ledger) : Type 0 where
-  pub arrival : L′ .arrival ≡ L .arrival
-  pub outward : L′ .outward ≡ L .outward
-  pub last : L′ .last ≡ L .last
-  pub mapped : L′ .mapped ≡ L .mapped
+abbrev pub SameNumbers : Ledger → Ledger → Type 0
+SameNumbers L L′ = (c : Column) → L′ .numbers c ≡ L .numbers c

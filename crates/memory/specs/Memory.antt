@@ -4,7 +4,7 @@ use mathlib.Core.List.{List}
 use Prim.Native.Nat.{ℕ}
 use native.Mathlib.Decide.{map-dec, decLe, ℕ-discrete}
 use lib.ListN.{length}
-use Rattle.ledger.specs.Settings.{Settings, settings, size}
+use Rattle.ledger.specs.Settings.{Settings, size}
 use Rattle.ledger.specs.Rules.{guard}
 use Rattle.ledger.specs.Calls.{Act, Reply, refused, done, rules, result}
 use Rattle.ledger.specs.Desk.{Desk, none, has, Call, setup, act, setupRules}
@@ -33,9 +33,13 @@ deskOf m (no n) = none
 unfoldable pub picture : List ℕ → Desk
 picture m = deskOf m (state-dec m)
 
--- an act on memory that is a switch state: refused as the desk's rules say on the ledger that it pictures, with no byte changed; else done
+-- what a refusal changes: no byte
+unfoldable pub refusedMem : Settings → ℕ → Act → List ℕ → List ℕ
+refusedMem S n a m = m
+
+-- an act on memory that is a switch state: refused as the desk's rules say on the ledger that it pictures; else done
 unfoldable pub acted : Settings → List ℕ → Act → Reply × List ℕ
-acted S m a = guard (rules S (ledgerIn S m) a) (λ n. (refused n, m)) (result S (ledgerIn S m) a .0, write S m a)
+acted S m a = guard (rules S (ledgerIn S m) a) (λ n. (refused n, refusedMem S n a m)) (result S (ledgerIn S m) a .0, write S m a)
 
 -- on any memory: refusal 3 exactly where it is no switch state
 abbrev pub tested : (m : List ℕ) → Dec (State m) → Act → Reply × List ℕ
@@ -44,5 +48,5 @@ tested m (no n) a = (refused 3, m)
 
 -- every call, on every memory
 unfoldable pub M : Call → List ℕ → Reply × List ℕ
-M (setup N b d k) m = guard (setupRules (length m) (settings N b d k)) (λ r. (refused r, m)) (done, setupMem (settings N b d k) m)
+M (setup T) m = guard (setupRules (length m) T) (λ r. (refused r, m)) (done, setupMem T m)
 M (act a) m = tested m (state-dec m) a

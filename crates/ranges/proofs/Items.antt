@@ -2,26 +2,25 @@
 use mathlib.Core.Path.{_≡_, refl, sym, ap, _∙_}
 use mathlib.Core.Logic.{_↔_}
 use mathlib.Core.Bool.{true}
-use mathlib.Core.List.{List, []}
-use Prim.Native.Nat.{ℕ, zero, suc, _+_, _-_, _*_, _/_, _%_, _≤_, _<_, zero-le}
-use native.Mathlib.Nat.{mul-le-mul, mod-lt, div-lt-iff-lt-mul}
+use mathlib.Core.List.{List, [], _∷_, _++_}
+use Prim.Native.Nat.{ℕ, _+_, _-_, _*_, _/_, _%_, _≤_, _<_}
+use native.Mathlib.Nat.{mul-le-mul, mod-lt, div-lt-iff-lt-mul, zero-add}
 use native.Mathlib.Decide.{decLt}
 use native.Mathlib.Omega.{arith}
 use lib.ListN.{length, getD}
 use lib.Dec.{ltb, leb}
 use Rattle.ledger.specs.declared.Finding.the-variants.{Whole}
 use Rattle.ledger.specs.Settings.{Settings, ids}
-use Rattle.ledger.specs.Ledger.{prefetched, place#, cell, creditAt, listAt}
-use Rattle.ledger.specs.Sound.{InRange, Roomy}
+use Rattle.ledger.specs.Ledger.{prefetched, place#, Column, arrival, outward, last, mapped, tall, bound, listAt}
+use Rattle.ledger.specs.Sound.{sum, InRange, Roomy}
 use Rattle.ledger.proofs.Tests.{ltb-yes, ltb-is, ltb-not, leb-yes, leb-is}
-use Rattle.ledger.proofs.Places.{row-lt, row-div, row-mod, place#-lt, cell-lt}
-use Rattle.layout.specs.declared.Table.{Table}
+use Rattle.ledger.proofs.Places.{row-lt, row-div, row-mod, place#-lt}
 use Rattle.layout.specs.declared.Table.the-variants.{Mapped, Last, Arrival, Outward, Count}
-use Rattle.layout.specs.Tables.{cells, lists, width, get}
-use Rattle.layout.specs.Picture.{tabulate, ledgerIn}
+use Rattle.layout.specs.Tables.{tableOf, lists, get}
+use Rattle.layout.specs.Picture.{ledgerIn}
 use Rattle.layout.proofs.Tables.{get-lt}
 use Rattle.memory.proofs.Chains.{getD-table, list-length}
-use Rattle.ranges.specs.Ranges.{prefetchAt, items, fitsAt, rangesFound}
+use Rattle.ranges.specs.Ranges.{prefetchAt, narrow, low, items, fitsIn, fitsAt, rangesFound}
 use Rattle.ranges.proofs.First.{first-all}
 
 pub few-items : (S : Settings) → Roomy S → S .ports * S .queues ≤ 2048
@@ -60,58 +59,71 @@ module _ (S : Settings) (m : List ℕ) where
   unfolding prefetchAt
   prefetch-is p q h = rw (row-div (S .queues) p q h, row-mod (S .queues) p q h)
 
-  -- ---- credits
-
-  credit-in : (t : Table) → width t ≡ 2 → (p q : ℕ) → p < S .ports → q < S .queues → creditAt S (tabulate (get S m t) 0 (cells S)) p q ≤ 65535
-  unfolding creditAt
-  credit-in t w p zero hp hq = zero-le
-  credit-in t w p (suc r) hp hq =
-      rw (getD-table (get S m t) (cells S) (cell S p r) 0 (cell-lt S p r hp hq))
-      (omega (arith, rw w at (get-lt S m t (cell S p r))))
-
   -- ---- rule (b)
+
+  -- a column's number, where the columns before it and after it are these
+  fits-number : (cs ds : List Column) (c : Column) (i : ℕ) → i < tall S c → fitsIn S m (cs ++ (c ∷ ds)) (sum (tall S) cs + i) ≡ ltb (get S m (tableOf c) i) (bound S c)
+  fits-number [] ds c i h = rw (zero-add i, ltb-is i (tall S c) h)
+  fits-number (b ∷ cs) ds c i h =
+      let past : tall S b ≤ tall S b + sum (tall S) cs + i = omega arith in
+      let back : tall S b + sum (tall S) cs + i - tall S b ≡ sum (tall S) cs + i = omega arith in
+      rw (ltb-not (tall S b + sum (tall S) cs + i) (tall S b) past, back) (fits-number cs ds c i h)
+
+  shown : (c : Column) (i : ℕ) → i < tall S c → getD (ledgerIn S m .numbers c) i 0 ≡ get S m (tableOf c) i
+  unfolding ledgerIn
+  shown c i h = getD-table (get S m (tableOf c)) (tall S c) i 0 h
 
   module _ (R : Roomy S) where
     means : ((k : ℕ) → k < items S → fitsAt S m k ≡ true) → InRange S (ledgerIn S m)
-    unfolding ledgerIn
+    unfolding fitsAt
     means ok = record {
-      last-in = λ p h. rw (getD-table (get S m Last) (S .ports) p 0 h) (ltb-yes _ _ (sym (fits-last p h) ∙ ok p (omega arith)));
-      map-in = λ d h.
-          let past : S .ports ≤ S .ports + d = omega arith in
-          let back : S .ports + d - S .ports ≡ d = omega arith in
-          let t : ltb (get S m Mapped d) (S .ports) ≡ true = rw back at (sym (fits-mapped (S .ports + d) past (omega arith)) ∙ ok (S .ports + d) (omega arith)) in
-          rw (getD-table (get S m Mapped) ids d 0 h) (ltb-yes _ _ t);
-      arrival-in = credit-in Arrival refl;
-      outward-in = credit-in Outward refl;
+      numbers-in = λ c i h. rw (shown c i h) (number c i h);
       slots-in = λ p q hp hq.
           let j = p * S .queues + q in
-          let low : j < S .ports * S .queues = row-lt (S .queues) (S .ports) p q hp hq in
-          let past : S .ports ≤ S .ports + ids + j = omega arith in
-          let far : ids ≤ S .ports + ids + j - S .ports = omega arith in
-          let back : S .ports + ids + j - S .ports - ids ≡ j = omega arith in
-          let t : leb (get S m Count (prefetchAt S j)) (S .slots) ≡ true = rw back at (sym (fits-count (S .ports + ids + j) past far) ∙ ok (S .ports + ids + j) (omega arith)) in
-          omega (arith, leb-yes (get S m Count (prefetchAt S j)) (S .slots) t, ap (get S m Count) (prefetch-is p q hq), list-length S m (place# S (prefetched p q)) (place#-lt S (prefetched p q) (hp, hq)));
+          let h : j < S .ports * S .queues = row-lt (S .queues) (S .ports) p q hp hq in
+          let past : S .ports ≤ low S + j = omega arith in
+          let far : ids ≤ low S + j - S .ports = omega arith in
+          let back : low S + j - S .ports - ids ≡ j = omega arith in
+          let t : leb (get S m Count (prefetchAt S j)) (S .slots) ≡ true = rw back at (sym (fits-count (low S + j) past far) ∙ ok (low S + j) (omega arith)) in
+          omega (
+            arith,
+            leb-yes (get S m Count (prefetchAt S j)) (S .slots) t,
+            ap (get S m Count) (prefetch-is p q hq),
+            list-length S m (place# S (prefetched p q)) (place#-lt S (prefetched p q) (hp, hq)),
+          );
     }
+      where
+        -- a number that is tested, by the columns before its own; one that isn't, by the bytes that hold it
+        tested : (cs ds : List Column) (c : Column) → cs ++ (c ∷ ds) ≡ narrow → (i : ℕ) → i < tall S c → sum (tall S) cs + i < items S
+            → get S m (tableOf c) i < bound S c
+        tested cs ds c e i h k =
+            ltb-yes _ _ (sym (fits-number cs ds c i h) ∙ ap (λ (bs : List Column). fitsIn S m bs (sum (tall S) cs + i)) e ∙ ok (sum (tall S) cs + i) k)
 
-    slots : (j : ℕ) → length (listAt S (ledgerIn S m) (prefetched (j / S .queues) (j % S .queues))) ≤ S .slots → length (getD (ledgerIn S m .lists) (prefetchAt S j) []) ≤ S .slots
-    unfolding prefetchAt
-    slots j h = h
+        number : (c : Column) (i : ℕ) → i < tall S c → get S m (tableOf c) i < bound S c
+        number arrival i h = get-lt S m Arrival i
+        number outward i h = get-lt S m Outward i
+        number last i h = tested [] (mapped ∷ []) last refl i h (omega arith)
+        number mapped i h = tested (last ∷ []) [] mapped refl i h (omega arith)
 
     holds : InRange S (ledgerIn S m) → (k : ℕ) → k < items S → fitsAt S m k ≡ true
-    unfolding ledgerIn
-    holds I k h = go (decLt k (S .ports)) (decLt (k - S .ports) ids)
+    unfolding fitsAt
+    holds I = go narrow
       where
-        go : Dec (k < S .ports) → Dec (k - S .ports < ids) → fitsAt S m k ≡ true
-        go (yes a) d = fits-last k a ∙ ltb-is _ _ (rw (getD-table (get S m Last) (S .ports) k 0 a) at (I .last-in k a))
-        go (no a) (yes b) = fits-mapped k (omega arith) b ∙ ltb-is _ _ (rw (getD-table (get S m Mapped) ids (k - S .ports) 0 b) at (I .map-in (k - S .ports) b))
-        go (no a) (no b) =
-            let j = k - S .ports - ids in
+        slots : (j : ℕ) → length (listAt S (ledgerIn S m) (prefetched (j / S .queues) (j % S .queues))) ≤ S .slots
+            → length (getD (ledgerIn S m .lists) (prefetchAt S j) []) ≤ S .slots
+        slots j h = unfold prefetchAt in h
+
+        go : (cs : List Column) (k : ℕ) → k < sum (tall S) cs + S .ports * S .queues → fitsIn S m cs k ≡ true
+        go [] k h =
             let some : 0 < S .queues = omega arith in
-            let h′ : j < S .ports * S .queues = omega arith in
-            let hp : j / S .queues < S .ports = div-lt-iff-lt-mul some .1 h′ in
-            let hq : j % S .queues < S .queues = mod-lt j some in
-            fits-count k (omega arith) (omega arith)
-            ∙ leb-is _ _ (rw (list-length S m (prefetchAt S j) (prefetch-lt j some h′)) at (slots j (I .slots-in (j / S .queues) (j % S .queues) hp hq)))
+            let few = I .slots-in (k / S .queues) (k % S .queues) (div-lt-iff-lt-mul some .1 h) (mod-lt k some) in
+            leb-is _ _ (rw (list-length S m (prefetchAt S k) (prefetch-lt k some h)) at (slots k few))
+        go (c ∷ cs) k h = by (decLt k (tall S c)) (go cs (k - tall S c))
+          where
+            by : Dec (k < tall S c) → (k - tall S c < sum (tall S) cs + S .ports * S .queues → fitsIn S m cs (k - tall S c) ≡ true)
+                → fitsIn S m (c ∷ cs) k ≡ true
+            by (yes a) f = rw (ltb-is k (tall S c) a) (ltb-is _ _ (rw (shown c k a) at (I .numbers-in c k a)))
+            by (no a) f = rw (ltb-not k (tall S c) (omega arith)) (f (omega arith))
 
     pub ranges-means : (rangesFound S m ≡ Whole) ↔ InRange S (ledgerIn S m)
     unfolding rangesFound

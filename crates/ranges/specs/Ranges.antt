@@ -1,33 +1,41 @@
--- Rule (b), item by item: the ports' last-served marks, then the map's entries, then the prefetch lists, port by port and queue by queue.
--- Credits are in range by their width. Assumes nothing.
+-- Rule (b), item by item: the numbers of the columns that are tested, then the prefetch lists, port by port and queue by queue.
+-- Assumes nothing.
 use mathlib.Core.Bool.{Bool, cond, _||_}
-use mathlib.Core.List.{List}
+use mathlib.Core.List.{List, [], _∷_}
 use Prim.Native.Nat.{ℕ, _+_, _-_, _*_, _/_, _%_, _≤_, _<_}
 use lib.ListN.{length}
 use lib.Dec.{ltb, leb}
 use Rattle.ledger.specs.declared.Finding.{Finding}
-use Rattle.ledger.specs.Settings.{Settings, ids, row, size}
-use Rattle.ledger.specs.Ledger.{prefetched, place#}
+use Rattle.ledger.specs.Settings.{Settings, row, size}
+use Rattle.ledger.specs.Ledger.{prefetched, place#, Column, last, mapped, tall, bound}
+use Rattle.ledger.specs.Sound.{sum}
 use Rattle.layout.specs.declared.Shape.{Shape}
-use Rattle.layout.specs.declared.Table.the-variants.{Mapped, Last, Count}
-use Rattle.layout.specs.Tables.{get, settingsOf, Laid}
+use Rattle.layout.specs.declared.Table.the-variants.{Count}
+use Rattle.layout.specs.Tables.{tableOf, get, settingsOf, Laid}
 use Rattle.ranges.specs.First.{first}
 
 -- the list that is prefetch list j
 unfoldable pub prefetchAt : Settings → ℕ → ℕ
 prefetchAt S j = place# S (prefetched (j / S .queues) (j % S .queues))
 
-abbrev pub items : Settings → ℕ
-items S = S .ports + ids + S .ports * S .queues
+-- the columns whose numbers can be out of range in the bytes that hold them: credits can't
+abbrev pub narrow : List Column
+narrow = last ∷ mapped ∷ []
 
--- item i is in range
+-- how many numbers they have, and how many items there are
+abbrev pub low : Settings → ℕ
+low S = sum (tall S) narrow
+
+abbrev pub items : Settings → ℕ
+items S = low S + S .ports * S .queues
+
+-- item i is in range, of the numbers of these columns and the prefetch lists
+abbrev pub fitsIn : Settings → List ℕ → List Column → ℕ → Bool
+fitsIn S m [] i = leb (get S m Count (prefetchAt S i)) (S .slots)
+fitsIn S m (c ∷ cs) i = cond (ltb i (tall S c)) (ltb (get S m (tableOf c) i) (bound S c)) (fitsIn S m cs (i - tall S c))
+
 unfoldable pub fitsAt : Settings → List ℕ → ℕ → Bool
-fitsAt S m i =
-    cond (ltb i (S .ports))
-    (ltb (get S m Last i) (S .queues))
-    (cond (ltb (i - S .ports) ids)
-    (ltb (get S m Mapped (i - S .ports)) (S .ports))
-    (leb (get S m Count (prefetchAt S (i - S .ports - ids))) (S .slots)))
+fitsAt S m = fitsIn S m narrow
 
 -- the same by a list's column among its port's: n nodes are few enough for it
 unfoldable pub fewAt : Settings → ℕ → ℕ → Bool

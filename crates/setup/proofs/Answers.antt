@@ -6,7 +6,7 @@ use Prim.Native.Nat.{ℕ, _≤_, _<_}
 use lib.ListN.{length}
 use lib.Dec.{eqb}
 use lib.Count.{ones}
-use Rattle.ledger.specs.Settings.{settings, isBeat, inRows, size}
+use Rattle.ledger.specs.Settings.{Settings, isBeat, inRows, size}
 use Rattle.ledger.specs.Calls.{Reply, refused, done}
 use Rattle.ledger.specs.Desk.{setup}
 use Rattle.ledger.proofs.Tests.{is-false, leb-is, ltb-is, ltb-not}
@@ -25,16 +25,16 @@ beat-in b h k = rw (leb-is 64 b h, leb-is b 512 k)
 
 -- ---- the answers
 
-module _ (N b D K : ℕ) (m : List ℕ) where
-  pub of-setting : inRows (settings N b D K) ≡ false → _≡_ {A = Reply × List ℕ} (refused 2, m) (M (setup N b D K) m)
+module _ (S : Settings) (m : List ℕ) where
+  pub of-setting : inRows S ≡ false → _≡_ {A = Reply × List ℕ} (refused 2, m) (M (setup S) m)
   unfolding M
   of-setting e = rw e
 
-  module _ (e : inRows (settings N b D K) ≡ true) where
-    pub of-memory : length m < size (settings N b D K) → _≡_ {A = Reply × List ℕ} (refused 1, m) (M (setup N b D K) m)
+  module _ (e : inRows S ≡ true) where
+    pub of-memory : length m < size S → _≡_ {A = Reply × List ℕ} (refused 1, m) (M (setup S) m)
     unfolding M
     of-memory h = rw (e, ltb-is _ _ h)
 
-    pub of-done : size (settings N b D K) ≤ length m → _≡_ {A = Reply × List ℕ} (done, setupMem (settings N b D K) m) (M (setup N b D K) m)
+    pub of-done : size S ≤ length m → _≡_ {A = Reply × List ℕ} (done, setupMem S m) (M (setup S) m)
     unfolding M
     of-done h = rw (e, ltb-not _ _ h)

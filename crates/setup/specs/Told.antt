@@ -8,4 +8,4 @@ abbrev pub switchOf : Settings → ledger.Settings
 switchOf t = ledger.settings (t .nodes) (t .beat) (t .slots) (t .credit)
 
 abbrev pub callOf : Settings → desk.Call
-callOf t = desk.setup (t .nodes) (t .beat) (t .slots) (t .credit)
+callOf t = desk.setup (switchOf t)

@@ -6,13 +6,12 @@ use Prim.Native.Nat.{ℕ}
 use native.Mathlib.Omega.{arith}
 use Rattle.ledger.specs.declared.Finding.{Finding}
 use Rattle.ledger.specs.declared.Finding.the-variants.{Whole as whole, At}
-use Rattle.ledger.specs.Settings.{Settings, ids}
+use Rattle.ledger.specs.Settings.{Settings}
 use Rattle.ledger.specs.Sound.{Shaped}
 use Rattle.ledger.proofs.Tests.{true≢false}
 use Rattle.ledger.proofs.Rows.{roomy}
 use Rattle.layout.specs.declared.Shape.{Shape}
-use Rattle.layout.specs.declared.Table.the-variants.{Mapped, Last, Arrival, Outward}
-use Rattle.layout.specs.Tables.{cells, get, settingsOf}
+use Rattle.layout.specs.Tables.{get, settingsOf, tableOf}
 use Rattle.layout.specs.Picture as picture
 use Rattle.layout.specs.Picture.{settingsIn, ledgerIn, StateOf}
 use Rattle.memory.specs.Ends.{Tidy}
@@ -37,6 +36,7 @@ use Rattle.sound.specs.declared.Broken.{Broken}
 use Rattle.sound.specs.declared.Broken.the-variants.{Whole, A, B, C, D, E, F, G}
 use Rattle.sound.specs.declared.Tested.the-variants.{State, NoState}
 use Rattle.sound.specs.Sound.{Clean, orNext, nodesBroken, openBroken, brokenBy, brokenIn, testedBy, testedIn, testOf}
+use Rattle.ledger.specs.Ledger.{tall}
 
 -- ---- one rule and the next
 
@@ -66,10 +66,7 @@ shaped : (S : Settings) (m : List ℕ) → Shaped S (ledgerIn S m)
 unfolding ledgerIn
 shaped S m = record {
   lists-long = length-lists S m;
-  arrival-long = length-tabulate (get S m Arrival) 0 (cells S);
-  outward-long = length-tabulate (get S m Outward) 0 (cells S);
-  last-long = length-tabulate (get S m Last) 0 (S .ports);
-  mapped-long = length-tabulate (get S m Mapped) 0 ids;
+  numbers-long = λ c. length-tabulate (get S m (tableOf c)) 0 (tall S c);
 }
 
 -- the three rules that are asked of nodes

@@ -25,7 +25,7 @@ in-rows-requires c κs = search needs
 returns : tie.Need-returns
 returns c =
     let e : inRows (switchOf (c .before .before .before .args .told)) ≡ false = sym (c .before .in-rows .ensures) ∙ not-true _ (c .if1 .taken) in
-    of-setting _ _ _ _ _ e
+    of-setting _ _ e
 
 cast-shape-of : tie.Need-cast-shape-of
 cast-shape-of c = search needs
@@ -48,7 +48,7 @@ size-of-requires c κs = search needs
 returns-2 : tie.Need-returns-2
 returns-2 c =
     let e = sized (c .before) in
-    of-memory _ _ _ _ _ (passed (c .before .before .before .before .before .before .before)) (omega arith)
+    of-memory _ _ (passed (c .before .before .before .before .before .before .before)) (omega arith)
 
 put-state-requires : tie.Need-put-state-requires
 put-state-requires c κs = search needs
@@ -60,7 +60,7 @@ returns-3 : tie.Need-returns-3
 returns-3 c =
     let e = sized (c .before .before .before .before .before) in
     rw (c .before .before .put-state .ensures, c .before .before .before .before .before .before .shape-of .ensures .settings-are)
-    (of-done _ _ _ _ _ (passed (c .before .before .before .before .before .before .before .before .before .before .before)) (omega arith))
+    (of-done _ _ (passed (c .before .before .before .before .before .before .before .before .before .before .before)) (omega arith))
 
 pub setup-spec : {M : Type 1} → statement M
 setup-spec =

@@ -1,0 +1,51 @@
+-- The ledger's columns: a law for all of them, and what changing one leaves. Assumes nothing.
+use mathlib.Core.Path.{_≡_, refl, sym, ap, _∙_, subst}
+use mathlib.Core.Logic.{_≢_}
+use mathlib.Core.List.{List}
+use Prim.Native.Nat.{ℕ, zero, suc, _<_}
+use native.Mathlib.Omega.{arith}
+use native.Mathlib.Decide.{ℕ-discrete}
+use Rattle.ledger.specs.Ledger.{Column, arrival, outward, last, mapped, column#, Ledger, change}
+use Rattle.ledger.proofs.Tests.{eqb-is, eqb-not}
+
+-- ---- the columns by their numbers
+
+abbrev pub columnAt : ℕ → Column
+columnAt zero = arrival
+columnAt (suc zero) = outward
+columnAt (suc (suc zero)) = last
+columnAt (suc (suc (suc n))) = mapped
+
+pub column-at : (c : Column) → columnAt (column# c) ≡ c
+column-at arrival = refl
+column-at outward = refl
+column-at last = refl
+column-at mapped = refl
+
+pub column-low : (c : Column) → column# c < suc (column# mapped)
+column-low arrival = omega arith
+column-low outward = omega arith
+column-low last = omega arith
+column-low mapped = omega arith
+
+pub column-inj : (c d : Column) → column# c ≡ column# d → c ≡ d
+column-inj c d e = sym (column-at c) ∙ ap columnAt e ∙ column-at d
+
+-- ---- one column changed
+
+module _ (c : Column) (f : List ℕ → List ℕ) (L : Ledger) where
+  pub change-here : change c f L .numbers c ≡ f (L .numbers c)
+  unfolding change
+  change-here = rw (eqb-is (column# c) (column# c) refl)
+
+  pub change-other : (d : Column) → c ≢ d → change c f L .numbers d ≡ L .numbers d
+  unfolding change
+  change-other d n = rw (eqb-not (column# c) (column# d) (λ e. n (column-inj c d e)))
+
+  -- what holds of the column as it is now, and of each as it was, holds of each as it is now
+  pub changed : (P : Column → List ℕ → Type 0) → P c (f (L .numbers c)) → ((d : Column) → P d (L .numbers d)) → (d : Column) → P d (change c f L .numbers d)
+  changed P new old d = go (ℕ-discrete (column# c) (column# d))
+    where
+      go : Dec (column# c ≡ column# d) → P d (change c f L .numbers d)
+      go (yes e) = subst (λ (d : Column). P d (change c f L .numbers d)) (column-inj c d e) (rw change-here new)
+      go (no n) = rw (change-other d (λ e. n (ap column# e))) (old d)
