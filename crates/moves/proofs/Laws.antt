@@ -5,7 +5,7 @@ use mathlib.Core.List.{List}
 use Prim.Native.Nat.{ℕ, _≤_, _<_}
 use native.Mathlib.Omega.{arith}
 use Rattle.ledger.specs.Settings.{Settings, ids}
-use Rattle.ledger.specs.Ledger.{isNode, Packet, ingress, egress, prefetched, place#, Ledger, mapOf}
+use Rattle.ledger.specs.Ledger.{isNode, Packet, ingress, egress, prefetched, place#, Ledger, mapOf, mapped}
 use Rattle.ledger.specs.Calls.{entry, stitched, stitch, prefetch, stitchRecord, firstOf}
 use Rattle.ledger.specs.Sound.{Roomy}
 use Rattle.ledger.proofs.Tests.{leb-is, leb-not, leb-no}
@@ -129,7 +129,7 @@ stitched-on S m s p e k ik to it =
       some = some;
       node = head-is-node S m (state-tidy S m s) (place# S (ingress p)) (place#-lt S (ingress p) v-in) some;
       dest-in = f .2 .dest-in;
-      to-in = rw it (s .sound .orderly .ranges .map-in (k .dest) (f .2 .dest-in));
+      to-in = rw it (s .sound .orderly .ranges .numbers-in mapped (k .dest) (f .2 .dest-in));
       queue-in = f .2 .queue-in;
       outcome = acted-good S m (stitch p) (sym e) ∙ rw (fk, ← ik, ← it);
     }

@@ -116,8 +116,9 @@ module _ (S : Settings) (m : List ℕ) where
         go : (cs : List Column) (k : ℕ) → k < sum (tall S) cs + S .ports * S .queues → fitsIn S m cs k ≡ true
         go [] k h =
             let some : 0 < S .queues = omega arith in
-            let few = I .slots-in (k / S .queues) (k % S .queues) (div-lt-iff-lt-mul some .1 h) (mod-lt k some) in
-            leb-is _ _ (rw (list-length S m (prefetchAt S k) (prefetch-lt k some h)) at (slots k few))
+            let low : k < S .ports * S .queues = omega arith in
+            let few = I .slots-in (k / S .queues) (k % S .queues) (div-lt-iff-lt-mul some .1 low) (mod-lt k some) in
+            leb-is _ _ (rw (list-length S m (prefetchAt S k) (prefetch-lt k some low)) at (slots k few))
         go (c ∷ cs) k h = by (decLt k (tall S c)) (go cs (k - tall S c))
           where
             by : Dec (k < tall S c) → (k - tall S c < sum (tall S) cs + S .ports * S .queues → fitsIn S m cs (k - tall S c) ≡ true)

@@ -2,7 +2,7 @@
 use mathlib.Core.Path.{_≡_, sym, ap₂, _∙_}
 use native.Mathlib.Omega.{arith}
 use borrow.Author.Needs.{needs}
-use Rattle.ledger.specs.Ledger.{lastOf}
+use Rattle.ledger.specs.Ledger.{lastOf, last}
 use Rattle.ledger.specs.Ready.{readyWord, pick}
 use Rattle.layout.specs.Tables.{settingsOf}
 use Rattle.layout.specs.Picture.{ledgerIn}
@@ -34,7 +34,7 @@ pick-requires : tie.Need-pick-requires
 pick-requires c κs =
     let e = c .before .before .before .before .before in
     let st = e .before .before in
-    omega (arith, c .last .ensures, st .pre .state .sound .orderly .ranges .last-in (st .args .port) (e .if1 .left), st .pre .laid .roomy .few-queues)
+    omega (arith, c .last .ensures, st .pre .state .sound .orderly .ranges .numbers-in last (st .args .port) (e .if1 .left), st .pre .laid .roomy .few-queues)
 
 cast-serve : tie.Need-cast-serve
 cast-serve c = search needs
