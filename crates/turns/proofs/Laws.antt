@@ -27,7 +27,9 @@ use Rattle.layout.specs.Tables.{lists, get, put}
 use Rattle.layout.specs.Picture.{packetAt, ledgerIn, StateOf}
 use Rattle.memory.specs.Ends.{popMem, pushMem}
 use Rattle.memory.specs.Writes.{headOf, moveMem, creditMem, serveMem}
+use Rattle.memory.specs.Judged.{judged}
 use Rattle.memory.specs.Memory.{acted}
+use Rattle.memory.proofs.Judged.{acted-bad}
 use Rattle.memory.proofs.Paint.{empty-is, some-is}
 use Rattle.memory.proofs.Chains.{node-from}
 use Rattle.memory.proofs.Square.{first-held, j-is, given-fits}
@@ -112,8 +114,8 @@ masked-is w m hw hm =
 
 module _ (S : Settings) (m : List ℕ) (p : ℕ) where
   pub turn-no-port : S .ports ≤ p → (refused 4, m) ≡ acted S m (turn p)
-  unfolding acted
-  turn-no-port h = rw (leb-is (S .ports) p h)
+  unfolding judged
+  turn-no-port h = sym (acted-bad S m (turn p) 4 (rw (leb-is (S .ports) p h)))
 
   pub ready-no-port : S .ports ≤ p → refused 4 ≡ acted S m (ready p) .0
   unfolding acted
