@@ -1,2 +1,3 @@
 pub mod Tables
 pub mod Shapes
+pub mod Places

@@ -1,7 +1,7 @@
 -- What a shape's numbers come to, and what the reads and writes of the code are. Assumes nothing.
 use mathlib.Core.Path.{_≡_, sym, ap}
 use mathlib.Core.List.{List}
-use Prim.Native.Nat.{ℕ, _+_, _-_, _*_, _/_, _≤_, _<_}
+use Prim.Native.Nat.{ℕ, _+_, _-_, _*_, _≤_}
 use native.Mathlib.Nat.{mul-le-mul}
 use native.Mathlib.Omega.{arith}
 use lib.ListN.{length}
@@ -54,9 +54,9 @@ small s l =
       small-next = omega arith;
     }
 
--- a node id of two bytes, as the row of its owner
-pub owner-row : (S : Settings) (x : ℕ) → Roomy S → x < 65536 → x / 2048 * S .nodes ≤ 63488
-owner-row S x r h = let low : x / 2048 ≤ 31 = omega arith in mul-le-mul low (r .few-nodes)
+-- a node id of two bytes has one of 32 ports
+pub owner-row : (S : Settings) (p : ℕ) → Roomy S → p ≤ 31 → p * S .nodes ≤ 63488
+owner-row S p r h = mul-le-mul h (r .few-nodes)
 
 -- ---- an element of k bytes
 

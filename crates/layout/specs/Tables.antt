@@ -116,6 +116,7 @@ settingsOf s = record { ports = s .ports; queues = s .queues; nodes = s .nodes; 
 -- a shape holds what its settings say, and they are a switch's
 pub record Laid (s : Shape) : Type 0 where
   pub roomy : Roomy (settingsOf s)
+  pub row-is : s .row ≡ row (settingsOf s)
   pub cells-are : s .cells ≡ cells (settingsOf s)
   pub lists-are : s .lists ≡ lists (settingsOf s)
   pub all-are : s .all ≡ all (settingsOf s)

@@ -32,7 +32,8 @@ module _ (ok : ℕ → Bool) where
   all-pass zero i e k low high = absurd (omega arith)
   all-pass (suc n) i e k low high = go (ok i) refl e (ℕ-discrete k i) (λ d h. all-pass n (suc i) d k h (omega arith))
     where
-      go : (b : Bool) → ok i ≡ b → cond b (firstFrom ok (suc i) n) (At i) ≡ Whole → Dec (k ≡ i) → (firstFrom ok (suc i) n ≡ Whole → suc i ≤ k → ok k ≡ true) → ok k ≡ true
+      go : (b : Bool) → ok i ≡ b → cond b (firstFrom ok (suc i) n) (At i) ≡ Whole → Dec (k ≡ i)
+          → (firstFrom ok (suc i) n ≡ Whole → suc i ≤ k → ok k ≡ true) → ok k ≡ true
       go true t d (yes p) rest = ap ok p ∙ t
       go true t d (no p) rest = rest d (omega arith)
       go false t d c rest = absurd (let z : _≡_ {A = ℕ} 0 1 = cc in omega arith)

@@ -26,14 +26,6 @@ use Rattle.ranges.proofs.First.{first-all}
 pub few-items : (S : Settings) → Roomy S → S .ports * S .queues ≤ 2048
 few-items S R = mul-le-mul (R .few-ports) (R .few-queues)
 
--- the number of a prefetch list is small, as the code computes it
-pub prefetch-small : (S : Settings) (j : ℕ) → Roomy S → j < S .ports * S .queues → (j / S .queues * (2 + 2 * S .queues) ≤ 4160) × (j % S .queues < S .queues)
-prefetch-small S j R h =
-    let some : 0 < S .queues = omega arith in
-    let port : j / S .queues ≤ 32 = omega (arith, div-lt-iff-lt-mul some .1 h) in
-    let wide : 2 + 2 * S .queues ≤ 130 = omega arith in
-    (mul-le-mul port wide, mod-lt j some)
-
 module _ (S : Settings) (m : List ℕ) where
   -- ---- the test of an item, by its kind
 

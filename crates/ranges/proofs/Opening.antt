@@ -6,10 +6,10 @@ use Prim.Native.Nat.{ℕ, _≤_, _<_}
 use native.Mathlib.Omega.{arith}
 use lib.ListN.{length}
 use lib.Dec.{leb}
-use Rattle.ledger.specs.Settings.{Settings, isBeat, inRows, size}
+use Rattle.ledger.specs.Settings.{Settings, inRows, size}
 use Rattle.ledger.specs.Sound.{Roomy}
-use Rattle.ledger.proofs.Tests.{is-false, leb-yes, leb-is, leb-not, and-left, and-right}
-use Rattle.ledger.proofs.Rows.{OneOfFour, beat-values, roomy}
+use Rattle.ledger.proofs.Tests.{leb-yes, leb-is, leb-not, and-left, and-right}
+use Rattle.ledger.proofs.Rows.{roomy}
 use Rattle.layout.specs.declared.Shape.{Shape}
 use Rattle.layout.specs.Tables.{settingsOf, Laid}
 use Rattle.layout.specs.Picture.{settingsIn}
@@ -28,6 +28,7 @@ shape-is s l =
       beat = s .beat;
       slots = s .slots;
       credit = s .credit;
+      row = l .row-is i;
       cells = l .cells-are i;
       lists = l .lists-are i;
       all = l .all-are i;
@@ -37,10 +38,7 @@ shape-is s l =
     }
 
 pub laid-for : (S : Settings) → Roomy S → Laid (shapeFor S)
-laid-for S R = record { roomy = R; cells-are = refl; lists-are = refl; all-are = refl; arrival-at = refl; head-at = refl; next-at = refl }
-
-pub beat-not : (b : ℕ) → (OneOfFour b → ⊥) → isBeat b ≡ false
-beat-not b n = is-false (isBeat b) (λ e. n (beat-values b e))
+laid-for S R = record { roomy = R; row-is = refl; cells-are = refl; lists-are = refl; all-are = refl; arrival-at = refl; head-at = refl; next-at = refl }
 
 -- ---- opening
 
@@ -73,8 +71,8 @@ module _ (m : List ℕ) where
       go : (b : Bool) → (inRows (settingsIn m) && leb (size (settingsIn m)) (length m)) ≡ b → cond b (Fine (shapeFor (settingsIn m))) Wrong ≡ Fine s → Open m s
       go true t e =
           let p : shapeFor (settingsIn m) ≡ s = cc in
-          let r : inRows (settingsIn m) ≡ true = and-left (inRows (settingsIn m)) (leb (size (settingsIn m)) (length m)) t in
-          let h : size (settingsIn m) ≤ length m = leb-yes (size (settingsIn m)) (length m) (and-right (inRows (settingsIn m)) (leb (size (settingsIn m)) (length m)) t) in
+          let r = and-left (inRows (settingsIn m)) (leb (size (settingsIn m)) (length m)) t in
+          let h = leb-yes (size (settingsIn m)) (length m) (and-right (inRows (settingsIn m)) _ t) in
           subst (Open m) p
           (record { laid = laid-for (settingsIn m) (roomy (settingsIn m) r); settings-are = refl; rows = r; long = h })
       go false t e = absurd (let z : _≡_ {A = ℕ} 0 1 = cc in omega arith)

@@ -5,13 +5,11 @@ use mathlib.Core.List.{List}
 use Prim.Native.Nat.{ℕ, _≤_}
 use lib.ListN.{length}
 use lib.Dec.{leb}
-use Rattle.ledger.specs.Settings.{Settings, inRows, size}
+use Rattle.ledger.specs.Settings.{Settings, row, inRows, size}
 use Rattle.layout.specs.declared.Shape.{Shape}
 use Rattle.layout.specs.declared.Table.the-variants.{Arrival, Head, Next}
 use Rattle.layout.specs.Tables.{cells, lists, all, startOf, settingsOf, Laid}
-use Rattle.layout.specs.Access.{settingsFrom}
 use Rattle.layout.specs.Picture.{settingsIn}
-use Rattle.ranges.specs.declared.Raw.{Raw}
 use Rattle.ranges.specs.declared.Opened.{Opened}
 use Rattle.ranges.specs.declared.Opened.the-variants.{Fine, Wrong}
 
@@ -24,6 +22,7 @@ shapeFor S = record {
   beat = S .beat;
   slots = S .slots;
   credit = S .credit;
+  row = row S;
   cells = cells S;
   lists = lists S;
   all = all S;
@@ -31,10 +30,6 @@ shapeFor S = record {
   head = startOf S Head;
   next = startOf S Next;
 }
-
--- the settings that were read
-abbrev pub settingsRaw : Raw → Settings
-settingsRaw r = settingsFrom (r .ports) (r .queues) (r .nodes) (r .beat) (r .slots) (r .credit)
 
 -- what a memory is opened as
 unfoldable pub opened : List ℕ → Opened

@@ -3,14 +3,15 @@
 use layout::Shape;
 use layout::Table;
 use ledger::Finding;
+use settings::Settings;
 ghost use mathlib.Core.Path.{_≡_};
 ghost use Prim.Native.Nat.{_*_, _<_, _≤_};
 ghost use lib.ListN.{length};
-ghost use Rattle.ledger.specs.Settings.{isBeat, inRows};
+ghost use Rattle.settings.specs.Told.{toldSettings};
 ghost use Rattle.layout.specs.Tables.{settingsOf, Laid};
 ghost use Rattle.layout.specs.Picture.{settingsIn};
 ghost use Rattle.ranges.specs.First.{first};
-ghost use Rattle.ranges.specs.Opening.{settingsRaw, opened};
+ghost use Rattle.ranges.specs.Opening.{opened};
 ghost use Rattle.ranges.specs.Ranges.{items, fitsAt, prefetchAt, fewAt, rangesFound, Held, Item};
 
 // What a memory is opened as: rule (a) holds, and the state has this shape; or it doesn't hold.
@@ -19,63 +20,19 @@ pub enum Opened {
     Wrong,
 }
 
-// The six settings as they stand in a memory, in their rows or not.
-struct Raw {
-    ports: u16,
-    queues: u16,
-    nodes: u16,
-    beat: u16,
-    slots: u16,
-    credit: u16,
-}
-
-fn read(m: &[u8]) -> Raw
+// The settings as they stand in a memory, in their rows or not.
+fn read(m: &[u8]) -> Settings
     requires { ⌜ 12 ≤ length (now m) ⌝ }
-    ensures { λ r. ⌜ settingsRaw r ≡ settingsIn (now (m .entry)) ⌝ }
+    ensures { λ r. ⌜ toldSettings r ≡ settingsIn (now (m .entry)) ⌝ }
 {
-    Raw {
-        ports: numbers::read2(m, 0),
-        queues: numbers::read2(m, 2),
-        nodes: numbers::read2(m, 4),
-        beat: numbers::read2(m, 6),
-        slots: numbers::read2(m, 8),
-        credit: numbers::read2(m, 10),
+    Settings {
+        ports: numbers::read2(m, 0) as u32,
+        queues: numbers::read2(m, 2) as u32,
+        nodes: numbers::read2(m, 4) as u32,
+        beat: numbers::read2(m, 6) as u32,
+        slots: numbers::read2(m, 8) as u32,
+        credit: numbers::read2(m, 10) as u32,
     }
-}
-
-// The numbers from 64 to 512 that have a single one among their bits.
-fn is_beat(b: u16) -> bool
-    ensures { λ r. ⌜ r ≡ isBeat b ⌝ }
-{
-    match b {
-        64 | 128 | 256 | 512 => true,
-        _ => false,
-    }
-}
-
-// Whether each setting is in its row: a credit of two bytes always is.
-fn in_rows(r: Raw) -> bool
-    ensures { λ b. ⌜ b ≡ inRows (settingsRaw r) ⌝ }
-{
-    if r.ports != 4 {
-        return false;
-    }
-    if r.queues != 24 {
-        return false;
-    }
-    if r.nodes < 1 {
-        return false;
-    }
-    if 2048 < r.nodes {
-        return false;
-    }
-    if r.slots < 1 {
-        return false;
-    }
-    if 8 < r.slots {
-        return false;
-    }
-    is_beat(r.beat)
 }
 
 // Rule (a).
@@ -85,18 +42,11 @@ pub fn open(m: &[u8]) -> Opened
     if m.len() < 12 {
         return Opened::Wrong;
     }
-    let r = read(m);
-    if !in_rows(r) {
+    let told = read(m);
+    if !settings::in_rows(told) {
         return Opened::Wrong;
     }
-    let s = layout::shape_of(
-        r.ports as usize,
-        r.queues as usize,
-        r.nodes as usize,
-        r.beat as usize,
-        r.slots as usize,
-        r.credit as usize,
-    );
+    let s = layout::shape_of(told);
     let size = layout::size_of(s);
     if m.len() < size {
         return Opened::Wrong;
@@ -110,7 +60,7 @@ fn prefetch_list(s: Shape, j: usize) -> usize
     ensures { λ r. ⌜ r ≡ prefetchAt (settingsOf s) j ⌝ }
 {
     let queues = s.queues;
-    j / queues * (2 + 2 * queues) + (2 + (queues + j % queues))
+    layout::prefetch_list(s, j / queues, j % queues)
 }
 
 // Whether item i is in range.

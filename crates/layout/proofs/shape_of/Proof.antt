@@ -3,56 +3,82 @@ use mathlib.Core.Path.{refl}
 use native.Mathlib.Omega.{arith}
 use borrow.Author.Needs.{needs}
 use Rattle.ledger.specs.Settings.{row}
+use Rattle.settings.specs.Told.{toldSettings}
 use Rattle.layout.specs.Tables.{startOf}
-use Rattle.layout.proofs.Shapes.{few}
+use Rattle.layout.proofs.Shapes.{Few, few}
 use Rattle.layout.proofs.shape_of.Statement.{statement}
 use Rattle.layout.proofs.shape_of.Tie as tie
+
+abbrev start : tie.After-struct-known3 → tie.Start
+start c = c .before .before .before
+
+small : (c : tie.After-struct-known3) → Few (toldSettings (start c .args .told))
+small c = few _ (start c .pre)
+
+cast-ports : tie.Need-cast-ports
+cast-ports c = search needs
+
+cast-queues : tie.Need-cast-queues
+cast-queues c = search needs
+
+cast-nodes : tie.Need-cast-nodes
+cast-nodes c = search needs
+
+mul-row : tie.Need-mul-row
+mul-row c = search needs
+
+add-row : tie.Need-add-row
+add-row c = search needs
 
 sub-cells : tie.Need-sub-cells
 sub-cells c = search needs
 
 mul-cells : tie.Need-mul-cells
 unfolding row
-mul-cells c = let f = few _ (c .pre) in omega arith
+mul-cells c = omega (arith, small c)
 
 mul-lists : tie.Need-mul-lists
-mul-lists c = search needs
-
-add-lists : tie.Need-add-lists
-add-lists c = search needs
-
-mul-lists-2 : tie.Need-mul-lists-2
 unfolding row
-mul-lists-2 c = let f = few _ (c .pre) in omega arith
+mul-lists c = omega (arith, small c)
 
 mul-all : tie.Need-mul-all
 unfolding row
-mul-all c = let f = few _ (c .pre) in omega arith
+mul-all c = omega (arith, small c)
 
 add-arrival : tie.Need-add-arrival
 add-arrival c = search needs
 
 mul-head : tie.Need-mul-head
 unfolding row
-mul-head c = let f = few _ (c .pre) in omega arith
+mul-head c = omega (arith, small c)
 
 add-head : tie.Need-add-head
 unfolding row
-add-head c = let f = few _ (c .pre) in omega arith
+add-head c = omega (arith, small c)
 
 mul-next : tie.Need-mul-next
 unfolding row
-mul-next c = let f = few _ (c .pre) in omega arith
+mul-next c = omega (arith, small c)
 
 add-next : tie.Need-add-next
 unfolding row
-add-next c = let f = few _ (c .pre) in omega arith
+add-next c = omega (arith, small c)
+
+cast-t12 : tie.Need-cast-t12
+cast-t12 c = search needs
+
+cast-t13 : tie.Need-cast-t13
+cast-t13 c = search needs
+
+cast-t14 : tie.Need-cast-t14
+cast-t14 c = search needs
 
 returns : tie.Need-returns
 unfolding row startOf
 returns c = record {
   laid = record {
-    roomy = c .pre;
+    roomy = start (c .before .before .before) .pre;
+    row-is = refl;
     cells-are = refl;
     lists-are = refl;
     all-are = refl;
@@ -67,15 +93,21 @@ pub shape-of-spec : {M : Type 1} → statement M
 shape-of-spec =
     tie.close
     (tie.spec
+    cast-ports
+    cast-queues
+    cast-nodes
+    mul-row
+    add-row
     sub-cells
     mul-cells
     mul-lists
-    add-lists
-    mul-lists-2
     mul-all
     add-arrival
     mul-head
     add-head
     mul-next
     add-next
+    cast-t12
+    cast-t13
+    cast-t14
     returns)

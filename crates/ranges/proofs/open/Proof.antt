@@ -1,37 +1,29 @@
 -- `ranges::open` meets its contract: each way out by the law of its case. Assumes nothing.
 use mathlib.Core.Path.{_≡_, sym, ap, _∙_}
 use mathlib.Core.Bool.{true}
-use mathlib.Core.List.{List}
-use Prim.Native.Nat.{ℕ}
 use native.Mathlib.Omega.{arith}
 use borrow.Author.Tests.{not-true, not-false}
 use borrow.Author.Needs.{needs}
 use Rattle.ledger.specs.Settings.{inRows, size}
 use Rattle.ledger.proofs.Rows.{roomy}
+use Rattle.settings.specs.Told.{toldSettings}
 use Rattle.layout.specs.Tables.{settingsOf}
 use Rattle.layout.specs.Picture.{settingsIn}
-use Rattle.ranges.specs.declared.Raw.{Raw}
 use Rattle.ranges.specs.declared.Opened.the-variants.{Fine}
-use Rattle.ranges.specs.Opening.{shapeFor, settingsRaw}
+use Rattle.ranges.specs.Opening.{shapeFor}
 use Rattle.ranges.proofs.Opening.{shape-is, opened-outside, opened-short, opened-tiny, opened-is}
 use Rattle.ranges.proofs.open.Statement.{statement}
 use Rattle.ranges.proofs.open.Tie as tie
 
--- the memory, the settings that were read from it, and that the shape is of those
-abbrev memory : tie.After-shape-of → List ℕ
-memory c = c .before .before .before .before .before .before .before .before .before .before .before .before .args .m .now
+-- the memory, what its settings were read as, and that the shape is of those
+abbrev read : tie.After-shape-of → tie.After-read
+read c = c .before .before .before
 
-abbrev raw : tie.After-shape-of → Raw
-raw c = c .before .before .before .before .before .before .before .before .before .read .result
-
-held : (c : tie.After-shape-of) → settingsRaw (raw c) ≡ settingsIn (memory c)
-held c = c .before .before .before .before .before .before .before .before .before .read .ensures
-
-told : (c : tie.After-shape-of) → settingsOf (c .shape-of .result) ≡ settingsIn (memory c)
-told c = c .shape-of .ensures .settings-are ∙ held c
+told : (c : tie.After-shape-of) → settingsOf (c .shape-of .result) ≡ settingsIn (read c .before .before .before .args .m .now)
+told c = c .shape-of .ensures .settings-are ∙ read c .read .ensures
 
 -- the test of the rows was passed
-passed : (c : tie.Else2) → inRows (settingsRaw (c .before .before .read .result)) ≡ true
+passed : (c : tie.Else2) → inRows (toldSettings (c .before .before .read .result)) ≡ true
 passed c = sym (c .before .in-rows .ensures) ∙ not-false _ (c .if2 .left)
 
 returns : tie.Need-returns
@@ -46,26 +38,8 @@ in-rows-requires c κs = search needs
 returns-2 : tie.Need-returns-2
 returns-2 c = sym (opened-outside _ (ap inRows (sym (c .before .before .read .ensures)) ∙ sym (c .before .in-rows .ensures) ∙ not-true _ (c .if2 .taken)))
 
-cast-shape-of : tie.Need-cast-shape-of
-cast-shape-of c = search needs
-
-cast-shape-of-2 : tie.Need-cast-shape-of-2
-cast-shape-of-2 c = search needs
-
-cast-shape-of-3 : tie.Need-cast-shape-of-3
-cast-shape-of-3 c = search needs
-
-cast-shape-of-4 : tie.Need-cast-shape-of-4
-cast-shape-of-4 c = search needs
-
-cast-shape-of-5 : tie.Need-cast-shape-of-5
-cast-shape-of-5 c = search needs
-
-cast-shape-of-6 : tie.Need-cast-shape-of-6
-cast-shape-of-6 c = search needs
-
 shape-of-requires : tie.Need-shape-of-requires
-shape-of-requires c κs = roomy _ (passed (c .before .before .before .before .before .before))
+shape-of-requires c κs = roomy _ (passed c)
 
 size-of-requires : tie.Need-size-of-requires
 size-of-requires c κs = search needs
@@ -77,7 +51,7 @@ returns-4 : tie.Need-returns-4
 returns-4 c =
     let made = c .before .before in
     let s = made .shape-of .result in
-    let rows = ap inRows (sym (held made)) ∙ passed (made .before .before .before .before .before .before .before) in
+    let rows = ap inRows (sym (read made .read .ensures)) ∙ passed (made .before) in
     ap Fine (shape-is s (made .shape-of .ensures .laid) ∙ ap shapeFor (told made))
     ∙ sym (opened-is _ rows (omega (arith, c .before .size-of .ensures, ap size (told made))))
 
@@ -89,12 +63,6 @@ open-spec =
     read-requires
     in-rows-requires
     returns-2
-    cast-shape-of
-    cast-shape-of-2
-    cast-shape-of-3
-    cast-shape-of-4
-    cast-shape-of-5
-    cast-shape-of-6
     shape-of-requires
     size-of-requires
     returns-3

@@ -1,56 +1,26 @@
--- `ranges::prefetch_list` meets its contract: no number wraps, since a switch has few lists. Assumes nothing.
-use Prim.Native.Nat.{_+_, _*_, _/_, _%_, _≤_, _<_}
+-- `ranges::prefetch_list` meets its contract. Assumes nothing.
+use Prim.Native.Nat.{_<_}
+use native.Mathlib.Nat.{mod-lt, div-lt-iff-lt-mul}
 use native.Mathlib.Omega.{arith}
 use borrow.Author.Needs.{needs}
-use Rattle.ledger.specs.Settings.{row}
-use Rattle.ledger.specs.Ledger.{place#}
-use Rattle.layout.specs.Tables.{settingsOf}
 use Rattle.ranges.specs.Ranges.{prefetchAt}
-use Rattle.ranges.proofs.Items.{prefetch-small}
 use Rattle.ranges.proofs.prefetch_list.Statement.{statement}
 use Rattle.ranges.proofs.prefetch_list.Tie as tie
 
-small : (c : tie.Start) → (c .args .j / c .args .s .queues * (2 + 2 * c .args .s .queues) ≤ 4160) × (c .args .j % c .args .s .queues < c .args .s .queues)
-small c = prefetch-small (settingsOf (c .args .s)) (c .args .j) (c .pre .0 .roomy) (c .pre .1)
+div-prefetch-list : tie.Need-div-prefetch-list
+div-prefetch-list c = search needs
 
-div-result : tie.Need-div-result
-div-result c = search needs
+rem-prefetch-list : tie.Need-rem-prefetch-list
+rem-prefetch-list c = search needs
 
-mul-result : tie.Need-mul-result
-mul-result c = search needs
-
-add-result : tie.Need-add-result
-add-result c = search needs
-
-mul-result-2 : tie.Need-mul-result-2
-mul-result-2 c = omega (arith, small c)
-
-rem-result : tie.Need-rem-result
-rem-result c = search needs
-
-add-result-2 : tie.Need-add-result-2
-add-result-2 c = omega (arith, small c)
-
-add-result-3 : tie.Need-add-result-3
-add-result-3 c = omega (arith, small c)
-
-add-result-4 : tie.Need-add-result-4
-add-result-4 c = omega (arith, small c)
+prefetch-list-requires : tie.Need-prefetch-list-requires
+prefetch-list-requires c κs =
+    let some : 0 < c .args .s .queues = omega arith in
+    record { laid = c .pre .0; port = div-lt-iff-lt-mul some .1 (c .pre .1); queue = mod-lt _ some }
 
 returns : tie.Need-returns
-unfolding prefetchAt place# row
-returns c = omega arith
+unfolding prefetchAt
+returns c = c .prefetch-list .ensures
 
 pub prefetch-list-spec : {M : Type 1} → statement M
-prefetch-list-spec =
-    tie.close
-    (tie.spec
-    div-result
-    mul-result
-    add-result
-    mul-result-2
-    rem-result
-    add-result-2
-    add-result-3
-    add-result-4
-    returns)
+prefetch-list-spec = tie.close (tie.spec div-prefetch-list rem-prefetch-list prefetch-list-requires returns)

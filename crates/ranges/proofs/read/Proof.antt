@@ -7,20 +7,38 @@ use Rattle.ranges.proofs.read.Tie as tie
 read2-requires : tie.Need-read2-requires
 read2-requires c κs = search needs
 
+cast-t3 : tie.Need-cast-t3
+cast-t3 c = search needs
+
 read2-requires-2 : tie.Need-read2-requires-2
 read2-requires-2 c κs = search needs
+
+cast-t5 : tie.Need-cast-t5
+cast-t5 c = search needs
 
 read2-requires-3 : tie.Need-read2-requires-3
 read2-requires-3 c κs = search needs
 
+cast-t7 : tie.Need-cast-t7
+cast-t7 c = search needs
+
 read2-requires-4 : tie.Need-read2-requires-4
 read2-requires-4 c κs = search needs
+
+cast-t9 : tie.Need-cast-t9
+cast-t9 c = search needs
 
 read2-requires-5 : tie.Need-read2-requires-5
 read2-requires-5 c κs = search needs
 
+cast-t11 : tie.Need-cast-t11
+cast-t11 c = search needs
+
 read2-requires-6 : tie.Need-read2-requires-6
 read2-requires-6 c κs = search needs
+
+cast-t13 : tie.Need-cast-t13
+cast-t13 c = search needs
 
 returns : tie.Need-returns
 unfolding settingsIn
@@ -38,9 +56,15 @@ read-spec =
     tie.close
     (tie.spec
     read2-requires
+    cast-t3
     read2-requires-2
+    cast-t5
     read2-requires-3
+    cast-t7
     read2-requires-4
+    cast-t9
     read2-requires-5
+    cast-t11
     read2-requires-6
+    cast-t13
     returns)
