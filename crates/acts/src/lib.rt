@@ -15,7 +15,7 @@ ghost use Rattle.ledger.specs.Desk.{act};
 ghost use Rattle.layout.specs.Picture.{State};
 ghost use Rattle.memory.specs.Memory.{M};
 ghost use Rattle.moves.specs.Stitched.{recordIn};
-ghost use Rattle.capi.specs.Rooms.{told, toldIn, entryRoom, recordRoom, sentRoom};
+ghost use Rattle.rooms.specs.Rooms.{told, toldIn, entryRoom, recordRoom, sentRoom};
 
 pub fn arrive(m: &mut [u8], port: u32, header: &[u8]) -> Entry
     requires { ⌜ State (now m) ⌝ }
@@ -81,7 +81,7 @@ pub extern "C" fn act_arrive(mem: &mut [u8], port: u32, header: &[u8], entry: &m
     requires { ⌜ State (now mem) ⌝ }
     ensures { λ r. ⌜ _≡_ {A = ℕ × List ℕ × ℕ} (r, now (mem .exit), now (entry .exit)) (toldIn entryRoom (now (entry .entry)) (M (act (arrive port (now (header .entry)))) (now (mem .entry)))) ⌝ }
 {
-    capi::put_entry(arrive(mem, port, header), entry)
+    rooms::put_entry(arrive(mem, port, header), entry)
 }
 
 #[no_mangle]
@@ -92,7 +92,7 @@ pub extern "C" fn act_stitch(mem: &mut [u8], port: u32, room: &mut [u8; 10]) -> 
     let out = stitch(mem, port);
     let answer = out.answer;
     let bytes = out.record;
-    capi::put_record(answer, bytes, room)
+    rooms::put_record(answer, bytes, room)
 }
 
 #[no_mangle]
@@ -100,7 +100,7 @@ pub extern "C" fn act_prefetch(mem: &mut [u8], port: u32, queue: u32, entry: &mu
     requires { ⌜ State (now mem) ⌝ }
     ensures { λ r. ⌜ _≡_ {A = ℕ × List ℕ × ℕ} (r, now (mem .exit), now (entry .exit)) (toldIn entryRoom (now (entry .entry)) (M (act (prefetch port queue)) (now (mem .entry)))) ⌝ }
 {
-    capi::put_entry(prefetch(mem, port, queue), entry)
+    rooms::put_entry(prefetch(mem, port, queue), entry)
 }
 
 #[no_mangle]
@@ -108,7 +108,7 @@ pub extern "C" fn act_credit(mem: &mut [u8], port: u32, queue: u32, amount: u32)
     requires { ⌜ State (now mem) ⌝ }
     ensures { λ r. ⌜ _≡_ {A = ℕ × List ℕ} (r, now (mem .exit)) (told (M (act (credit port queue amount)) (now (mem .entry)))) ⌝ }
 {
-    capi::plain(credit(mem, port, queue, amount))
+    rooms::plain(credit(mem, port, queue, amount))
 }
 
 #[no_mangle]
@@ -116,5 +116,5 @@ pub extern "C" fn act_turn(mem: &mut [u8], port: u32, sent: &mut [u8; 16]) -> u3
     requires { ⌜ State (now mem) ⌝ }
     ensures { λ r. ⌜ _≡_ {A = ℕ × List ℕ × List ℕ} (r, now (mem .exit), now (sent .exit)) (toldIn sentRoom (now (sent .entry)) (M (act (turn port)) (now (mem .entry)))) ⌝ }
 {
-    capi::put_sent(turn(mem, port), sent)
+    rooms::put_sent(turn(mem, port), sent)
 }

@@ -1,5 +1,5 @@
--- How a call's answer is put together from the reply and the room, which ids are no nodes, and the size; with no code. Assumes nothing.
-use mathlib.Core.Path.{_≡_, refl, sym, ap, _∙_}
+-- Which ids are no nodes, and the size; with no code. Assumes nothing.
+use mathlib.Core.Path.{_≡_, refl, sym, _∙_}
 use mathlib.Core.Logic.{inl}
 use mathlib.Core.Bool.{Bool, true, false, cond}
 use mathlib.Core.List.{List}
@@ -8,29 +8,15 @@ use native.Mathlib.Omega.{arith}
 use lib.Dec.{ltb}
 use Rattle.ledger.specs.Settings.{Settings, settings, inRows}
 use Rattle.ledger.specs.Ledger.{owner, isNode}
-use Rattle.ledger.specs.Calls.{Reply, refused, whereIs}
+use Rattle.ledger.specs.Calls.{refused, whereIs}
 use Rattle.ledger.specs.Desk.{act}
 use Rattle.ledger.proofs.Tests.{ltb-yes, ltb-not}
 use Rattle.ledger.proofs.Rows.{Rows, rows-beat, rows-not, this-build, size-is, beat-is}
 use Rattle.layout.specs.Picture.{settingsIn, State}
 use Rattle.memory.specs.Memory.{state-dec, acted, tested, M}
 use Rattle.memory.proofs.Demands.{off-state}
-use Rattle.capi.specs.Rooms.{numberIn, told, toldIn, toldRound, shown, placeRoom, sizeFor}
-
--- ---- the answer
-
-module _ (x : Reply) (m : List ℕ) (out : Reply × List ℕ) (r : ℕ) (e : (x, m) ≡ out) (number : r ≡ numberIn x) where
-  pub tells : (r, m) ≡ told out
-  tells = rw number (ap told e)
-
-  pub tells-in : {A : Type 0} (room : Reply → A → A) (old new : A) → new ≡ room x old → (r, m, new) ≡ toldIn room old out
-  tells-in room old new q = rw (number, q) (ap (toldIn room old) e)
-
-pub tells-round : (x : Reply) (m room : List ℕ) (out : Reply × List ℕ × List ℕ) (r : ℕ) → (x, m, room) ≡ out → r ≡ numberIn x → (r, m, room) ≡ toldRound out
-tells-round x m room out r e number = rw number (ap toldRound e)
-
-pub shows : {A : Type 0} (room : Reply → A → A) (x y : Reply) (r : ℕ) (old new : A) → x ≡ y → r ≡ numberIn x → new ≡ room x old → (r, new) ≡ shown room old y
-shows room x y r old new e p q = rw (p, q) (ap (shown room old) e)
+use Rattle.rooms.specs.Rooms.{shown, placeRoom}
+use Rattle.capi.specs.Size.{sizeFor}
 
 -- ---- ids that are no nodes
 

@@ -13,7 +13,7 @@ use Rattle.memory.proofs.Demands.{off-state}
 use Rattle.memory.proofs.Image.{zero-no-state}
 use Rattle.switch.specs.Outcome.{Contract, OneOutcome}
 use Rattle.switch.proofs.Outcomes.{parted, roomed, lent}
-use Rattle.capi.specs.Rooms.{told}
+use Rattle.rooms.specs.Rooms.{told}
 use Rattle.capi.proofs.vr_size
 use Rattle.capi.proofs.vr_setup
 use Rattle.capi.proofs.vr_arrive

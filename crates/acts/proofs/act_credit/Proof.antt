@@ -1,6 +1,6 @@
 -- `acts::act_credit` meets its contract: the answer follows the reply of the call. Assumes nothing.
 use borrow.Author.Needs.{needs}
-use Rattle.capi.proofs.Laws.{tells}
+use Rattle.rooms.proofs.Laws.{tells}
 use Rattle.acts.proofs.act_credit.Statement.{statement}
 use Rattle.acts.proofs.act_credit.Tie as tie
 

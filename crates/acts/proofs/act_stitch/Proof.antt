@@ -1,7 +1,7 @@
 -- `acts::act_stitch` meets its contract: the answer and the room follow the reply of the call. Assumes nothing.
 use borrow.Author.Needs.{needs}
-use Rattle.capi.specs.Rooms.{recordRoom}
-use Rattle.capi.proofs.Laws.{tells-in}
+use Rattle.rooms.specs.Rooms.{recordRoom}
+use Rattle.rooms.proofs.Laws.{tells-in}
 use Rattle.acts.proofs.act_stitch.Statement.{statement}
 use Rattle.acts.proofs.act_stitch.Tie as tie
 

@@ -1,7 +1,7 @@
 -- `acts::act_turn` meets its contract: the answer and the room follow the reply of the call. Assumes nothing.
 use borrow.Author.Needs.{needs}
-use Rattle.capi.specs.Rooms.{sentRoom}
-use Rattle.capi.proofs.Laws.{tells-in}
+use Rattle.rooms.specs.Rooms.{sentRoom}
+use Rattle.rooms.proofs.Laws.{tells-in}
 use Rattle.acts.proofs.act_turn.Statement.{statement}
 use Rattle.acts.proofs.act_turn.Tie as tie
 

@@ -1,7 +1,7 @@
 -- `capi::vr_arrive` meets its contract: the answer and the room follow the reply of the call. Assumes nothing.
 use borrow.Author.Needs.{needs}
-use Rattle.capi.specs.Rooms.{entryRoom}
-use Rattle.capi.proofs.Laws.{tells-in}
+use Rattle.rooms.specs.Rooms.{entryRoom}
+use Rattle.rooms.proofs.Laws.{tells-in}
 use Rattle.capi.proofs.vr_arrive.Statement.{statement}
 use Rattle.capi.proofs.vr_arrive.Tie as tie
 

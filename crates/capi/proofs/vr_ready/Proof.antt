@@ -1,7 +1,7 @@
 -- `capi::vr_ready` meets its contract: the answer and the room follow the reply of the call. Assumes nothing.
 use borrow.Author.Needs.{needs}
-use Rattle.capi.specs.Rooms.{readyRoom}
-use Rattle.capi.proofs.Laws.{shows}
+use Rattle.rooms.specs.Rooms.{readyRoom}
+use Rattle.rooms.proofs.Laws.{shows}
 use Rattle.capi.proofs.vr_ready.Statement.{statement}
 use Rattle.capi.proofs.vr_ready.Tie as tie
 

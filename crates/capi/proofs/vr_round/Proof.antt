@@ -1,6 +1,6 @@
 -- `capi::vr_round` meets its contract: the answer follows the reply of the round, which has left memory and room. Assumes nothing.
 use borrow.Author.Needs.{needs}
-use Rattle.capi.proofs.Laws.{tells-round}
+use Rattle.rooms.proofs.Laws.{tells-round}
 use Rattle.capi.proofs.vr_round.Statement.{statement}
 use Rattle.capi.proofs.vr_round.Tie as tie
 

@@ -5,8 +5,9 @@ use borrow.Author.Needs.{needs}
 use Rattle.ledger.specs.Calls.{whereIs}
 use Rattle.ledger.specs.Desk.{act}
 use Rattle.memory.specs.Memory.{M}
-use Rattle.capi.specs.Rooms.{shown, placeRoom}
-use Rattle.capi.proofs.Laws.{shows, asked-same}
+use Rattle.rooms.specs.Rooms.{shown, placeRoom}
+use Rattle.rooms.proofs.Laws.{shows}
+use Rattle.capi.proofs.Laws.{asked-same}
 use Rattle.capi.proofs.vr_where.Statement.{statement}
 use Rattle.capi.proofs.vr_where.Tie as tie
 

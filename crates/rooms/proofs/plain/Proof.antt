@@ -1,7 +1,7 @@
--- `capi::plain` meets its contract: by the answer's cases. Assumes nothing.
+-- `rooms::plain` meets its contract: by the answer's cases. Assumes nothing.
 use borrow.Author.Needs.{needs}
-use Rattle.capi.proofs.plain.Statement.{statement}
-use Rattle.capi.proofs.plain.Tie as tie
+use Rattle.rooms.proofs.plain.Statement.{statement}
+use Rattle.rooms.proofs.plain.Tie as tie
 
 enum-told : tie.Need-enum-told
 enum-told c = search needs

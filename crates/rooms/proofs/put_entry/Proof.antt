@@ -1,7 +1,7 @@
--- `capi::put_entry` meets its contract: by the answer's cases. Assumes nothing.
+-- `rooms::put_entry` meets its contract: by the answer's cases. Assumes nothing.
 use borrow.Author.Needs.{needs}
-use Rattle.capi.proofs.put_entry.Statement.{statement}
-use Rattle.capi.proofs.put_entry.Tie as tie
+use Rattle.rooms.proofs.put_entry.Statement.{statement}
+use Rattle.rooms.proofs.put_entry.Tie as tie
 
 enum-known-answer : tie.Need-enum-known-answer
 enum-known-answer c = search needs

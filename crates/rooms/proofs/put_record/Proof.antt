@@ -1,7 +1,7 @@
--- `capi::put_record` meets its contract: by the answer's cases. Assumes nothing.
+-- `rooms::put_record` meets its contract: by the answer's cases. Assumes nothing.
 use borrow.Author.Needs.{needs}
-use Rattle.capi.proofs.put_record.Statement.{statement}
-use Rattle.capi.proofs.put_record.Tie as tie
+use Rattle.rooms.proofs.put_record.Statement.{statement}
+use Rattle.rooms.proofs.put_record.Tie as tie
 
 enum-told : tie.Need-enum-told
 enum-told c = search needs

@@ -1,7 +1,7 @@
--- `capi::put_sent` meets its contract: by the answer's cases. Assumes nothing.
+-- `rooms::put_sent` meets its contract: by the answer's cases. Assumes nothing.
 use borrow.Author.Needs.{needs}
-use Rattle.capi.proofs.put_sent.Statement.{statement}
-use Rattle.capi.proofs.put_sent.Tie as tie
+use Rattle.rooms.proofs.put_sent.Statement.{statement}
+use Rattle.rooms.proofs.put_sent.Tie as tie
 
 enum-told : tie.Need-enum-told
 enum-told c = search needs

@@ -1,10 +1,8 @@
 -- What a call of the C interface answers and leaves in the lent room, read off the reply: 0 and the reply's values, or the number of the
 -- refusal and the room as it was. Assumes nothing.
-use mathlib.Core.Bool.{cond}
 use mathlib.Core.List.{List, [], _∷_}
 use Prim.Native.Nat.{ℕ, _/_, _%_, _^_}
 use lib.ListN.{set}
-use Rattle.ledger.specs.Settings.{settings, inRows, size}
 use Rattle.ledger.specs.Ledger.{Packet, Place, free, ingress, egress, prefetched, portOf}
 use Rattle.ledger.specs.Calls.{Side, inside, outside, Reply, refused, done, entry, stitched, idle, leaves, word, found}
 
@@ -122,8 +120,3 @@ placeRoom y idle old = old
 placeRoom y (leaves k s) old = old
 placeRoom y (word w n) old = old
 placeRoom y (found v i) old = placeBytes y v i
-
--- ---- the bytes of a state, which no setting but the nodes changes: asked with the least of the others. 0 if the nodes are not in their row
-
-unfoldable pub sizeFor : ℕ → ℕ
-sizeFor n = cond (inRows (settings n 64 1 0)) (size (settings n 64 1 0)) 0

@@ -1,7 +1,7 @@
--- `capi::side_byte` meets its contract: by the side's cases. Assumes nothing.
+-- `rooms::side_byte` meets its contract: by the side's cases. Assumes nothing.
 use borrow.Author.Needs.{needs}
-use Rattle.capi.proofs.side_byte.Statement.{statement}
-use Rattle.capi.proofs.side_byte.Tie as tie
+use Rattle.rooms.proofs.side_byte.Statement.{statement}
+use Rattle.rooms.proofs.side_byte.Tie as tie
 
 enum-told : tie.Need-enum-told
 enum-told c = search needs
