@@ -36,14 +36,16 @@ beyond m y k = (λ s. go s (state-dec m), λ n. off-state m n (whereIs y))
 -- so an entry above 65535 may be asked as 65535
 pub asked-same :
     (m old : List ℕ) (y : ℕ)
-    → shown (placeRoom (cond (ltb 65535 y) 65535 y)) old (M (act (whereIs (cond (ltb 65535 y) 65535 y))) m .0) ≡ shown (placeRoom y) old (M (act (whereIs y)) m .0)
+    → shown (placeRoom (cond (ltb 65535 y) 65535 y)) old (M (act (whereIs (cond (ltb 65535 y) 65535 y))) m .0)
+    ≡ shown (placeRoom y) old (M (act (whereIs y)) m .0)
 asked-same m old y = go (ltb 65535 y) refl
   where
     same : 65535 < y → (d : Dec (State m)) → shown (placeRoom 65535) old (M (act (whereIs 65535)) m .0) ≡ shown (placeRoom y) old (M (act (whereIs y)) m .0)
     same h (yes s) = rw (beyond m 65535 (omega arith) .0 s, beyond m y (omega arith) .0 s)
     same h (no n) = rw (beyond m 65535 (omega arith) .1 n, beyond m y (omega arith) .1 n)
 
-    go : (t : Bool) → ltb 65535 y ≡ t → shown (placeRoom (cond t 65535 y)) old (M (act (whereIs (cond t 65535 y))) m .0) ≡ shown (placeRoom y) old (M (act (whereIs y)) m .0)
+    go : (t : Bool) → ltb 65535 y ≡ t
+        → shown (placeRoom (cond t 65535 y)) old (M (act (whereIs (cond t 65535 y))) m .0) ≡ shown (placeRoom y) old (M (act (whereIs y)) m .0)
     go true e = same (ltb-yes 65535 y e) (state-dec m)
     go false e = refl
 

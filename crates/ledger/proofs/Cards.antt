@@ -17,4 +17,43 @@ pub cards-hold : All Holds cards
 unfolding number bits crcBit crcBits crcByte crcFrom crc8 isBeat inRows row size fieldsOf price isNode recorded place# placeOf cell creditAt
     setCredit pop push move change start isReady wordOf readyWord maskedAbove pick arrived stitchRecord served roundActs answerBytes
     bytesOf answersIn lib.Count.ones lib.Count.trailingZeros onRefusal
-cards-hold = (refl, (refl, (refl, (refl, (refl, (refl, (refl, (refl, (refl, (refl, (refl, (refl, (refl, (refl, (refl, (refl, (refl, (refl, (refl, (refl, (refl, (refl, (refl, (refl, (refl, (refl, tt))))))))))))))))))))))))))
+cards-hold = (
+  refl,
+  (
+    refl,
+    (
+      refl,
+      (
+        refl,
+        (
+          refl,
+          (
+            refl,
+            (
+              refl,
+              (
+                refl,
+                (
+                  refl,
+                  (
+                    refl,
+                    (
+                      refl,
+                      (
+                        refl,
+                        (
+                          refl,
+                          (refl, (refl, (refl, (refl, (refl, (refl, (refl, (refl, (refl, (refl, (refl, (refl, (refl, tt))))))))))))),
+                        ),
+                      ),
+                    ),
+                  ),
+                ),
+              ),
+            ),
+          ),
+        ),
+      ),
+    ),
+  ),
+)

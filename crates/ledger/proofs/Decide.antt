@@ -79,7 +79,9 @@ module _ (S : Settings) where
   once-dec few ls =
       map-dec
       (λ t. once-by-test S ls (t .0)
-      (λ y h. let n = node-of S y (omega (arith, ap bit h)) in subst (λ (z : ℕ). weigh (one z) ls ≡ 1) (div-add-mod' y 2048) (t .1 (owner y) (n .home) (index y) (n .low))))
+      (λ y h.
+      let n = node-of S y (omega (arith, ap bit h)) in
+      subst (λ (z : ℕ). weigh (one z) ls ≡ 1) (div-add-mod' y 2048) (t .1 (owner y) (n .home) (index y) (n .low))))
       (λ f. (
         everywhere-map ls (λ l k c. node-is S (k .node) (node-of S (k .node) (omega (arith, f (k .node))))) (counted ls),
         λ p hp i hi. f (entryId p i) ∙ ap bit (node-is S (entryId p i) (record { home = omega arith; low = omega arith })),
@@ -129,7 +131,8 @@ module _ (S : Settings) where
   recorded-dec (prefetched p q) k = proper-dec k
 
   -- a rule about each node in its place
-  placed-dec : (P : Place → Packet → Type 0) → ((v : Place) (k : Packet) → Dec (P v k)) → (ls : List (List Packet)) → Dec (Everywhere (λ l k. P (placeOf S l) k) ls)
+  placed-dec : (P : Place → Packet → Type 0) → ((v : Place) (k : Packet) → Dec (P v k)) → (ls : List (List Packet))
+      → Dec (Everywhere (λ l k. P (placeOf S l) k) ls)
   placed-dec P d ls = everywhere-dec (λ l k. P (placeOf S l) k) (λ l k. d (placeOf S l) k) ls
 
   paid-dec : (L : Ledger) → Dec ((p q : ℕ) → p < S .ports → 0 < q → q < S .queues → arrivalOf S L p q + weigh (owed S p q) (L .lists) ≡ S .credit)
@@ -141,7 +144,9 @@ module _ (S : Settings) where
   pub orderly-dec : Roomy S → (L : Ledger) → Dec (Orderly S L)
   orderly-dec r L =
       map-dec
-      (λ t. record { shaped = t .0; ranges = t .1 .0; once = t .1 .1 .0; owned = t .1 .1 .1 .0; queued = t .1 .1 .1 .1 .0; proper = t .1 .1 .1 .1 .1 .0; paid = t .1 .1 .1 .1 .1 .1 })
+      (λ t.
+      let u = t .1 .1 in
+      record { shaped = t .0; ranges = t .1 .0; once = u .0; owned = u .1 .0; queued = u .1 .1 .0; proper = u .1 .1 .1 .0; paid = u .1 .1 .1 .1 })
       (λ s. (s .shaped, (s .ranges, (s .once, (s .owned, (s .queued, (s .proper, s .paid)))))))
       (and-dec (shaped-dec L)
       (and-dec (ranges-dec L)

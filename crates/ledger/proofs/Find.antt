@@ -112,13 +112,15 @@ module _ (S : Settings) (roomy : Roomy S) (L : Ledger) (s : Orderly S L) where
       → step S L (whereIs y) ≡ (found v i, L)
   where-is y v i h k e =
       let f = find-first y (L .lists) (omega (arith, s .once y, bit-le (isNode S y))) (place# S v) i (len S roomy L s v h) k e in
-      let n : Node S (getD (listAt S L v) i (bare 0) .node) = All-at (λ x. Node S (x .node)) (listAt S L v) (bare 0) (nodes S roomy L s .holds (place# S v) (len S roomy L s v h)) i k in
+      let n : Node S (getD (listAt S L v) i (bare 0) .node) =
+      All-at (λ x. Node S (x .node)) (listAt S L v) (bare 0) (nodes S roomy L s .holds (place# S v) (len S roomy L s v h)) i k in
       let n′ : isNode S y ≡ true = node-is S y (rw e at n) in
       rw (n′, f .0, f .1, place-number S v h)
 
   -- what `where` answers of a node is where it stands
   pub where-right : (y : ℕ) → isNode S y ≡ true
-      → (v : Place) × (i : ℕ) × (step S L (whereIs y) ≡ (found v i, L)) × Place·In S v × (i < length (listAt S L v)) × (getD (listAt S L v) i (bare 0) .node ≡ y)
+      → (v : Place) × (i : ℕ) × (step S L (whereIs y) ≡ (found v i, L)) × Place·In S v × (i < length (listAt S L v))
+      × (getD (listAt S L v) i (bare 0) .node ≡ y)
   where-right y e =
       let n = which y (L .lists) in
       let t = stands y (L .lists) (omega (arith, s .once y, ap bit e)) in

@@ -1,6 +1,6 @@
 -- Each way in which a call changes the ledger keeps (b) to (g). Assumes nothing.
 use mathlib.Core.Path.{_≡_, refl, sym, ap, _∙_, subst}
-use mathlib.Core.Logic.{_≢_, _⊎_, inl, inr}
+use mathlib.Core.Logic.{_≢_, _⊎_, inl, inr, ⊎-elim}
 use mathlib.Core.Bool.{Bool, true, false, cond, _&&_}
 use mathlib.Core.List.{List, [], _∷_}
 use Prim.Native.Nat.{ℕ, zero, suc, _+_, _-_, _*_, _≤_, _<_, zero-le, suc-le-suc}
@@ -29,7 +29,8 @@ pub owes-cases : (k : Packet) (p q : ℕ)
 owes-cases k p q = go (eqb (owner (k .node)) p) refl (eqb (k .queue) q) refl
   where
     go : (a : Bool) → eqb (owner (k .node)) p ≡ a → (b : Bool) → eqb (k .queue) q ≡ b
-        → ((owner (k .node) ≡ p) × (k .queue ≡ q) × (cond (a && b) (k .price) 0 ≡ k .price)) ⊎ (((owner (k .node) ≡ p) → (k .queue ≡ q) → ⊥) × (cond (a && b) (k .price) 0 ≡ 0))
+        → ((owner (k .node) ≡ p) × (k .queue ≡ q) × (cond (a && b) (k .price) 0 ≡ k .price)) ⊎
+        (((owner (k .node) ≡ p) → (k .queue ≡ q) → ⊥) × (cond (a && b) (k .price) 0 ≡ 0))
     go true d true e = inl (eqb-yes (owner (k .node)) p d, eqb-yes (k .queue) q e, refl)
     go true d false e = inr ((λ h i. eqb-no (k .queue) q e i), refl)
     go false d b e = inr ((λ h i. eqb-no (owner (k .node)) p d h), refl)
@@ -236,40 +237,39 @@ module _ (S : Settings) (roomy : Roomy S) (L : Ledger) (s : Orderly S L) where
         go (inl h) = h .2 ∙ price-zero k good (h .1)
         go (inr h) = h .1
 
-    pub lowered : k .price ≤ arrivalOf S L own (k .queue) → (r t : ℕ) → t < S .queues
-        → arrivalOf S (putCredit arrival S own (k .queue) (arrivalOf S L own (k .queue) - k .price) L) r t + owes r t k ≡ arrivalOf S L r t
+    -- after the credit of k's port and queue has become v: it is v where k owes, and as it was where k owes nothing
+    credited : (q v : ℕ) → k .queue ≡ q → (r t : ℕ) → t < S .queues
+        → ((arrivalOf S (putCredit arrival S own q v L) r t ≡ v) × (owes r t k ≡ k .price) × (arrivalOf S L r t ≡ arrivalOf S L own q))
+        ⊎ ((arrivalOf S (putCredit arrival S own q v L) r t ≡ arrivalOf S L r t) × (owes r t k ≡ 0))
     unfolding change
-    lowered afford r zero ht =
-        omega (arith, nothing-owed r, credit-none S (setCredit S (L .numbers arrival) own (k .queue) (arrivalOf S L own (k .queue) - k .price)) r, credit-none S (L .numbers arrival) r)
-    lowered afford r (suc t) ht = go (owes-cases k r (suc t))
+    credited q v kq r zero ht =
+        inr (credit-none S (setCredit S (L .numbers arrival) own q v) r ∙ sym (credit-none S (L .numbers arrival) r), nothing-owed r)
+    credited q v kq r (suc t) ht = ⊎-elim (λ h. inl (owing h)) (λ h. inr (clear h)) (owes-cases k r (suc t))
       where
-        lo : ℕ
-        lo = arrivalOf S L own (k .queue) - k .price
-
-        go : ((own ≡ r) × (k .queue ≡ suc t) × (owes r (suc t) k ≡ k .price)) ⊎ (((own ≡ r) → (k .queue ≡ suc t) → ⊥) × (owes r (suc t) k ≡ 0))
-            → arrivalOf S (putCredit arrival S own (k .queue) lo L) r (suc t) + owes r (suc t) k ≡ arrivalOf S L r (suc t)
-        go (inl h) =
-            let same : arrivalOf S L own (k .queue) ≡ arrivalOf S L r (suc t) = ap (λ (a : ℕ). arrivalOf S L a (k .queue)) (h .0) ∙ ap (λ (b : ℕ). arrivalOf S L r b) (h .1) in
-            omega (arith, h .2, same, credit-at S (L .numbers arrival) own (k .queue) lo (s .shaped .numbers-long arrival) home (good .queue-in) r (suc t) (h .0) (h .1) (suc-le-suc zero-le))
-        go (inr h) = omega (arith, h .1, credit-other S (L .numbers arrival) own (k .queue) lo (s .shaped .numbers-long arrival) home (good .queue-in) r (suc t) ht (h .0))
-
-    pub raised : (q : ℕ) → k .queue ≡ q → (r t : ℕ) → t < S .queues
-        → arrivalOf S (putCredit arrival S own q (arrivalOf S L own q + k .price) L) r t ≡ arrivalOf S L r t + owes r t k
-    unfolding change
-    raised q kq r zero ht =
-        omega (arith, nothing-owed r, credit-none S (setCredit S (L .numbers arrival) own q (arrivalOf S L own q + k .price)) r, credit-none S (L .numbers arrival) r)
-    raised q kq r (suc t) ht = go (owes-cases k r (suc t))
-      where
-        hi : ℕ
-        hi = arrivalOf S L own q + k .price
-
         hq : q < S .queues
         hq = omega (arith, good .queue-in)
 
-        go : ((own ≡ r) × (k .queue ≡ suc t) × (owes r (suc t) k ≡ k .price)) ⊎ (((own ≡ r) → (k .queue ≡ suc t) → ⊥) × (owes r (suc t) k ≡ 0))
-            → arrivalOf S (putCredit arrival S own q hi L) r (suc t) ≡ arrivalOf S L r (suc t) + owes r (suc t) k
-        go (inl h) =
-            let qt : q ≡ suc t = sym kq ∙ h .1 in
-            let same : arrivalOf S L own q ≡ arrivalOf S L r (suc t) = ap (λ (a : ℕ). arrivalOf S L a q) (h .0) ∙ ap (λ (b : ℕ). arrivalOf S L r b) qt in
-            omega (arith, h .2, same, credit-at S (L .numbers arrival) own q hi (s .shaped .numbers-long arrival) home hq r (suc t) (h .0) qt (suc-le-suc zero-le))
-        go (inr h) = omega (arith, h .1, credit-other S (L .numbers arrival) own q hi (s .shaped .numbers-long arrival) home hq r (suc t) ht (λ a b. h .0 a (kq ∙ b)))
+        owing : (own ≡ r) × (k .queue ≡ suc t) × (owes r (suc t) k ≡ k .price)
+            → (arrivalOf S (putCredit arrival S own q v L) r (suc t) ≡ v) × (owes r (suc t) k ≡ k .price) × (arrivalOf S L r (suc t) ≡ arrivalOf S L own q)
+        owing h =
+            let qt : q ≡ suc t = sym kq ∙ h .1 in (
+              credit-at S (L .numbers arrival) own q v (s .shaped .numbers-long arrival) home hq r (suc t) (h .0) qt (suc-le-suc zero-le),
+              h .2,
+              ap (λ (a : ℕ). arrivalOf S L a (suc t)) (sym (h .0)) ∙ ap (λ (b : ℕ). arrivalOf S L own b) (sym qt),
+            )
+
+        clear : ((own ≡ r) → (k .queue ≡ suc t) → ⊥) × (owes r (suc t) k ≡ 0)
+            → (arrivalOf S (putCredit arrival S own q v L) r (suc t) ≡ arrivalOf S L r (suc t)) × (owes r (suc t) k ≡ 0)
+        clear h = (
+          credit-other S (L .numbers arrival) own q v (s .shaped .numbers-long arrival) home hq r (suc t) ht (λ a b. h .0 a (kq ∙ b)),
+          h .1,
+        )
+
+    pub lowered : k .price ≤ arrivalOf S L own (k .queue) → (r t : ℕ) → t < S .queues
+        → arrivalOf S (putCredit arrival S own (k .queue) (arrivalOf S L own (k .queue) - k .price) L) r t + owes r t k ≡ arrivalOf S L r t
+    lowered afford r t ht =
+        ⊎-elim (λ h. omega arith) (λ h. omega arith) (credited (k .queue) (arrivalOf S L own (k .queue) - k .price) refl r t ht)
+
+    pub raised : (q : ℕ) → k .queue ≡ q → (r t : ℕ) → t < S .queues
+        → arrivalOf S (putCredit arrival S own q (arrivalOf S L own q + k .price) L) r t ≡ arrivalOf S L r t + owes r t k
+    raised q kq r t ht = ⊎-elim (λ h. omega arith) (λ h. omega arith) (credited q (arrivalOf S L own q + k .price) kq r t ht)

@@ -133,7 +133,8 @@ pub everywhere-pop : {P : ℕ → Packet → Type 0} (a : ℕ) (ls : List (List 
 unfolding pop
 everywhere-pop {P} a ls h e = everywhere-set ls a (drop 1 (getD ls a [])) e (All-drop (P a) (getD ls a []) (e .holds a h))
 
-pub everywhere-push : {P : ℕ → Packet → Type 0} (b : ℕ) (k : Packet) (ls : List (List Packet)) → b < length ls → Everywhere P ls → P b k → Everywhere P (push b k ls)
+pub everywhere-push : {P : ℕ → Packet → Type 0} (b : ℕ) (k : Packet) (ls : List (List Packet)) → b < length ls → Everywhere P ls → P b k
+    → Everywhere P (push b k ls)
 unfolding push
 everywhere-push {P} b k ls h e p = everywhere-set ls b (behind k (getD ls b [])) e (All-behind (P b) k (getD ls b []) (e .holds b h) p)
 

@@ -52,7 +52,8 @@ module _ (S : Settings) (ok : Roomy S) (L : Ledger) (s : Orderly S L) (p : ℕ) 
               (at-push-other (place# S (ingress p)) k l (pop (place# S (free p)) (L .lists)) m ∙ at-pop-other (place# S (free p)) l (L .lists) n);
           other-credit = λ r q hq n. omega (arith, credit own a r q hq, nothing own r q n);
           other-numbers = λ c n.
-              change-other arrival (λ xs. setCredit S xs p (k .queue) (arrivalOf S L p (k .queue) - k .price)) (move S (free p) (ingress p) k L) c (λ e. n (sym e))
+              change-other arrival (λ xs. setCredit S xs p (k .queue) (arrivalOf S L p (k .queue) - k .price)) (move S (free p) (ingress p) k L) c
+              (λ e. n (sym e))
               ∙ unfold move in refl;
         };
       }

@@ -93,8 +93,8 @@ module _ (S : Settings) where
   in-row p (suc (suc k)) hp h0 h = go (ltb k (S .queues)) refl
     where
       go : (b : Bool) → ltb k (S .queues) ≡ b
-          → Place·In S (cond b (egress p k) (prefetched p (k - S .queues)))
-          × (portOf (cond b (egress p k) (prefetched p (k - S .queues))) * (2 + 2 * S .queues) + column S (cond b (egress p k) (prefetched p (k - S .queues))) ≡ p * (2 + 2 * S .queues) + suc (suc k))
+          → let v = cond b (egress p k) (prefetched p (k - S .queues)) in
+          Place·In S v × (portOf v * (2 + 2 * S .queues) + column S v ≡ p * (2 + 2 * S .queues) + suc (suc k))
       go true e = ((hp, ltb-yes k (S .queues) e), refl)
       go false e =
           let n : S .queues ≤ k = ltb-no k (S .queues) e in

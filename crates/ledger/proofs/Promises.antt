@@ -142,7 +142,8 @@ empty-is (k ∷ ks) e = absurd (true≢false (sym e))
 
 pub sound-arrival : (S : Settings) (L : Ledger) (p : ℕ) (h : List ℕ) → SoundArrival S p h → Wanting S L p h (step S L (arrive p h))
 sound-arrival S L p h c =
-    rw (guard-after (noPort S p ∷ headerRules (S .queues) p h) (lastRules S L p (arriving S L p h)) (λ n. (refused n, onRefusal S n (arrive p h) L)) (result S L (arrive p h)) c)
+    let no′ : ℕ → Reply × Ledger = λ n. (refused n, onRefusal S n (arrive p h) L) in
+    rw (guard-after (noPort S p ∷ headerRules (S .queues) p h) (lastRules S L p (arriving S L p h)) no′ (result S L (arrive p h)) c)
     (go (ltb (arrivalOf S L p (arriving S L p h .queue)) (arriving S L p h .price)) refl (isEmpty (listAt S L (free p))) refl)
   where
     go : (a : Bool) → ltb (arrivalOf S L p (arriving S L p h .queue)) (arriving S L p h .price) ≡ a → (b : Bool) → isEmpty (listAt S L (free p)) ≡ b
@@ -158,7 +159,8 @@ none-for-nothing S ok k h above =
     rw (h .price-is) (price-pays (S .beat) (k .queue) (k .len) (omega (arith, ok .low-beat)) above (omega (arith, h .len-low)))
 
 -- and the queue is the one that the header names: a header that is taken in pays unless it names queue 0
-pub no-free-ride : (S : Settings) → Roomy S → (L : Ledger) (p : ℕ) (h : List ℕ) → Clear (rules S L (arrive p h)) → 0 < fieldsOf h .queue → 0 < arriving S L p h .price
+pub no-free-ride : (S : Settings) → Roomy S → (L : Ledger) (p : ℕ) (h : List ℕ) → Clear (rules S L (arrive p h)) → 0 < fieldsOf h .queue
+    → 0 < arriving S L p h .price
 unfolding recorded
 no-free-ride S ok L p h c above =
     none-for-nothing S ok (arriving S L p h) (recorded-proper S ok (firstOf S L (free p) .node) p h (admits S L p h c .header)) above

@@ -123,7 +123,8 @@ module _ (S : Settings) (roomy : Roomy S) where
         let k : Packet = firstOf S L (ingress p) in
         let v-in : Place·In S (ingress p) = (hp, some-queue S roomy L s) in
         let f = first-fits S roomy L s (ingress p) v-in e in
-        keep-moved S roomy L s (ingress p) v-in e (egress (mapOf L (k .dest)) (k .queue)) (s .ranges .numbers-in mapped (k .dest) (f .2 .dest-in), f .2 .queue-in) k refl
+        keep-moved S roomy L s (ingress p) v-in e (egress (mapOf L (k .dest)) (k .queue))
+        (s .ranges .numbers-in mapped (k .dest) (f .2 .dest-in), f .2 .queue-in) k refl
         (λ i. let z : _≡_ {A = ℕ} 0 1 = cc in omega arith)
         (λ a b i. absurd (let z : _≡_ {A = ℕ} 0 1 = cc in omega arith))
         (tt, refl, f .2)
@@ -147,15 +148,18 @@ module _ (S : Settings) (roomy : Roomy S) where
         let k : Packet = firstOf S L (prefetched p q) in
         let f = first-fits S roomy L s (prefetched p q) (hp, hq) e in
         let n = first-node S roomy L s (prefetched p q) (hp, hq) e in
-        let o : Orderly S (putCredit arrival S (owner (k .node)) q (arrivalOf S L (owner (k .node)) q + k .price) (move S (prefetched p q) (free (owner (k .node))) (bare (k .node)) L)) =
+        let home : ℕ = owner (k .node) in
+        let N : Ledger = putCredit arrival S home q (arrivalOf S L home q + k .price) (move S (prefetched p q) (free home) (bare (k .node)) L) in
+        let o : Orderly S N =
         keep-traded S roomy L s (prefetched p q) (hp, hq) e (free (owner (k .node))) (n .home, some-queue S roomy L s) (bare (k .node)) refl
         (λ i. let z : _≡_ {A = ℕ} 0 1 = cc in omega arith)
         (λ a b i. absurd (let z : _≡_ {A = ℕ} 0 1 = cc in omega arith))
         (refl, tt, tt)
         (owner (k .node)) q (arrivalOf S L (owner (k .node)) q + k .price)
         (λ r t ht. omega (arith, raised S roomy L s k (f .2) (n .home) q (f .1) r t ht)) in
-        let u : Orderly S (putCredit outward S p q (outwardOf S L p q - k .price) (putCredit arrival S (owner (k .node)) q (arrivalOf S L (owner (k .node)) q + k .price) (move S (prefetched p q) (free (owner (k .node))) (bare (k .node)) L))) =
-        keep-outward S roomy _ o p q (outwardOf S L p q - k .price) (omega (arith, credit-in S (L .numbers outward) 65535 (s .ranges .numbers-in outward) p q hp hq)) in
+        let u : Orderly S (putCredit outward S p q (outwardOf S L p q - k .price) N) =
+        keep-outward S roomy _ o p q (outwardOf S L p q - k .price)
+        (omega (arith, credit-in S (L .numbers outward) 65535 (s .ranges .numbers-in outward) p q hp hq)) in
         keep-put S roomy _ u last (λ i. let z : _≡_ {A = ℕ} 0 1 = cc in omega arith) p q hq
 
     keep-turned : (p w : ℕ) → p < S .ports

@@ -181,16 +181,19 @@ cards =
     ∷ says (setUp 256 64 1 0 ∷ setUp 0 64 1 0 ∷ setUp 2049 64 1 0 ∷ setUp 1222 64 1 0 ∷ setUp 1223 64 1 0 ∷ setUp 2048 64 1 0 ∷ [])
     (done ∷ refused 2 ∷ refused 2 ∷ done ∷ refused 1 ∷ refused 1 ∷ [])
     ∷ lent (size (settings 2048 64 1 0) - 1) (setUp 2048 64 1 0 ∷ []) (refused 1 ∷ [])
-    ∷ lent (size (settings 2048 64 1 0)) (setUp 2048 64 1 0 ∷ act (whereIs 8191) ∷ act (whereIs 8192) ∷ act (arrive 3 (header 0 3 0 12)) ∷ act (whereIs 8191) ∷ [])
+    ∷ lent (size (settings 2048 64 1 0))
+    (setUp 2048 64 1 0 ∷ act (whereIs 8191) ∷ act (whereIs 8192) ∷ act (arrive 3 (header 0 3 0 12)) ∷ act (whereIs 8191) ∷ [])
     (done ∷ found (free 3) 2047 ∷ refused 15 ∷ entry 6144 ∷ found (free 3) 2046 ∷ [])
     ∷ says (setUp 2 64 1 16 ∷ (brought 0 12 ++ (act (prefetch 0 0) ∷ [])))
     (done ∷ entry 0 ∷ twelve-record ∷ entry 0 ∷ refused 12 ∷ [])
-    ∷ serves (setUp 9 64 2 16 ∷ (brought 5 12 ++ (act (credit 0 5 9) ∷ act (turn 0) ∷ (twice 2 ++ (twice 5 ++ (twice 9 ++ turns 3)))))) 27 (9 ∷ 548 ∷ 2 ∷ 548 ∷ 5 ∷ 548 ∷ [])
+    ∷ serves (setUp 9 64 2 16 ∷ (brought 5 12 ++ (act (credit 0 5 9) ∷ act (turn 0) ∷ (twice 2 ++ (twice 5 ++ (twice 9 ++ turns 3)))))) 27
+    (9 ∷ 548 ∷ 2 ∷ 548 ∷ 5 ∷ 548 ∷ [])
     ∷ serves (setUp 49 64 2 16 ∷ (brought 5 12 ++ (act (credit 0 5 9) ∷ act (turn 0) ∷ (all-twice 0 24 ++ turns 24)))) 220 (5 ∷ 16777215 ∷ [])
     ∷ costs 12 1 ∷ costs 64 1 ∷ costs 65 2 ∷ costs 76 2 ∷ costs 8191 128
     ∷ says (setUp 1 64 1 0 ∷ (brought 0 8191 ++ (act (turn 0) ∷ [])))
     (done ∷ entry 0 ∷ plain-record 0 8191 ∷ entry 0 ∷ leaves (plain 0 8191 0) inside ∷ [])
-    ∷ says (setUp 1 64 1 1 ∷ act (arrive 0 (sealed (nine 0 0 23 12 1))) ∷ act (arrive 0 (header 0 0 24 12)) ∷ act (arrive 0 (header 0 0 31 12)) ∷ act (arrive 0 (sealed (nine 0 0 23 12 2))) ∷ [])
+    ∷ says (setUp 1 64 1 1 ∷ act (arrive 0 (sealed (nine 0 0 23 12 1))) ∷ act (arrive 0 (header 0 0 24 12))
+    ∷ act (arrive 0 (header 0 0 31 12)) ∷ act (arrive 0 (sealed (nine 0 0 23 12 2))) ∷ [])
     (done ∷ refused 20 ∷ refused 19 ∷ refused 19 ∷ entry 0 ∷ [])
     ∷ one-by-one 24 ∷ one-by-one 31
     ∷ crossing

@@ -314,7 +314,8 @@ module _ (S : Settings) (m : List ℕ) (P : Tidy S m) where
       omega (
         arith,
         nodes-length S m l,
-        pigeonholes (S .ports * 2048) (nodesOf S m l) (All-map (nodesOf S m l) (node-below S) (members l h)) (λ y. omega (arith, times-le S m y l h, once-most y)),
+        pigeonholes (S .ports * 2048) (nodesOf S m l) (All-map (nodesOf S m l) (node-below S) (members l h))
+            (λ y. omega (arith, times-le S m y l h, once-most y)),
       )
 
   pub total-bound : Roomy S → (l : ℕ) → l < lists S → get S m Count l ≤ 65536
@@ -339,7 +340,8 @@ module _ (S : Settings) (m m′ : List ℕ) where
   chain-grown zero x d z a e = ap (λ (y : ℕ). x ∷ y ∷ []) e
   chain-grown (suc n) x d z a e = rw (a .0) (ap (λ (ys : List ℕ). x ∷ ys) (chain-grown n (get S m Next (slot S x)) x z (a .1) e))
 
-  pub nodes-same : (l : ℕ) → get S m′ Head l ≡ get S m Head l → get S m′ Count l ≡ get S m Count l → All SameNext (nodesOf S m l) → nodesOf S m′ l ≡ nodesOf S m l
+  pub nodes-same : (l : ℕ) → get S m′ Head l ≡ get S m Head l → get S m′ Count l ≡ get S m Count l → All SameNext (nodesOf S m l)
+      → nodesOf S m′ l ≡ nodesOf S m l
   unfolding nodesOf
   nodes-same l h c a = rw (h, c) (chain-same (get S m Count l) (get S m Head l) a)
 

@@ -64,7 +64,8 @@ module _ (S : Settings) (t : Table) (g f : ℕ → ℕ) where
   fill-get (suc n) m i w l h = go (ℕ-discrete i n) (fill-get n m i (fewer n w) l)
     where
       go : Dec (i ≡ n) → (i < n → get S (fill S t g f n m) t (g i) ≡ f i) → get S (fill S t g f (suc n) m) t (g i) ≡ f i
-      go (yes e) rest = rw e (get-put S (fill S t g f n m) t (g n) (f n) (omega (arith, length-fill n m)) (w .in-table n (omega arith)) (w .small n (omega arith)))
+      go (yes e) rest =
+          rw e (get-put S (fill S t g f n m) t (g n) (f n) (omega (arith, length-fill n m)) (w .in-table n (omega arith)) (w .small n (omega arith)))
       go (no d) rest =
           get-put-else S (fill S t g f n m) t (g n) (f n) t (g i) (w .in-table n (omega arith)) (w .in-table i h)
           (λ e z. d (w .apart i n h (omega arith) (omega arith)))
@@ -113,7 +114,8 @@ module _ (S : Settings) (r : Roomy S) where
     where
       go : Dec (p ≡ n) → (p < n → suc i < S .nodes → get S (allLinked S n m) Next (p * S .nodes + i) ≡ entryId p (suc i))
           → get S (allLinked S (suc n) m) Next (p * S .nodes + i) ≡ entryId p (suc i)
-      go (yes e) rest = rw e (fill-get S Next _ _ (S .nodes - 1) (allLinked S n m) i (links-fit n (omega arith)) (omega (arith, length-links S n m)) (omega arith))
+      go (yes e) rest =
+          rw e (fill-get S Next _ _ (S .nodes - 1) (allLinked S n m) i (links-fit n (omega arith)) (omega (arith, length-links S n m)) (omega arith))
       go (no d) rest =
           fill-else S Next _ _ (S .nodes - 1) (allLinked S n m) Next (p * S .nodes + i) (links-fit n (omega arith))
           (row-lt (S .nodes) (S .ports) p i (omega arith) (omega arith))

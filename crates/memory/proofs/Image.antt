@@ -114,7 +114,9 @@ module _ (S : Settings) (r : Roomy S) (m : List ℕ) (F : Fresh S m) where
   fresh-list : (l : ℕ) → l < lists S → map (nodeIn S m l) (nodesOf S m l) ≡ getD (startLists S 0 (S .ports)) l []
   fresh-list =
       by-row S (λ l. map (nodeIn S m l) (nodesOf S m l) ≡ getD (startLists S 0 (S .ports)) l [])
-      (λ p h. rw (first-nodes p h) (map-run (nodeIn S m (p * row S)) (entryId p 0) (S .nodes) (bare-in p) ∙ sym (rw (add-zero (p * row S)) at (start-first S p h))))
+      (λ p h.
+      rw (first-nodes p h)
+      (map-run (nodeIn S m (p * row S)) (entryId p 0) (S .nodes) (bare-in p) ∙ sym (rw (add-zero (p * row S)) at (start-first S p h))))
       (λ p c h k. rw (other-nodes p c h k) (sym (start-empty S p c h k)))
 
   pub fresh-ledger : ledgerIn S m ≡ start S

@@ -35,7 +35,8 @@ pub record Kept (S : Settings) (m m′ : List ℕ) : Type 0 where
   pub tidy : Tidy S m′
 
 pub kept-then : (S : Settings) (m m′ m″ : List ℕ) → Kept S m m′ → Kept S m′ m″ → Kept S m m″
-kept-then S m m′ m″ a b = record { settings = b .settings ∙ a .settings; same-length = b .same-length ∙ a .same-length; past = b .past ∙ a .past; tidy = b .tidy }
+kept-then S m m′ m″ a b =
+    record { settings = b .settings ∙ a .settings; same-length = b .same-length ∙ a .same-length; past = b .past ∙ a .past; tidy = b .tidy }
 
 -- a column that is put back as it was
 unchanged : (c : Column) (L : Ledger) → L ≡ change c (λ xs. xs) L
@@ -127,7 +128,8 @@ module _ (S : Settings) (ok : Roomy S) (m : List ℕ) (t : Tidy S m) where
       credit-kept zero v hq = record { settings = refl; same-length = refl; past = refl; tidy = t }
       credit-kept (suc r) v hq = column-kept (cell S p r) v (rw credits (cell-lt S p r hp hq))
 
-      pub credit-paint : (q v : ℕ) → q < S .queues → v < 256 ^ width (tableOf c) → ledgerIn S (creditMem S (tableOf c) p q v m) ≡ putCredit c S p q v (ledgerIn S m)
+      pub credit-paint : (q v : ℕ) → q < S .queues → v < 256 ^ width (tableOf c)
+          → ledgerIn S (creditMem S (tableOf c) p q v m) ≡ putCredit c S p q v (ledgerIn S m)
       unfolding creditMem setCredit
       credit-paint zero v hq b = unchanged c (ledgerIn S m)
       credit-paint (suc r) v hq b = column-paint (cell S p r) v (rw credits (cell-lt S p r hp hq)) b

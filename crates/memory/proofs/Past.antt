@@ -62,7 +62,14 @@ picture-past xs ys long = go (state-dec xs)
     settings-same : settingsIn (xs ++ ys) ≡ S
     settings-same =
         settings-are S (xs ++ ys)
-        ∙ rw (same Setting 0 (omega arith), same Setting 1 (omega arith), same Setting 2 (omega arith), same Setting 3 (omega arith), same Setting 4 (omega arith), same Setting 5 (omega arith))
+        ∙ rw (
+          same Setting 0 (omega arith),
+          same Setting 1 (omega arith),
+          same Setting 2 (omega arith),
+          same Setting 3 (omega arith),
+          same Setting 4 (omega arith),
+          same Setting 5 (omega arith),
+        )
         (sym (settings-are S xs))
 
     longer : size S ≤ length (xs ++ ys)
@@ -73,7 +80,8 @@ picture-past xs ys long = go (state-dec xs)
 
     go : Dec (State xs) → picture (xs ++ ys) ≡ picture xs
     go (yes s) =
-        picture-is S (xs ++ ys) (ledgerIn S xs) settings-same (state-agrees S xs (xs ++ ys) same longer s) (ledger-agrees S xs (xs ++ ys) (C.state-tidy S xs s) same)
+        picture-is S (xs ++ ys) (ledgerIn S xs) settings-same (state-agrees S xs (xs ++ ys) same longer s)
+        (ledger-agrees S xs (xs ++ ys) (C.state-tidy S xs s) same)
         ∙ sym (picture-state xs s)
     go (no n) = picture-none (xs ++ ys) (λ t. n (back t)) ∙ sym (picture-none xs n)
 

@@ -48,7 +48,8 @@ record Grown (S : Settings) (m : List ℕ) (b x : ℕ) (m′ : List ℕ) : Type 
   long-is : length m′ ≡ length m
   settings-are : settingsIn m′ ≡ settingsIn m
   past : drop (size S) m′ ≡ drop (size S) m
-  others : (q : Table) (j : ℕ) → turnOf q ≢ turnOf Head → turnOf q ≢ turnOf Tail → turnOf q ≢ turnOf Count → turnOf q ≢ turnOf Next → j < many S q → get S m′ q j ≡ get S m q j
+  others : (q : Table) (j : ℕ) → turnOf q ≢ turnOf Head → turnOf q ≢ turnOf Tail → turnOf q ≢ turnOf Count → turnOf q ≢ turnOf Next → j < many S q
+      → get S m′ q j ≡ get S m q j
   tail-is : get S m′ Tail b ≡ x
   tails : (l : ℕ) → l < lists S → l ≢ b → get S m′ Tail l ≡ get S m Tail l
   nodes-other : (l : ℕ) → l < lists S → l ≢ b → nodesOf S m′ l ≡ nodesOf S m l

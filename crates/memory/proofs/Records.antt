@@ -48,7 +48,8 @@ module _ (S : Settings) (m m′ : List ℕ) (P : Tidy S m) (K : Kept S m m′) w
 
 -- ---- the record of a node that stands nowhere: no list shows it
 
-module _ (S : Settings) (m : List ℕ) (t : Table) (x v : ℕ) (P : Tidy S m) (k : IsRecord t) (hx : isNode S x ≡ true) (gone : weigh (one x) (ledgerIn S m .lists) ≡ 0) where
+module _ (S : Settings) (m : List ℕ) (t : Table) (x v : ℕ) (P : Tidy S m) (k : IsRecord t) (hx : isNode S x ≡ true)
+    (gone : weigh (one x) (ledgerIn S m .lists) ≡ 0) where
   record-else : (q : Table) (j : ℕ) → turnOf q ≢ turnOf t → j < many S q → get S (put S t (slot S x) v m) q j ≡ get S m q j
   record-else q j n h = get-put-else S m t (slot S x) v q j (C.slot-record S x t hx k) h (λ e d. n (sym (ap turnOf e)))
 
@@ -115,7 +116,8 @@ module _ (S : Settings) (m : List ℕ) (c : Column) (i v : ℕ) (P : Tidy S m) (
 
   pub column-put : ledgerIn S now ≡ putIn c i v (ledgerIn S m)
   unfolding ledgerIn change
-  column-put = λ k. record { lists = column-lists S m (tableOf c) i v P hi (C.column-table S c .low) k; numbers = λ d. go d (ℕ-discrete (column# c) (column# d)) k }
+  column-put =
+      λ k. record { lists = column-lists S m (tableOf c) i v P hi (C.column-table S c .low) k; numbers = λ d. go d (ℕ-discrete (column# c) (column# d)) k }
     where
       shown : List ℕ → Column → List ℕ
       shown x d = tabulate (get S x (tableOf d)) 0 (tall S d)

@@ -65,7 +65,8 @@ module _ (S : Settings) (ok : Roomy S) (m : List ℕ) (s : StateOf S m) where
   first-held v h n e = pop-item S ok m tidy-of (place# S v) (place#-lt S v h) e ∙ held-in S m v h n (headOf S m v)
 
   first-free : (p : ℕ) → Place·In S (free p) → isEmpty (listAt S L (free p)) ≡ false → firstOf S L (free p) .node ≡ headOf S m (free p)
-  first-free p h e = ap (λ (k : Packet). k .node) (pop-item S ok m tidy-of (place# S (free p)) (place#-lt S (free p) h) e ∙ free-in S m p h (headOf S m (free p)))
+  first-free p h e =
+      ap (λ (k : Packet). k .node) (pop-item S ok m tidy-of (place# S (free p)) (place#-lt S (free p) h) e ∙ free-in S m p h (headOf S m (free p)))
 
   -- a movement
   module _ (v w : Place) (hv : Place·In S v) (hw : Place·In S w) (e : isEmpty (listAt S L v) ≡ false) where
@@ -163,7 +164,8 @@ module _ (S : Settings) (ok : Roomy S) (m : List ℕ) (s : StateOf S m) where
         push-paint S ok n₂ (s₂ .tidy) (k .node) k-on gone₂ (place# S (ingress p)) (place#-lt S (ingress p) v-in)
         ∙ ap (λ (j : Packet). withLists (push (place# S (ingress p)) j (ledgerIn S n₂ .lists)) (ledgerIn S n₂))
         (held-in S n₂ (ingress p) v-in (omega arith) (k .node) ∙ record-packet S ok n₁ s₁ k k-on good)
-        ∙ ap (λ (N : Ledger). withLists (push (place# S (ingress p)) k (N .lists)) N) (same₂ ∙ pop-paint S ok m tidy-of (place# S (free p)) (place#-lt S (free p) v-in) e)
+        ∙ ap (λ (N : Ledger). withLists (push (place# S (ingress p)) k (N .lists)) N)
+        (same₂ ∙ pop-paint S ok m tidy-of (place# S (free p)) (place#-lt S (free p) v-in) e)
 
     few : arrivalOf S L p (k .queue) - k .price < 65536
     few = omega (arith, credit-in S (L .numbers arrival) 65535 (o .ranges .numbers-in arrival) p (k .queue) hp (good .queue-in))
@@ -214,9 +216,14 @@ module _ (S : Settings) (ok : Roomy S) (m : List ℕ) (s : StateOf S m) where
             let c = credit-same S (L .numbers arrival) (owner (j .node)) q given (o .shaped .numbers-long arrival) (home .0) hq h in
             unfold served change move in omega (arith, k, c)
 
-        go : (t : ℕ) → t < S .queues → j .queue ≡ t → (0 < t → arrivalOf S L (owner (j .node)) t + j .price ≤ 65535) → arrivalOf S L (owner (j .node)) t + j .price < 65536
+        go : (t : ℕ) → t < S .queues → j .queue ≡ t → (0 < t → arrivalOf S L (owner (j .node)) t + j .price ≤ 65535)
+            → arrivalOf S L (owner (j .node)) t + j .price < 65536
         go zero h i f =
-            omega (arith, credit-none S (L .numbers arrival) (owner (j .node)), fits .1 .price-is ∙ ap (λ (t : ℕ). price (S .beat) t (j .len)) i ∙ price-free (S .beat) (j .len))
+            omega (
+              arith,
+              credit-none S (L .numbers arrival) (owner (j .node)),
+              fits .1 .price-is ∙ ap (λ (t : ℕ). price (S .beat) t (j .len)) i ∙ price-free (S .beat) (j .len),
+            )
         go (suc t) h i f = omega (arith, f (omega arith))
 
     abbrev left : ℕ
@@ -299,12 +306,17 @@ module _ (S : Settings) (ok : Roomy S) (m : List ℕ) (s : StateOf S m) where
       let v-in : Place·In S (ingress p) = (hp, some-queue S ok L o) in
       let f = first-fits S ok L o (ingress p) v-in (c .1 .0) in
       let w-in : (k : Packet) → firstOf S L (ingress p) ≡ k → Place·In S (egress (mapOf L (k .dest)) (k .queue)) =
-      λ k i. subst (λ (k : Packet). Place·In S (egress (mapOf L (k .dest)) (k .queue))) i (o .ranges .numbers-in mapped (firstOf S L (ingress p) .dest) (f .2 .dest-in), f .2 .queue-in) in
+      λ k i. subst (λ (k : Packet). Place·In S (egress (mapOf L (k .dest)) (k .queue))) i
+      (o .ranges .numbers-in mapped (firstOf S L (ingress p) .dest) (f .2 .dest-in), f .2 .queue-in) in
       let k-is = first-held (ingress p) v-in (omega arith) (c .1 .0) in
       subst (λ (k : Packet). Painted (moveMem S (ingress p) (egress (mapOf L (k .dest)) (k .queue)) m) (result S L (stitch p) .1)) k-is
       (record {
-        kept = move-kept (ingress p) (egress (mapOf L (firstOf S L (ingress p) .dest)) (firstOf S L (ingress p) .queue)) v-in (w-in (firstOf S L (ingress p)) refl) (c .1 .0);
-        shows = held-paint (ingress p) (egress (mapOf L (firstOf S L (ingress p) .dest)) (firstOf S L (ingress p) .queue)) v-in (w-in (firstOf S L (ingress p)) refl) (c .1 .0) (omega arith) (omega arith);
+        kept =
+            move-kept (ingress p) (egress (mapOf L (firstOf S L (ingress p) .dest)) (firstOf S L (ingress p) .queue)) v-in
+            (w-in (firstOf S L (ingress p)) refl) (c .1 .0);
+        shows =
+            held-paint (ingress p) (egress (mapOf L (firstOf S L (ingress p) .dest)) (firstOf S L (ingress p) .queue)) v-in
+            (w-in (firstOf S L (ingress p)) refl) (c .1 .0) (omega arith) (omega arith);
       })
   painted (prefetch p q) c =
       let hp = leb-no (S .ports) p (c .0) in

@@ -140,13 +140,20 @@ module _ (S : Settings) where
             ∙ fill-other S Last _ _ (S .ports) (settled S m) Setting i marks-fit h (omega arith)
             ∙ fill-get S Setting _ _ 6 m i settings-fit long h;
         number-at = number;
-        head-at = λ p h. from-headed Head (p * row S) (first-lt p h) (omega arith) ∙ fill-get S Head _ _ (S .ports) (credited S m) p heads-fit (simp length-fill long) h;
-        tail-at = λ p h. from-tailed Tail (p * row S) (first-lt p h) (omega arith) ∙ fill-get S Tail _ _ (S .ports) (headed S m) p tails-fit (simp length-fill long) h;
-        count-at = λ p h. from-counted Count (p * row S) (first-lt p h) (omega arith) ∙ fill-get S Count _ _ (S .ports) (tailed S m) p counts-fit (simp length-fill long) h;
+        head-at =
+            λ p h. from-headed Head (p * row S) (first-lt p h) (omega arith)
+            ∙ fill-get S Head _ _ (S .ports) (credited S m) p heads-fit (simp length-fill long) h;
+        tail-at =
+            λ p h. from-tailed Tail (p * row S) (first-lt p h) (omega arith)
+            ∙ fill-get S Tail _ _ (S .ports) (headed S m) p tails-fit (simp length-fill long) h;
+        count-at =
+            λ p h. from-counted Count (p * row S) (first-lt p h) (omega arith)
+            ∙ fill-get S Count _ _ (S .ports) (tailed S m) p counts-fit (simp length-fill long) h;
         count-else = λ p c h k.
             let l : p * row S + suc c < lists S = row-lt (row S) (S .ports) p (suc c) h k in
             from-counted Count (p * row S + suc c) l (omega arith)
-            ∙ fill-else S Count _ _ (S .ports) (tailed S m) Count (p * row S + suc c) counts-fit l (λ q b z e. omega (arith, row-inj (row S) q p 0 (suc c) (row-pos S) k (omega arith)))
+            ∙ fill-else S Count _ _ (S .ports) (tailed S m) Count (p * row S + suc c) counts-fit l
+            (λ q b z e. omega (arith, row-inj (row S) q p 0 (suc c) (row-pos S) k (omega arith)))
             ∙ fill-other S Tail _ _ (S .ports) (headed S m) Count (p * row S + suc c) tails-fit l (omega arith)
             ∙ fill-other S Head _ _ (S .ports) (credited S m) Count (p * row S + suc c) heads-fit l (omega arith)
             ∙ unfilled Count (p * row S + suc c) l (omega arith) (omega arith) (omega arith)

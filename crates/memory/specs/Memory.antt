@@ -15,15 +15,17 @@ use Rattle.layout.specs.Picture.{settingsIn, nodesOf, ledgerIn, lastD, Hangs, S
 use Rattle.memory.specs.Writes.{write}
 use Rattle.memory.specs.Image.{setupMem}
 
--- whether a memory is a switch state can be decided
+-- Whether a memory is a switch state can be decided. What is taken from proofs here adds nothing to believe: a decision of `State m` is a
+-- proof of it or of its contrary, so `picture` shows a desk exactly where `State m` holds, whichever way the decision is made.
 pub state-dec : (m : List ℕ) → Dec (State m)
 state-dec m =
+    let S = settingsIn m in
     map-dec
     (λ t. record { long = t .0; hangs = t .1 .0; sound = t .1 .1 })
     (λ s. (s .long, (s .hangs, s .sound)))
-    (and-dec (decLe (size (settingsIn m)) (length m))
-    (and-dec (below-dec (Hangs (settingsIn m) m) (lists (settingsIn m)) (λ l. ℕ-discrete (lastD (nodesOf (settingsIn m) m l) (get (settingsIn m) m Tail l)) (get (settingsIn m) m Tail l)))
-    (sound-dec (settingsIn m) (ledgerIn (settingsIn m) m))))
+    (and-dec (decLe (size S) (length m))
+    (and-dec (below-dec (Hangs S m) (lists S) (λ l. ℕ-discrete (lastD (nodesOf S m l) (get S m Tail l)) (get S m Tail l)))
+    (sound-dec S (ledgerIn S m))))
 
 -- the desk that a memory pictures: none where it is no switch state
 abbrev pub deskOf : (m : List ℕ) → Dec (State m) → Desk

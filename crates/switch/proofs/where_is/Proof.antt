@@ -28,7 +28,8 @@ returns : tie.Need-returns
 returns c =
     let t = c .before .before in
     let a = t .before .before .before .before .args in
-    c .where-is .ensures ∙ ap (λ (out : Reply × List ℕ). out .0) (on-state _ (a .m .now) (sym (t .before .before .test .ensures) ∙ t .s .given .1) (whereIs (a .id .0)))
+    c .where-is .ensures
+    ∙ ap (λ (out : Reply × List ℕ). out .0) (on-state _ (a .m .now) (sym (t .before .before .test .ensures) ∙ t .s .given .1) (whereIs (a .id .0)))
 
 returns-2 : tie.Need-returns-2
 returns-2 c =
