@@ -47,7 +47,7 @@ static void make_header(struct packet p, uint8_t h[10])
 /* Whether a call was done; a refusal is printed. */
 static int done(const char *step, uint32_t answer)
 {
-    if (answer == 0) return 1;
+    if (answer == VR_DONE) return 1;
     printf("%s: refused %" PRIu32 "\n", step, answer);
     return 0;
 }
@@ -85,7 +85,7 @@ static void run_round(void)
     printf("round:");
     for (int port = 0; port < 4; port++) {
         const uint8_t *t = turns + 4 * port;
-        if (t[0] != 0)
+        if (t[0] != VR_DONE)
             printf(" port %d is refused %u", port, t[0]); /* not on a switch state */
         else if (t[1] != 0)
             printf(" port %d is idle", port);

@@ -1,31 +1,11 @@
 /* The queue manager of the packet switch: four ports, 24 queues a port, in memory that the caller lends.
  *
- * Every call but vr_size answers 0, or the number of a refusal; a refused call changes no byte that was lent, the room for its answer
- * included. Nothing has to be checked beforehand: any memory and any numbers are taken.
- *
- *   no.  meaning                                    given by
- *    1   memory shorter than the nodes need         setup
- *    2   a setting not in its row                   setup
- *    3   memory is no switch state                  all but setup
- *    4   port above 3                               all with a port
- *    5   queue above 23; for credit also 0          prefetch, credit
- *    6   header not ten bytes                       arrive
- *    7   checksum differs                           arrive
- *    8   header's source isn't the arriving port    arrive
- *    9   length under 12                            arrive
- *   10   price above arrival credit                 arrive
- *   11   free list empty                            arrive
- *   12   list to take from is empty                 stitch, prefetch
- *   13   all slots in use                           prefetch
- *   14   sum above 65,535                           credit
- *   15   id above 3; no such node                   map, where
- *   19   header's queue above 23                    arrive
- *   20   header's reserved bit is 1                 arrive
- *   27   room of less than four bytes a port        round
+ * Every call but vr_size answers VR_DONE, which is 0, or a refusal's number (enum vr_answer); a refused call changes no byte that was lent,
+ * the room for its answer included. Nothing has to be checked beforehand: any memory and any numbers are taken.
  *
  * A packet's price is its length divided by the beat, rounded up; packets of queue 0 are free.
  *
- * Setup tests 2, then 1. The others test 3 first, then in the table's order, but map tests 15 before 4, and arrive's order is
+ * Setup tests 2, then 1. The others test 3 first, then in the order of their numbers, but map tests 15 before 4, and arrive's order is
  * 3, 4, 6, 7, 20, 8, 9, 19, 10, 11.
  *
  * What C asks remains the caller's: each pointer is valid, and not null, for the length given (a room for its whole size); pointers to
@@ -48,6 +28,29 @@
 #ifdef __cplusplus
 extern "C" {
 #endif
+
+/* What a call answers. Beside each refusal: the calls that give it, and its meaning. */
+enum vr_answer {
+    VR_DONE = 0,
+    VR_SHORT_MEMORY = 1,     /* setup: memory shorter than the nodes need */
+    VR_BAD_SETTING = 2,      /* setup: a setting not in its row */
+    VR_NO_STATE = 3,         /* all but setup: memory is no switch state */
+    VR_NO_PORT = 4,          /* all with a port: port above 3 */
+    VR_NO_QUEUE = 5,         /* prefetch, credit: queue above 23; for credit also 0 */
+    VR_HEADER_SIZE = 6,      /* arrive: header not ten bytes */
+    VR_CHECKSUM = 7,         /* arrive: checksum differs */
+    VR_SOURCE = 8,           /* arrive: header's source isn't the arriving port */
+    VR_TOO_SHORT = 9,        /* arrive: length under 12 */
+    VR_NO_CREDIT = 10,       /* arrive: price above arrival credit */
+    VR_NO_FREE_NODE = 11,    /* arrive: free list empty */
+    VR_NOTHING_THERE = 12,   /* stitch, prefetch: list to take from is empty */
+    VR_SLOTS_IN_USE = 13,    /* prefetch: all slots in use */
+    VR_TOO_MUCH_CREDIT = 14, /* credit: sum above 65,535 */
+    VR_NO_SUCH_ID = 15,      /* map, where: id above 3; no such node */
+    VR_HEADER_QUEUE = 19,    /* arrive: header's queue above 23 */
+    VR_RESERVED_BIT = 20,    /* arrive: header's reserved bit is 1 */
+    VR_SHORT_ROOM = 27,      /* round: room of less than four bytes a port */
+};
 
 /* The bytes that a state of so many nodes a port takes; 0 if nodes is not in its row. */
 uint64_t vr_size(uint32_t nodes);

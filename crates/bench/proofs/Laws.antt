@@ -1,26 +1,23 @@
--- What a call's line says and leaves; a number in decimal as io spells it; and what waits in the buffer, byte by byte; with no code.
--- Assumes nothing.
+-- What a call's line says and leaves, and what is read of the input; with no code. Assumes nothing.
 use mathlib.Core.Logic.{inl, inr}
 use mathlib.Core.Path.{_≡_, refl, sym, ap, _∙_}
-use mathlib.Core.Bool.{Bool, true, false, cond}
+use mathlib.Core.Bool.{true, false}
 use mathlib.Core.List.{List, [], _∷_, _++_}
-use Prim.Native.Nat.{ℕ, zero, suc, _+_, _-_, _*_, _/_, _^_, _≤_, _<_}
-use native.Mathlib.Numerals.{add-one, unary-clauses}
+use Prim.Native.Nat.{ℕ, _+_, _-_, _≤_, _<_}
+use native.Mathlib.Numerals.{add-one}
 use native.Mathlib.Omega.{arith}
-use lib.Dec.{ltb}
-use lib.ListN.{length, getD, take, drop, set, length-set, length-drop, drop-of-length-le}
-use lib.Seq.{take-suc, take-suc-set, take-take, drop-cons, drop-drop, drop-set-lt, getD-drop, length-take-le}
-use borrow.Author.Tests.{lt-ltb, le-ltb}
-use Rattle.io.specs.Digits.{digits, Fewest}
+use lib.ListN.{length, getD, take, drop, set, length-set, length-drop}
+use lib.Seq.{take-suc, take-suc-set, take-take, drop-drop, drop-set-lt, getD-drop}
 use Rattle.ledger.specs.Calls.{Reply}
 use Rattle.memory.specs.Memory.{M}
+use Rattle.output.specs.Buffer.{decimal, queued}
 use Rattle.fields.specs.declared.Order.{Order}
 use Rattle.fields.specs.declared.Order.the-variants.{Setup, Arrive, Stitch, Prefetch, Turn, Credit, Map}
 use Rattle.fields.specs.declared.Read.{Read}
 use Rattle.fields.specs.declared.Read.the-variants as reads
 use Rattle.bench.specs.Inputs.{unread, Kept}
 use Rattle.bench.specs.Orders.{headerIn, callIn, saidOf, carried}
-use Rattle.bench.specs.Lines.{places, decimal, answerText, lineText, lastText, queuedByte, queued}
+use Rattle.bench.specs.Lines.{answerText, lineText, lastText}
 use Rattle.bench.specs.Steps.{answered}
 use Rattle.bench.specs.declared.orders.Said.{Said}
 use Rattle.bench.specs.declared.orders.Said.the-variants.{Node}
@@ -65,72 +62,18 @@ pub goes :
 goes s from n m w {next = next} e header call line =
     rw (e, line) (ap (λ (out : Said × List ℕ). (out .1, queued w (lineText n (out .0)), true, next)) (rw header at call))
 
--- ---- decimals
-
-below-power : (j : ℕ) → j < 10 ^ j
-below-power zero = omega arith
-below-power (suc j) = omega (arith, below-power j)
-
-places-are : (steps n k : ℕ) → k ≤ steps → Fewest 10 1 n k → places steps n ≡ k
-places-are steps n zero h f = omega arith
-places-are zero n (suc k) h f = omega arith
-places-are (suc steps) n (suc zero) h f = rw (lt-ltb n 10 (f .1))
-places-are (suc steps) n (suc (suc k)) h f =
-    let least : 10 ^ k * 10 ≤ n = simp unary-clauses at (f .2 (omega arith)) in
-    let some = below-power k in
-    rw (le-ltb n 10 (omega arith))
-    (ap suc (places-are steps (n / 10) (suc k) (omega arith) (omega arith, omega arith, λ l. simp unary-clauses (omega arith))))
-
--- the fewest digits that hold a number are its decimal
-pub decimal-is : (n k : ℕ) → Fewest 10 1 n k → digits 10 k n ≡ decimal n
-unfolding decimal
-decimal-is n zero f = absurd (omega arith)
-decimal-is n (suc zero) f = ap (λ (j : ℕ). digits 10 j n) (sym (places-are (suc n) n (suc zero) (omega arith) f))
-decimal-is n (suc (suc k)) f =
-    let least : 10 ^ k * 10 ≤ n = simp unary-clauses at (f .2 (omega arith)) in
-    let some = below-power (suc k) in
-    ap (λ (j : ℕ). digits 10 j n) (sym (places-are (suc n) n (suc (suc k)) (omega arith) f))
+-- ---- lines
 
 -- `10 0 6149` and a line feed
 line-card : lineText 10 (Node 6149) ≡ 49 ∷ 48 ∷ 32 ∷ 48 ∷ 32 ∷ 54 ∷ 49 ∷ 52 ∷ 57 ∷ 10 ∷ []
 unfolding lineText answerText decimal
 line-card = refl
 
--- ---- the buffer
-
-queued-append : (w xs ys : List ℕ) → queued w (xs ++ ys) ≡ queued (queued w xs) ys
-queued-append w [] ys = refl
-queued-append w (x ∷ xs) ys = queued-append (queuedByte w x) xs ys
-
--- what waits after some bytes, and then after some more
-pub then-queued : (w xs ys : List ℕ) {w′ r : List ℕ} → w′ ≡ queued w xs → r ≡ queued w′ ys → r ≡ queued w (xs ++ ys)
-then-queued w xs ys first then = then ∙ ap (λ (l : List ℕ). queued l ys) first ∙ sym (queued-append w xs ys)
-
--- a byte is put at the place where room is made for it
-pub byte-put :
-    (out : List ℕ) (waiting at b : ℕ) → length out ≡ 4096 → waiting ≤ 4096 → at < 4096 → at ≡ cond (ltb waiting 4096) waiting 0
-    → take (at + 1) (set out at b) ≡ queued (take waiting out) (b ∷ [])
-byte-put out waiting at b full low fits e =
-    rw (add-one, length-take-le waiting out (omega arith))
-    (take-suc-set out at b (omega arith) ∙ ap (λ (n : ℕ). take n out ++ (b ∷ [])) e ∙ front (ltb waiting 4096))
-  where
-    front : (t : Bool) → take (cond t waiting 0) out ++ (b ∷ []) ≡ cond t (take waiting out) [] ++ (b ∷ [])
-    front true = refl
-    front false = refl
-
 -- what is no bad field has no last line
 pub no-line : (w : List ℕ) (n : ℕ) (read : Read) → (read ≡ reads.Bad → ⊥) → w ≡ queued w (lastText n read)
 no-line w n (reads.Call order next) other = refl
 no-line w n reads.Bad other = absurd (other refl)
 no-line w n reads.End other = refl
-
--- the i-th byte is put, and what is left of the text waits for its turn
-pub text-step :
-    (w w′ s : List ℕ) (i : ℕ) → i < length s → w′ ≡ queued w (getD s i 0 ∷ []) → queued w′ (drop (i + 1) s) ≡ queued w (drop i s)
-text-step w w′ s i h e = rw (e, add-one, drop-cons s i 0)
-
-pub text-end : (w s : List ℕ) (i : ℕ) → length s ≤ i → queued w (drop i s) ≡ w
-text-end w s i h = rw (drop-of-length-le s h)
 
 -- ---- the input
 

@@ -5,12 +5,13 @@ use mathlib.Core.List.{List}
 use Prim.Native.Nat.{ℕ}
 use lib.ListN.{take}
 use Rattle.memory.specs.Memory.{M}
+use Rattle.output.specs.Buffer.{queued}
 use Rattle.fields.specs.Calls.{orderAt}
 use Rattle.fields.specs.declared.Read.{Read}
 use Rattle.fields.specs.declared.Read.the-variants.{Call, Bad, End}
 use Rattle.bench.specs.Inputs.{Kept}
 use Rattle.bench.specs.Orders.{headerIn, callIn, carried}
-use Rattle.bench.specs.Lines.{lineText, lastText, queued}
+use Rattle.bench.specs.Lines.{lineText, lastText}
 use Rattle.bench.specs.declared.Progress.{Progress}
 
 -- after what was read at place `from` of the bytes s: the memory and the bytes that wait, which were m and w; whether the run goes on; and where

@@ -1,7 +1,7 @@
 // The bench: reads tagged fields from standard input, carries each out on a memory of its own, and writes a line for each.
 mod input;
+mod lines;
 mod orders;
-mod output;
 
 use fields::Read;
 use input::Input;
@@ -9,7 +9,8 @@ use orders::Said;
 ghost use mathlib.Core.Path.{_≡_};
 ghost use Prim.Native.Nat.{_≤_};
 ghost use lib.ListN.{take};
-ghost use Rattle.bench.specs.Lines.{lastText, queued};
+ghost use Rattle.output.specs.Buffer.{queued};
+ghost use Rattle.bench.specs.Lines.{lastText};
 ghost use Rattle.bench.specs.Steps.{Stepped};
 
 // How a run stands: what is read of the input, how many bytes wait to be written, and whether the run goes on.
@@ -25,7 +26,7 @@ fn last_line(out: &mut [u8; 4096], waiting: usize, n: u64, read: Read) -> usize
     ensures { λ r. ⌜ (r ≤ 4096) × (take r (now (out .exit)) ≡ queued (take waiting (now (out .entry))) (lastText n read)) ⌝ }
 {
     if let Read::Bad = read {
-        return output::line(out, waiting, n, Said::Bad);
+        return lines::line(out, waiting, n, Said::Bad);
     }
     waiting
 }
@@ -59,7 +60,7 @@ fn step(
     };
     let header = orders::header(part, order);
     let said = orders::carry_out(m, order, header);
-    let waiting = output::line(out, waiting, n, said);
+    let waiting = lines::line(out, waiting, n, said);
     let input = input::passed(input, next);
     Progress {
         input,

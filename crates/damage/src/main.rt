@@ -36,53 +36,32 @@ impl Draws {
     }
 }
 
-// One byte behind those that wait in out; a full out is written first, so that a write moves many lines.
-fn put(out: &mut [u8; 4096], at: usize, b: u8) -> usize {
-    if at < 4096 {
-        out[at] = b;
-        return at + 1;
-    }
-    io::write_all(1, out);
-    out[0] = b;
-    1
-}
-
-// What still waits is written.
-fn flush(out: &[u8], at: usize) {
-    if at <= out.len() {
-        io::write_all(1, &out[..at]);
-    }
-}
-
-fn text(out: &mut [u8; 4096], start: usize, s: &[u8]) -> usize {
-    let mut at = start;
-    let mut i = 0;
-    while i < s.len() {
-        at = put(out, at, s[i]);
-        i += 1;
-    }
-    at
-}
-
-// A number and what follows it.
-fn number(out: &mut [u8; 4096], at: usize, n: u64, after: u8) -> usize {
-    let mut digits = [0u8; 20];
-    let k = io::decimal(n, &mut digits);
-    let end = text(out, at, &digits[..k]);
-    put(out, end, after)
+// A part of a line: a number and what follows it. Here and below at is how many bytes wait in out.
+fn part(out: &mut [u8; 4096], at: usize, n: u64, after: u8) -> usize
+    requires { ⌜ at ≤ 4096 ⌝ }
+    ensures { λ r. ⌜ r ≤ 4096 ⌝ }
+{
+    let end = output::number(out, at, n);
+    output::byte(out, end, after)
 }
 
 // A rule's letter and the item that shows it broken.
-fn item(out: &mut [u8; 4096], at: usize, letter: u8, i: usize) -> usize {
-    let spaced = put(out, at, letter);
-    let end = put(out, spaced, b' ');
-    number(out, end, i as u64, b'\n')
+fn item(out: &mut [u8; 4096], at: usize, letter: u8, i: usize) -> usize
+    requires { ⌜ at ≤ 4096 ⌝ }
+    ensures { λ r. ⌜ r ≤ 4096 ⌝ }
+{
+    let spaced = output::byte(out, at, letter);
+    let end = output::byte(out, spaced, b' ');
+    part(out, end, i as u64, b'\n')
 }
 
-fn rule(out: &mut [u8; 4096], at: usize, found: Broken) -> usize {
+fn rule(out: &mut [u8; 4096], at: usize, found: Broken) -> usize
+    requires { ⌜ at ≤ 4096 ⌝ }
+    ensures { λ r. ⌜ r ≤ 4096 ⌝ }
+{
     match found {
-        Broken::Whole(_) => text(out, at, b"-\n"),
-        Broken::A => text(out, at, b"a\n"),
+        Broken::Whole(_) => output::text(out, at, b"-\n"),
+        Broken::A => output::text(out, at, b"a\n"),
         Broken::B(i) => item(out, at, b'b', i),
         Broken::C(i) => item(out, at, b'c', i),
         Broken::D(i) => item(out, at, b'd', i),
@@ -92,8 +71,11 @@ fn rule(out: &mut [u8; 4096], at: usize, found: Broken) -> usize {
     }
 }
 
-// Whether the test for a state says what the first broken rule says.
-fn agree(found: Broken, tested: Tested) -> bool {
+// A "?" where the test for a state does not say what the first broken rule says.
+fn doubt(out: &mut [u8; 4096], at: usize, found: Broken, tested: Tested) -> usize
+    requires { ⌜ at ≤ 4096 ⌝ }
+    ensures { λ r. ⌜ r ≤ 4096 ⌝ }
+{
     let whole = match found {
         Broken::Whole(_) => true,
         _ => false,
@@ -102,7 +84,10 @@ fn agree(found: Broken, tested: Tested) -> bool {
         Tested::State(_) => true,
         Tested::NoState => false,
     };
-    whole == state
+    if whole == state {
+        return at;
+    }
+    output::byte(out, at, b'?')
 }
 
 // A packet's header arrives: eight draws.
@@ -223,8 +208,8 @@ fn damage(
     out: &mut [u8; 4096],
     start: usize,
 ) -> usize
-    requires { ⌜ 0 < size ⌝ }
-    requires { ⌜ size ≤ 131072 ⌝ }
+    requires { ⌜ (0 < size) × (size ≤ 131072) × (start ≤ 4096) ⌝ }
+    ensures { λ r. ⌜ r ≤ 4096 ⌝ }
 {
     let high = d.next();
     let low = high.next();
@@ -236,13 +221,9 @@ fn damage(
     let found = sound::first_broken(m);
     let tested = sound::test(m);
     m[p] = old;
-    let second = number(out, start, j, b' ');
-    let third = number(out, second, p as u64, b' ');
-    let fourth = if agree(found, tested) {
-        third
-    } else {
-        put(out, third, b'?')
-    };
+    let second = part(out, start, j, b' ');
+    let third = part(out, second, p as u64, b' ');
+    let fourth = doubt(out, third, found, tested);
     rule(out, fourth, found)
 }
 
@@ -253,8 +234,8 @@ fn damages(
     out: &mut [u8; 4096],
     begin: usize,
 ) -> usize
-    requires { ⌜ 0 < size ⌝ }
-    requires { ⌜ size ≤ 131072 ⌝ }
+    requires { ⌜ (0 < size) × (size ≤ 131072) × (begin ≤ 4096) ⌝ }
+    ensures { λ r. ⌜ r ≤ 4096 ⌝ }
 {
     let mut d = start;
     let mut at = begin;
@@ -268,10 +249,8 @@ fn damages(
 }
 
 fn size_for(nodes: u32) -> usize
-    requires { ⌜ 1 ≤ nodes ⌝ }
-    requires { ⌜ nodes ≤ 2048 ⌝ }
-    ensures { λ r. ⌜ 0 < r ⌝ }
-    ensures { λ r. ⌜ r ≤ 131072 ⌝ }
+    requires { ⌜ (1 ≤ nodes) × (nodes ≤ 2048) ⌝ }
+    ensures { λ r. ⌜ (0 < r) × (r ≤ 131072) ⌝ }
 {
     layout::size_of(layout::shape_of(4, 24, nodes as usize, 64, 1, 0))
 }
@@ -286,8 +265,8 @@ fn run(
     out: &mut [u8; 4096],
     first: usize,
 ) -> usize
-    requires { ⌜ 1 ≤ nodes ⌝ }
-    requires { ⌜ nodes ≤ 2048 ⌝ }
+    requires { ⌜ (1 ≤ nodes) × (nodes ≤ 2048) × (first ≤ 4096) ⌝ }
+    ensures { λ r. ⌜ r ≤ 4096 ⌝ }
 {
     let mut m = [165u8; 131072];
     switch::set_up(
@@ -301,12 +280,12 @@ fn run(
     );
     let d = traffic(&mut m, Draws { x: start });
     let size = size_for(nodes);
-    let second = number(out, first, nodes as u64, b' ');
-    let third = number(out, second, beat as u64, b' ');
-    let fourth = number(out, third, slots as u64, b' ');
-    let fifth = number(out, fourth, credit as u64, b' ');
-    let sixth = number(out, fifth, size as u64, b' ');
-    let end = number(out, sixth, checksum(&m, size), b'\n');
+    let second = part(out, first, nodes as u64, b' ');
+    let third = part(out, second, beat as u64, b' ');
+    let fourth = part(out, third, slots as u64, b' ');
+    let fifth = part(out, fourth, credit as u64, b' ');
+    let sixth = part(out, fifth, size as u64, b' ');
+    let end = part(out, sixth, checksum(&m, size), b'\n');
     damages(&mut m, size, d, out, end)
 }
 
@@ -320,7 +299,7 @@ fn run_all(out: &mut [u8; 4096]) {
     let f = run(256, 512, 8, 65535, 12350, out, e);
     let g = run(257, 128, 3, 500, 12351, out, f);
     let h = run(2048, 64, 8, 65535, 12352, out, g);
-    flush(out, h);
+    output::flush(out, h);
 }
 
 fn main() {

@@ -85,8 +85,8 @@ fn price_cases() {
 #[test]
 fn ten_zero_bytes() {
     let mut switch = switch(SMALL);
-    assert_eq!(switch.arrive(0, &[0; 10]), Err(Refusal::PacketTooShort));
-    assert_eq!(switch.arrive(1, &[0; 10]), Err(Refusal::WrongSource));
+    assert_eq!(switch.arrive(0, &[0; 10]), Err(Refusal::TooShort));
+    assert_eq!(switch.arrive(1, &[0; 10]), Err(Refusal::Source));
 }
 
 #[test]
@@ -159,16 +159,16 @@ fn outward_credit_at_its_most() {
     let mut switch = switch(SMALL);
     switch.credit(3, 23, 65_535).unwrap();
     assert_eq!(switch.credit(3, 23, 0), Ok(()));
-    assert_eq!(switch.credit(3, 23, 1), Err(Refusal::CreditOverflow));
-    assert_eq!(switch.credit(3, 23, u32::MAX), Err(Refusal::CreditOverflow));
+    assert_eq!(switch.credit(3, 23, 1), Err(Refusal::TooMuchCredit));
+    assert_eq!(switch.credit(3, 23, u32::MAX), Err(Refusal::TooMuchCredit));
 }
 
 #[test]
 fn nodes_per_port() {
     for (nodes, wanted) in [
         (256, None),
-        (0, Some(Refusal::SettingOutOfRow)),
-        (2049, Some(Refusal::SettingOutOfRow)),
+        (0, Some(Refusal::BadSetting)),
+        (2049, Some(Refusal::BadSetting)),
         // The most that 65,536 bytes are enough for.
         (1222, None),
         (1223, Some(Refusal::ShortMemory)),
@@ -214,7 +214,7 @@ fn one_queue_holds_every_node() {
 fn prefetch_with_nothing_to_take_and_full_slots() {
     let mut switch = switch(Settings { slots: 1, ..SMALL });
     bring(&mut switch, 3, 12);
-    assert_eq!(switch.prefetch(0, 3), Err(Refusal::NothingToTake));
+    assert_eq!(switch.prefetch(0, 3), Err(Refusal::NothingThere));
     switch.arrive(0, &plain(0, 0, 3, 12)).unwrap();
     switch.stitch(0).unwrap();
     assert_eq!(switch.prefetch(0, 3), Err(Refusal::SlotsInUse));
@@ -234,7 +234,7 @@ fn the_bench_programs_whole_case() {
     assert_eq!(switch.prefetch(0, 0), Ok(EntryId(0)));
     assert_eq!(served(&mut switch), 0);
     assert_eq!(switch.turn(0), Ok(Turn::Idle));
-    assert_eq!(switch.turn(4), Err(Refusal::NoSuchPort));
+    assert_eq!(switch.turn(4), Err(Refusal::NoPort));
 }
 
 #[test]
@@ -246,8 +246,8 @@ fn port_3_node_5_is_6149() {
         (ListKind::Free { port: 3 }, 5)
     );
     assert_eq!((EntryId(6149).port(), EntryId(6149).index()), (3, 5));
-    assert_eq!(switch.place_of(EntryId(8)), Err(Refusal::NoSuchIdOrNode));
-    assert_eq!(switch.place_of(EntryId(8192)), Err(Refusal::NoSuchIdOrNode));
+    assert_eq!(switch.place_of(EntryId(8)), Err(Refusal::NoSuchId));
+    assert_eq!(switch.place_of(EntryId(8192)), Err(Refusal::NoSuchId));
 }
 
 #[test]
@@ -353,16 +353,16 @@ fn arrive_tests_in_the_papers_order() {
         let mut wrong_sum = faulty(1, 11, true);
         wrong_sum[9] ^= 1;
         for (header, refusal) in [
-            (&wrong_sum[..9], Refusal::HeaderLength),
+            (&wrong_sum[..9], Refusal::HeaderSize),
             (&wrong_sum[..], Refusal::Checksum),
             (&faulty(1, 11, true)[..], Refusal::ReservedBit),
-            (&faulty(1, 11, false)[..], Refusal::WrongSource),
-            (&faulty(0, 11, false)[..], Refusal::PacketTooShort),
+            (&faulty(1, 11, false)[..], Refusal::Source),
+            (&faulty(0, 11, false)[..], Refusal::TooShort),
             (&faulty(0, 12, false)[..], Refusal::HeaderQueue),
-            (&plain(0, 0, 23, 12)[..], Refusal::NoArrivalCredit),
+            (&plain(0, 0, 23, 12)[..], Refusal::NoCredit),
             (&plain(0, 0, 0, 12)[..], Refusal::NoFreeNode),
         ] {
-            assert_eq!(switch.arrive(4, header), Err(Refusal::NoSuchPort));
+            assert_eq!(switch.arrive(4, header), Err(Refusal::NoPort));
             assert_eq!(switch.arrive(0, header), Err(refusal));
         }
     }
@@ -393,7 +393,7 @@ fn headers_of_other_lengths() {
         header.resize(length, 0);
         let wanted = match length {
             10 => Ok(EntryId(0)),
-            _ => Err(Refusal::HeaderLength),
+            _ => Err(Refusal::HeaderSize),
         };
         assert_eq!(switch.arrive(0, &header), wanted, "{length} bytes");
     }

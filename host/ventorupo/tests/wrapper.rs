@@ -44,7 +44,7 @@ fn no_memory_at_all() {
 #[test]
 fn refusals_and_their_numbers() {
     assert_eq!(Refusal::ALL.len(), 18);
-    for (number, refusal) in (1..=15).chain([19, 20, 27]).zip(Refusal::ALL) {
+    for (number, &refusal) in (1..=15).chain([19, 20, 27]).zip(Refusal::ALL) {
         assert_eq!(refusal.number(), number);
         assert_eq!(Refusal::from_number(number), Some(refusal));
         assert!(!refusal.to_string().is_empty());
@@ -106,7 +106,7 @@ fn four_bytes_tell_of_a_turn_or_of_none() {
     let turn = |bytes| RoundTurn::from_bytes(&bytes);
     assert_eq!(turn([0, 0, 0x18, 5]), Some(RoundTurn::Sent(EntryId(6149))));
     assert_eq!(turn([0, 1, 0, 0]), Some(RoundTurn::Idle));
-    let refused = RoundTurn::Refused(Refusal::NoSuchPort);
+    let refused = RoundTurn::Refused(Refusal::NoPort);
     assert_eq!(turn([4, 0, 0, 0]), Some(refused));
     // Idle twice over, idle with an id, refused and idle, refused with an id, no refusal's number.
     for bytes in [

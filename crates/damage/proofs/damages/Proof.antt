@@ -5,7 +5,7 @@ use Rattle.damage.proofs.damages.Statement.{statement}
 use Rattle.damage.proofs.damages.Tie as tie
 
 abbrev Inv-loop : tie.InvT-loop
-Inv-loop m₀ size out₀ begin d₀ at₀ j₀ m out d at j = j ≤ 400
+Inv-loop m₀ size out₀ begin d₀ at₀ j₀ m out d at j = (j ≤ 400) × (at ≤ 4096)
 
 abbrev μ-loop : tie.MeasureT-loop
 μ-loop m₀ size out₀ begin d₀ at₀ j₀ m out d at j = 400 - j

@@ -1,8 +1,8 @@
--- `bench::output::byte` meets its contract: the byte stands where room was made. Assumes nothing.
-use Rattle.bench.proofs.Laws.{byte-put}
+-- `output::byte` meets its contract: the byte stands where room was made. Assumes nothing.
+use Rattle.output.proofs.Laws.{byte-put}
 use borrow.Author.Needs.{needs}
-use Rattle.bench.proofs.output.byte.Statement.{statement}
-use Rattle.bench.proofs.output.byte.Tie as tie
+use Rattle.output.proofs.byte.Statement.{statement}
+use Rattle.output.proofs.byte.Tie as tie
 
 room-requires : tie.Need-room-requires
 room-requires c κs = search needs

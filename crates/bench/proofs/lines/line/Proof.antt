@@ -1,13 +1,14 @@
--- `bench::output::line` meets its contract: its four parts, one after another. Assumes nothing.
+-- `bench::lines::line` meets its contract: its four parts, one after another. Assumes nothing.
 use mathlib.Core.Path.{ap, _∙_}
 use mathlib.Core.List.{List, [], _∷_, _++_}
 use Prim.Native.Nat.{ℕ}
 use lib.ListN.{take}
-use Rattle.bench.specs.Lines.{decimal, answerText, lineText, queued}
-use Rattle.bench.proofs.Laws.{then-queued}
+use Rattle.output.specs.Buffer.{decimal, queued}
+use Rattle.bench.specs.Lines.{answerText, lineText}
+use Rattle.output.proofs.Laws.{then-queued}
 use borrow.Author.Needs.{needs}
-use Rattle.bench.proofs.output.line.Statement.{statement}
-use Rattle.bench.proofs.output.line.Tie as tie
+use Rattle.bench.proofs.lines.line.Statement.{statement}
+use Rattle.bench.proofs.lines.line.Tie as tie
 
 number-requires : tie.Need-number-requires
 number-requires c κs = search needs

@@ -1,11 +1,12 @@
--- `bench::output::answer` meets its contract: by what is said. Assumes nothing.
+-- `bench::lines::answer` meets its contract: by what is said. Assumes nothing.
 use mathlib.Core.List.{[], _∷_}
 use lib.ListN.{take}
-use Rattle.bench.specs.Lines.{decimal, answerText}
-use Rattle.bench.proofs.Laws.{then-queued}
+use Rattle.output.specs.Buffer.{decimal}
+use Rattle.bench.specs.Lines.{answerText}
+use Rattle.output.proofs.Laws.{then-queued}
 use borrow.Author.Needs.{needs}
-use Rattle.bench.proofs.output.answer.Statement.{statement}
-use Rattle.bench.proofs.output.answer.Tie as tie
+use Rattle.bench.proofs.lines.answer.Statement.{statement}
+use Rattle.bench.proofs.lines.answer.Tie as tie
 
 enum-told : tie.Need-enum-told
 enum-told c = search needs

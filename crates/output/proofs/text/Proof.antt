@@ -1,13 +1,13 @@
--- `bench::output::text` meets its contract. The loop's invariant: what waits, with what is left of the text put after it, is what waits in the
+-- `output::text` meets its contract. The loop's invariant: what waits, with what is left of the text put after it, is what waits in the
 -- end. The measure is what is left. Assumes nothing.
 use mathlib.Core.Path.{_≡_, sym, _∙_}
 use Prim.Native.Nat.{_≤_, _-_}
 use lib.ListN.{length, take, drop}
 use borrow.Author.Needs.{needs}
-use Rattle.bench.specs.Lines.{queued}
-use Rattle.bench.proofs.Laws.{text-step, text-end}
-use Rattle.bench.proofs.output.text.Statement.{statement}
-use Rattle.bench.proofs.output.text.Tie as tie
+use Rattle.output.specs.Buffer.{queued}
+use Rattle.output.proofs.Laws.{text-step, text-end}
+use Rattle.output.proofs.text.Statement.{statement}
+use Rattle.output.proofs.text.Tie as tie
 
 abbrev Inv-loop : tie.InvT-loop
 Inv-loop out₀ waiting s at₀ i₀ out at i = (i ≤ length s) × (at ≤ 4096) × (queued (take at out) (drop i s) ≡ queued (take waiting out₀) s)

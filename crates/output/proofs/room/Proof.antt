@@ -1,8 +1,8 @@
--- `bench::output::room` meets its contract: by its test. Assumes nothing.
+-- `output::room` meets its contract: by its test. Assumes nothing.
 use borrow.Author.Tests.{lt-ltb, le-ltb}
 use borrow.Author.Needs.{needs}
-use Rattle.bench.proofs.output.room.Statement.{statement}
-use Rattle.bench.proofs.output.room.Tie as tie
+use Rattle.output.proofs.room.Statement.{statement}
+use Rattle.output.proofs.room.Tie as tie
 
 returns : tie.Need-returns
 returns c = (search needs, rw (lt-ltb _ 4096 (c .if1 .taken)))

@@ -1,10 +1,10 @@
--- `bench::output::number` meets its contract: io's digits are the decimal. Assumes nothing.
+-- `output::number` meets its contract: io's digits are the decimal. Assumes nothing.
 use mathlib.Core.Path.{ap, _∙_}
-use Rattle.bench.specs.Lines.{queued}
-use Rattle.bench.proofs.Laws.{decimal-is}
+use Rattle.output.specs.Buffer.{queued}
+use Rattle.output.proofs.Laws.{decimal-is}
 use borrow.Author.Needs.{needs}
-use Rattle.bench.proofs.output.number.Statement.{statement}
-use Rattle.bench.proofs.output.number.Tie as tie
+use Rattle.output.proofs.number.Statement.{statement}
+use Rattle.output.proofs.number.Tie as tie
 
 decimal-requires : tie.Need-decimal-requires
 decimal-requires c κs = search needs

@@ -1,0 +1,73 @@
+//! A refusal has one number and one name: in the wrapper, the ledger, the C
+//! header and the README.
+
+use ventorupo::Refusal;
+
+const LEDGER: &str = include_str!("../../../crates/ledger/src/lib.rt");
+const HEADER: &str = include_str!("../../../include/ventorupo.h");
+const README: &str = include_str!("../../../README.md");
+
+/// What stands in a text between two marks.
+fn between<'a>(text: &'a str, from: &str, to: &str) -> &'a str {
+    let (_, rest) = text.split_once(from).expect(from);
+    rest.split_once(to).expect(to).0.trim()
+}
+
+/// The lines of a list, each of which gives a number to a name: `prefix` name
+/// `equals` number, and what follows a comma.
+fn listed(lines: &str, prefix: &str, equals: &str) -> Vec<(u32, String)> {
+    let read = |line: &str| {
+        let (name, rest) = line.trim().strip_prefix(prefix)?.split_once(equals)?;
+        Some((rest.split(',').next()?.parse().ok()?, name.to_string()))
+    };
+    let read = |line| read(line).unwrap_or_else(|| panic!("no number for a name: {line}"));
+    lines.lines().map(read).collect()
+}
+
+/// The wrapper's list, each name spelt as told.
+fn wrapped(spelt: fn(&Refusal) -> String) -> Vec<(u32, String)> {
+    let number_and_name = |refusal: &Refusal| (refusal.number(), spelt(refusal));
+    Refusal::ALL.iter().map(number_and_name).collect()
+}
+
+fn name(refusal: &Refusal) -> String {
+    format!("{refusal:?}")
+}
+
+/// `ShortMemory` is `SHORT_MEMORY`.
+fn in_capitals(refusal: &Refusal) -> String {
+    let mut spelt = String::new();
+    for letter in name(refusal).chars() {
+        if letter.is_uppercase() && !spelt.is_empty() {
+            spelt.push('_');
+        }
+        spelt.push(letter.to_ascii_uppercase());
+    }
+    spelt
+}
+
+#[test]
+fn the_ledger_has_the_same_names() {
+    let (_, function) = LEDGER.split_once("pub fn number(self)").unwrap();
+    let arms = between(function, "match self {", "}");
+    assert_eq!(listed(arms, "Refusal::", " => "), wrapped(name));
+}
+
+#[test]
+fn the_c_header_has_the_same_names_in_capitals() {
+    let lines = between(HEADER, "enum vr_answer {", "};");
+    let mut answers = vec![(0, "DONE".to_string())];
+    answers.extend(wrapped(in_capitals));
+    assert_eq!(listed(lines, "VR_", " = "), answers);
+}
+
+#[test]
+fn the_readme_has_the_same_names_and_meanings() {
+    let rows = between(README, "| given by |\n|---|---|---|---|\n", "\n\n").lines();
+    for (row, refusal) in rows.clone().zip(Refusal::ALL) {
+        let (number, name) = (refusal.number(), name(refusal));
+        let start = format!("| {number} | {name} | {refusal} | ");
+        assert!(row.starts_with(&start), "{row}: not {start}");
+    }
+    assert_eq!(rows.count(), Refusal::ALL.len());
+}
