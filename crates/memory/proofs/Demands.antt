@@ -23,9 +23,11 @@ use Rattle.ledger.proofs.Waits.{nobody-starves-from, this-build-from}
 use Rattle.ledger.proofs.Order.{keeps-order}
 use Rattle.ledger.proofs.Records.{goes-along}
 use Rattle.ledger.proofs.Night.{whose-node, arrival-shows, pool-kept}
-use Rattle.layout.specs.Tables.{lists}
+use Rattle.layout.specs.declared.Shape.{Shape}
+use Rattle.layout.specs.Tables.{lists, settingsOf}
 use Rattle.layout.specs.Picture.{settingsIn, ledgerIn, StateOf, State}
 use Rattle.memory.specs.Memory.{state-dec, deskOf, picture, acted, tested, M}
+use Rattle.memory.specs.Judged.{Works}
 use Rattle.memory.specs.Demands.{onMemory, NobodyStarvesInMemory, NobodyStarvesInMemory24}
 use Rattle.memory.proofs.Chains.{node-below, state-tidy, list-length, count-bound}
 use Rattle.memory.proofs.Picture.{picture-state}
@@ -137,6 +139,9 @@ on-settings S m e s a = go (state-dec m)
     go : (d : Dec (State m)) → acted S m a ≡ tested m d a
     go (yes t) = ap (λ (T : Settings). acted T m a) (sym e)
     go (no n) = absurd (n (subst (λ (T : Settings). StateOf T m) (sym e) s))
+
+pub on-works : (s : Shape) (m : List ℕ) → Works s m → (a : Act) → acted (settingsOf s) m a ≡ M (act a) m
+on-works s m w = on-settings (settingsOf s) m (sym (w .settings-are)) (w .state)
 
 -- ---- where, on memory: entry ids and positions stay below 2,048 for each port
 

@@ -8,7 +8,7 @@ use Rattle.layout.specs.declared.Shape.{Shape}
 use Rattle.layout.specs.Tables.{settingsOf}
 use Rattle.memory.specs.Memory.{acted, M}
 use Rattle.memory.specs.Rounds.{rounded, roundOn}
-use Rattle.memory.proofs.Demands.{on-settings}
+use Rattle.memory.proofs.Demands.{on-works}
 use Rattle.memory.proofs.Demands as demands
 use Rattle.memory.proofs.Rounds.{round-on, round-off}
 use Rattle.sound.specs.declared.Tested.the-variants as tests
@@ -17,7 +17,7 @@ use Rattle.sound.proofs.Means.{tested-state, tested-none}
 
 -- where the test says a state, the act on its shape is the call
 pub on-state : (s : Shape) (m : List ℕ) → testedIn m ≡ tests.State s → (a : Act) → acted (settingsOf s) m a ≡ M (act a) m
-on-state s m e a = let w = tested-state m s e in on-settings (settingsOf s) m (sym (w .settings-are)) (w .state) a
+on-state s m e = on-works s m (tested-state m s e)
 
 -- where it says none, the call is refused 3 and changes nothing
 pub off-state : (m : List ℕ) → testedIn m ≡ tests.NoState → (a : Act) → (refused 3, m) ≡ M (act a) m
