@@ -1,14 +1,12 @@
-// The ends of the linked lists, in constant time: a first node taken off, a last one put on; and the lists' numbers.
+// The ends of the linked lists, in constant time: a first node taken off, a last one put on.
 use layout::Shape;
 use layout::Table;
+use ledger::EntryId;
 ghost use mathlib.Core.Path.{_≡_};
-ghost use Prim.Native.Nat.{_+_, _*_};
-ghost use Rattle.ledger.specs.Settings.{row};
-ghost use Rattle.ledger.specs.Ledger.{free, ingress, egress, prefetched, place#};
 ghost use Rattle.layout.specs.declared.Table.the-variants.{Head, Count};
 ghost use Rattle.layout.specs.Tables.{get, settingsOf};
 ghost use Rattle.memory.specs.Ends.{link, pushMem};
-ghost use Rattle.lists.specs.Ends.{InList, CanTake, CanPut, CanLink, CanShift, Taken, Shifted, OfPort, InRow, OfQueue};
+ghost use Rattle.lists.specs.Ends.{InList, CanTake, CanPut, CanLink, CanShift, Taken, Shifted};
 
 // How many nodes a list has.
 pub fn count(m: &[u8], s: Shape, l: usize) -> u32
@@ -19,17 +17,17 @@ pub fn count(m: &[u8], s: Shape, l: usize) -> u32
 }
 
 // A list's first node, where it has one.
-pub fn first(m: &[u8], s: Shape, l: usize) -> u16
+pub fn first(m: &[u8], s: Shape, l: usize) -> EntryId
     requires { ⌜ InList s l (now m) ⌝ }
-    ensures { λ r. ⌜ r ≡ get (settingsOf s) (now (m .entry)) Head l ⌝ }
+    ensures { λ r. ⌜ r .0 ≡ get (settingsOf s) (now (m .entry)) Head l ⌝ }
 {
-    layout::get2(m, s, Table::Head, l)
+    EntryId(layout::get2(m, s, Table::Head, l))
 }
 
 // The first node of list a, which is taken off.
-pub fn pop(m: &mut [u8], s: Shape, a: usize) -> u16
+pub fn pop(m: &mut [u8], s: Shape, a: usize) -> EntryId
     requires { ⌜ CanTake s a (now m) ⌝ }
-    ensures { λ r. ⌜ Taken s a r (now (m .entry)) (now (m .exit)) ⌝ }
+    ensures { λ r. ⌜ Taken s a (r .0) (now (m .entry)) (now (m .exit)) ⌝ }
 {
     let n = count(m, s, a);
     let x = first(m, s, a);
@@ -41,73 +39,35 @@ pub fn pop(m: &mut [u8], s: Shape, a: usize) -> u16
 }
 
 // The link to x, the new last node of list b, which has n nodes.
-fn link(m: &mut [u8], s: Shape, b: usize, x: u16, n: u32)
-    requires { ⌜ CanLink s b x n (now m) ⌝ }
-    ensures { λ _. ⌜ now (m .exit) ≡ link (settingsOf s) b x (now (m .entry)) ⌝ }
+fn link(m: &mut [u8], s: Shape, b: usize, x: EntryId, n: u32)
+    requires { ⌜ CanLink s b (x .0) n (now m) ⌝ }
+    ensures { λ _. ⌜ now (m .exit) ≡ link (settingsOf s) b (x .0) (now (m .entry)) ⌝ }
 {
     if n == 0 {
-        layout::put2(m, s, Table::Head, b, x);
+        layout::put2(m, s, Table::Head, b, x.0);
     } else {
-        let at = layout::slot_of(s, layout::get2(m, s, Table::Tail, b));
-        layout::put2(m, s, Table::Next, at, x);
+        let at = layout::slot_of(s, EntryId(layout::get2(m, s, Table::Tail, b)));
+        layout::put2(m, s, Table::Next, at, x.0);
     }
 }
 
 // Node x put on at the end of list b.
-pub fn push(m: &mut [u8], s: Shape, b: usize, x: u16)
-    requires { ⌜ CanPut s b x (now m) ⌝ }
-    ensures { λ _. ⌜ now (m .exit) ≡ pushMem (settingsOf s) b x (now (m .entry)) ⌝ }
+pub fn push(m: &mut [u8], s: Shape, b: usize, x: EntryId)
+    requires { ⌜ CanPut s b (x .0) (now m) ⌝ }
+    ensures { λ _. ⌜ now (m .exit) ≡ pushMem (settingsOf s) b (x .0) (now (m .entry)) ⌝ }
 {
     let n = count(m, s, b);
     link(m, s, b, x, n);
-    layout::put2(m, s, Table::Tail, b, x);
+    layout::put2(m, s, Table::Tail, b, x.0);
     layout::put4(m, s, Table::Count, b, n + 1);
 }
 
 // The first node of list a, which goes to the end of list b.
-pub fn shift(m: &mut [u8], s: Shape, a: usize, b: usize) -> u16
+pub fn shift(m: &mut [u8], s: Shape, a: usize, b: usize) -> EntryId
     requires { ⌜ CanShift s a b (now m) ⌝ }
-    ensures { λ r. ⌜ Shifted s a b r (now (m .entry)) (now (m .exit)) ⌝ }
+    ensures { λ r. ⌜ Shifted s a b (r .0) (now (m .entry)) (now (m .exit)) ⌝ }
 {
     let x = pop(m, s, a);
     push(m, s, b, x);
     x
-}
-
-// The number of port p's list in column c.
-fn number(s: Shape, p: usize, c: usize) -> usize
-    requires { ⌜ InRow s p c ⌝ }
-    ensures { λ r. ⌜ r ≡ p * row (settingsOf s) + c ⌝ }
-{
-    let queues = s.queues;
-    p * (2 + 2 * queues) + c
-}
-
-pub fn free_list(s: Shape, p: usize) -> usize
-    requires { ⌜ OfPort s p ⌝ }
-    ensures { λ r. ⌜ r ≡ place# (settingsOf s) (free p) ⌝ }
-{
-    number(s, p, 0)
-}
-
-pub fn ingress_list(s: Shape, p: usize) -> usize
-    requires { ⌜ OfPort s p ⌝ }
-    ensures { λ r. ⌜ r ≡ place# (settingsOf s) (ingress p) ⌝ }
-{
-    number(s, p, 1)
-}
-
-pub fn egress_list(s: Shape, p: usize, q: usize) -> usize
-    requires { ⌜ OfQueue s p q ⌝ }
-    ensures { λ r. ⌜ r ≡ place# (settingsOf s) (egress p q) ⌝ }
-{
-    number(s, p, 2 + q)
-}
-
-pub fn prefetch_list(s: Shape, p: usize, q: usize) -> usize
-    requires { ⌜ OfQueue s p q ⌝ }
-    ensures { λ r. ⌜ r ≡ place# (settingsOf s) (prefetched p q) ⌝ }
-{
-    let queues = s.queues;
-    number(s, p, 2 + (queues + q))
 }

@@ -12,11 +12,11 @@ use Rattle.ledger.proofs.Tests.{leb-is, leb-not, leb-no}
 use Rattle.ledger.proofs.Places.{Place·In, place#-lt}
 use Rattle.ledger.proofs.Keep.{Fits, first-fits}
 use Rattle.ledger.proofs.Rows.{roomy}
-use Rattle.layout.specs.declared.Table.the-variants.{Head, Count}
+use Rattle.layout.specs.declared.Table.the-variants.{Count}
 use Rattle.layout.specs.Tables.{lists, get}
 use Rattle.layout.specs.Picture.{packetAt, ledgerIn, StateOf}
 use Rattle.memory.specs.Ends.{popMem, pushMem}
-use Rattle.memory.specs.Writes.{moveMem}
+use Rattle.memory.specs.Writes.{headOf, moveMem}
 use Rattle.memory.specs.Judged.{good, bad, judged}
 use Rattle.memory.specs.Memory.{acted}
 use Rattle.memory.proofs.Chains.{list-length, head-is-node, state-tidy}
@@ -52,19 +52,32 @@ module _ (S : Settings) (m : List ℕ) (p q : ℕ) where
         pub slots-in-use : S .slots ≤ get S m Count (place# S (prefetched p q)) → bad 13 ≡ judged S L (prefetch p q)
         unfolding judged
         slots-in-use h =
-            rw (leb-not (S .ports) p hp, leb-not (S .queues) q hq, some-is S m (place# S (egress p q)) from-in some, list-length S m (place# S (prefetched p q)) to-in, leb-is (S .slots) (get S m Count (place# S (prefetched p q))) h)
+            rw (
+              leb-not (S .ports) p hp,
+              leb-not (S .queues) q hq,
+              some-is S m (place# S (egress p q)) from-in some,
+              list-length S m (place# S (prefetched p q)) to-in,
+              leb-is (S .slots) _ h,
+            )
 
         pub goes : get S m Count (place# S (prefetched p q)) < S .slots → good ≡ judged S L (prefetch p q)
         unfolding judged
         goes h =
-            rw (leb-not (S .ports) p hp, leb-not (S .queues) q hq, some-is S m (place# S (egress p q)) from-in some, list-length S m (place# S (prefetched p q)) to-in, leb-not (S .slots) (get S m Count (place# S (prefetched p q))) h)
+            rw (
+              leb-not (S .ports) p hp,
+              leb-not (S .queues) q hq,
+              some-is S m (place# S (egress p q)) from-in some,
+              list-length S m (place# S (prefetched p q)) to-in,
+              leb-not (S .slots) _ h,
+            )
 
 -- what is known once the judge let a prefetch go
 pub record Goes (S : Settings) (m : List ℕ) (p q : ℕ) : Type 0 where
   pub port : p < S .ports
   pub queue : q < S .queues
   pub some : 0 < get S m Count (place# S (egress p q))
-  pub outcome : acted S m (prefetch p q) ≡ (entry (get S m Head (place# S (egress p q))), pushMem S (place# S (prefetched p q)) (get S m Head (place# S (egress p q))) (popMem S (place# S (egress p q)) m))
+  pub outcome : acted S m (prefetch p q)
+      ≡ (entry (headOf S m (egress p q)), pushMem S (place# S (prefetched p q)) (headOf S m (egress p q)) (popMem S (place# S (egress p q)) m))
 
 pub gone-on : (S : Settings) (m : List ℕ) → StateOf S m → (p q : ℕ) → good ≡ judged S (ledgerIn S m) (prefetch p q) → Goes S m p q
 unfolding moveMem
@@ -105,15 +118,15 @@ module _ (S : Settings) (m : List ℕ) (p : ℕ) where
 pub record Stitches (S : Settings) (m : List ℕ) (p : ℕ) (k : Packet) (to : ℕ) : Type 0 where
   pub port : p < S .ports
   pub some : 0 < get S m Count (place# S (ingress p))
-  pub node : isNode S (get S m Head (place# S (ingress p))) ≡ true
+  pub node : isNode S (headOf S m (ingress p)) ≡ true
   pub dest-in : k .dest < ids
   pub to-in : to < S .ports
   pub queue-in : k .queue < S .queues
   pub outcome : acted S m (stitch p)
-      ≡ (stitched (stitchRecord k to), pushMem S (place# S (egress to (k .queue))) (get S m Head (place# S (ingress p))) (popMem S (place# S (ingress p)) m))
+      ≡ (stitched (stitchRecord k to), pushMem S (place# S (egress to (k .queue))) (headOf S m (ingress p)) (popMem S (place# S (ingress p)) m))
 
 pub stitched-on : (S : Settings) (m : List ℕ) → StateOf S m → (p : ℕ) → good ≡ judged S (ledgerIn S m) (stitch p)
-    → (k : Packet) → k ≡ packetAt S m (get S m Head (place# S (ingress p))) → (to : ℕ) → to ≡ mapOf (ledgerIn S m) (k .dest) → Stitches S m p k to
+    → (k : Packet) → k ≡ packetAt S m (headOf S m (ingress p)) → (to : ℕ) → to ≡ mapOf (ledgerIn S m) (k .dest) → Stitches S m p k to
 unfolding moveMem
 stitched-on S m s p e k ik to it =
     let c = judged-clear S (ledgerIn S m) (stitch p) (sym e) in

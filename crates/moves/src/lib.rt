@@ -1,7 +1,6 @@
 // Stitch and prefetch, on a memory that is a switch state: judged first, then the node moves from list to list.
 use layout::Shape;
 use ledger::Entry;
-use ledger::EntryId;
 use ledger::Plain;
 use ledger::Refusal;
 use ledger::Sent;
@@ -40,11 +39,11 @@ pub fn judge_prefetch(m: &[u8], s: Shape, port: u32, queue: u32) -> Verdict
     if queues <= q {
         return Verdict::No(Refusal::NoQueue);
     }
-    let waiting = lists::count(m, s, lists::egress_list(s, p, q));
+    let waiting = lists::count(m, s, layout::egress_list(s, p, q));
     if waiting == 0 {
         return Verdict::No(Refusal::NothingThere);
     }
-    let used = lists::count(m, s, lists::prefetch_list(s, p, q));
+    let used = lists::count(m, s, layout::prefetch_list(s, p, q));
     if slots <= used as usize {
         return Verdict::No(Refusal::SlotsInUse);
     }
@@ -62,10 +61,10 @@ pub fn prefetch(m: &mut [u8], s: Shape, port: u32, queue: u32) -> Entry
         Verdict::Go => {
             let p = port as usize;
             let q = queue as usize;
-            let from = lists::egress_list(s, p, q);
-            let to = lists::prefetch_list(s, p, q);
+            let from = layout::egress_list(s, p, q);
+            let to = layout::prefetch_list(s, p, q);
             let x = lists::shift(m, s, from, to);
-            Entry::Node(EntryId(x))
+            Entry::Node(x)
         }
     }
 }
@@ -80,7 +79,7 @@ pub fn judge_stitch(m: &[u8], s: Shape, port: u32) -> Verdict
     if ports <= p {
         return Verdict::No(Refusal::NoPort);
     }
-    let waiting = lists::count(m, s, lists::ingress_list(s, p));
+    let waiting = lists::count(m, s, layout::ingress_list(s, p));
     if waiting == 0 {
         return Verdict::No(Refusal::NothingThere);
     }
@@ -91,22 +90,10 @@ pub fn judge_stitch(m: &[u8], s: Shape, port: u32) -> Verdict
 fn record_of(k: Sent, to: u8) -> [u8; 10]
     ensures { λ r. ⌜ r ≡ stitchRecord (sentOf k) to ⌝ }
 {
-    let id = k.entry;
-    let x = id.0;
-    let n = k.length;
-    let t = k.timestamp;
-    [
-        (x / 256) as u8,
-        (x % 256) as u8,
-        (n / 256) as u8,
-        (n % 256) as u8,
-        k.queue,
-        to,
-        (t / 16777216) as u8,
-        (t / 65536 % 256) as u8,
-        (t / 256 % 256) as u8,
-        (t % 256) as u8,
-    ]
+    let x = numbers::bytes2(k.entry.0);
+    let n = numbers::bytes2(k.length);
+    let t = numbers::bytes4(k.timestamp);
+    [x[0], x[1], n[0], n[1], k.queue, to, t[0], t[1], t[2], t[3]]
 }
 
 // The oldest ingress node to the egress list of the port that the map names now.
@@ -122,10 +109,10 @@ pub fn stitch(m: &mut [u8], s: Shape, port: u32) -> Stitched
             record: [0u8; 10],
         },
         Verdict::Go => {
-            let from = lists::ingress_list(s, port as usize);
+            let from = layout::ingress_list(s, port as usize);
             let k = parts::packet(m, s, lists::first(m, s, from));
             let to = parts::mapped(m, s, k.destination as usize);
-            let at = lists::egress_list(s, to as usize, k.queue as usize);
+            let at = layout::egress_list(s, to as usize, k.queue as usize);
             lists::shift(m, s, from, at);
             Stitched {
                 answer: Plain::Done,

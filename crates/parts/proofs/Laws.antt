@@ -41,7 +41,8 @@ module _ {s : Shape} {t : Table} {p q : ℕ} {m : List ℕ} (h : InCredits s t p
   pub cell-reads : {i : ℕ} → i ≡ cell (settingsOf s) p (q - 1) → Reads 2 s t i m
   cell-reads e = record { laid = h .cell .laid; long = h .cell .long; wide = h .wide; inside = rw (e, h .each) cell-in }
 
-  pub credit-is : creditAt (settingsOf s) (tabulate (get (settingsOf s) m t) 0 (cells (settingsOf s))) p q ≡ get (settingsOf s) m t (cell (settingsOf s) p (q - 1))
+  pub credit-is : creditAt (settingsOf s) (tabulate (get (settingsOf s) m t) 0 (cells (settingsOf s))) p q
+      ≡ get (settingsOf s) m t (cell (settingsOf s) p (q - 1))
   credit-is = credit-paid _ _ p q some ∙ getD-table (get (settingsOf s) m t) (cells (settingsOf s)) _ 0 cell-in
 
 -- ---- marks and the map

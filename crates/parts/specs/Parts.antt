@@ -23,13 +23,6 @@ pub record InCredits (s : Shape) (t : Table) (p q : ℕ) (m : List ℕ) : Type 0
   pub wide : width t ≡ 2
   pub each : many (settingsOf s) t ≡ cells (settingsOf s)
 
--- a port and a queue that has credit
-pub record HasCell (s : Shape) (p q : ℕ) : Type 0 where
-  pub laid : Laid s
-  pub port : p < s .ports
-  pub queue : q < s .queues
-  pub paid : 0 < q
-
 -- the mark of port p
 pub record InMarks (s : Shape) (p : ℕ) (m : List ℕ) : Type 0 where
   pub laid : Laid s
@@ -47,12 +40,6 @@ pub record InRecords (s : Shape) (x : ℕ) (m : List ℕ) : Type 0 where
   pub laid : Laid s
   pub long : size (settingsOf s) ≤ length m
   pub node : isNode (settingsOf s) x ≡ true
-
--- and in a table t of bytes for each node
-pub record InBytes (s : Shape) (t : Table) (x : ℕ) (m : List ℕ) : Type 0 where
-  pub record-of : InRecords s x m
-  pub wide : width t ≡ 1
-  pub each : many (settingsOf s) t ≡ all (settingsOf s)
 
 -- element i of the tables of nodes
 pub record InSlots (s : Shape) (i : ℕ) (m : List ℕ) : Type 0 where

@@ -4,25 +4,15 @@ use layout::Table;
 use ledger::EntryId;
 use ledger::Sent;
 ghost use mathlib.Core.Path.{_≡_};
-ghost use Prim.Native.Nat.{_-_};
-ghost use Rattle.ledger.specs.Ledger.{cell, creditAt, arrivalOf, outwardOf, lastOf, mapOf};
+ghost use Rattle.ledger.specs.Ledger.{creditAt, arrivalOf, outwardOf, lastOf, mapOf};
 ghost use Rattle.ledger.specs.Answers.{sentOf};
 ghost use Rattle.layout.specs.declared.Table.the-variants.{Mapped, Last, Arrival, Outward, Length, Stamp, Queue, Dest, Poisoned, Transaction, Price};
 ghost use Rattle.layout.specs.Tables.{cells, get, put, settingsOf};
-ghost use Rattle.layout.specs.Picture.{slot, packetAt, tabulate, ledgerIn};
+ghost use Rattle.layout.specs.Picture.{packetAt, tabulate, ledgerIn};
 ghost use Rattle.memory.specs.Writes.{recordMem, creditMem};
-ghost use Rattle.parts.specs.Parts.{InCell, InCredits, HasCell, InMarks, InMap, InRecords, InBytes, InSlots};
+ghost use Rattle.parts.specs.Parts.{InCell, InCredits, InMarks, InMap, InRecords, InSlots};
 
 // ---- credits
-
-// The element of a port and a queue in the tables of credits, in which queue 0 has none.
-fn cell_of(s: Shape, p: usize, q: usize) -> usize
-    requires { ⌜ HasCell s p q ⌝ }
-    ensures { λ r. ⌜ r ≡ cell (settingsOf s) p (q - 1) ⌝ }
-{
-    let queues = s.queues;
-    p * (queues - 1) + (q - 1)
-}
 
 fn credit(m: &[u8], s: Shape, t: Table, p: usize, q: usize) -> u16
     requires { ⌜ InCredits s t p q (now m) ⌝ }
@@ -31,7 +21,7 @@ fn credit(m: &[u8], s: Shape, t: Table, p: usize, q: usize) -> u16
     if q == 0 {
         return 0;
     }
-    layout::get2(m, s, t, cell_of(s, p, q))
+    layout::get2(m, s, t, layout::cell_of(s, p, q))
 }
 
 // Queue 0 has no credit to write.
@@ -42,7 +32,7 @@ fn set_credit(m: &mut [u8], s: Shape, t: Table, p: usize, q: usize, v: u16)
     if q == 0 {
         return;
     }
-    layout::put2(m, s, t, cell_of(s, p, q), v);
+    layout::put2(m, s, t, layout::cell_of(s, p, q), v);
 }
 
 pub fn arrival(m: &[u8], s: Shape, p: usize, q: usize) -> u16
@@ -107,39 +97,17 @@ pub fn set_mapped(m: &mut [u8], s: Shape, d: usize, p: u8)
 
 // ---- what is recorded for a node
 
-// A field of one byte.
-fn field(m: &[u8], s: Shape, t: Table, x: u16) -> u8
-    requires { ⌜ InBytes s t x (now m) ⌝ }
-    ensures { λ r. ⌜ r ≡ get (settingsOf s) (now (m .entry)) t (slot (settingsOf s) x) ⌝ }
+pub fn price(m: &[u8], s: Shape, x: EntryId) -> u8
+    requires { ⌜ InRecords s (x .0) (now m) ⌝ }
+    ensures { λ r. ⌜ r ≡ packetAt (settingsOf s) (now (m .entry)) (x .0) .price ⌝ }
 {
-    layout::get1(m, s, t, layout::slot_of(s, x))
-}
-
-pub fn queue(m: &[u8], s: Shape, x: u16) -> u8
-    requires { ⌜ InRecords s x (now m) ⌝ }
-    ensures { λ r. ⌜ r ≡ packetAt (settingsOf s) (now (m .entry)) x .queue ⌝ }
-{
-    field(m, s, Table::Queue, x)
-}
-
-pub fn dest(m: &[u8], s: Shape, x: u16) -> u8
-    requires { ⌜ InRecords s x (now m) ⌝ }
-    ensures { λ r. ⌜ r ≡ packetAt (settingsOf s) (now (m .entry)) x .dest ⌝ }
-{
-    field(m, s, Table::Dest, x)
-}
-
-pub fn price(m: &[u8], s: Shape, x: u16) -> u8
-    requires { ⌜ InRecords s x (now m) ⌝ }
-    ensures { λ r. ⌜ r ≡ packetAt (settingsOf s) (now (m .entry)) x .price ⌝ }
-{
-    field(m, s, Table::Price, x)
+    layout::get1(m, s, Table::Price, layout::slot_of(s, x))
 }
 
 // All that is recorded for node x.
-pub fn packet(m: &[u8], s: Shape, x: u16) -> Sent
-    requires { ⌜ InRecords s x (now m) ⌝ }
-    ensures { λ r. ⌜ sentOf r ≡ packetAt (settingsOf s) (now (m .entry)) x ⌝ }
+pub fn packet(m: &[u8], s: Shape, x: EntryId) -> Sent
+    requires { ⌜ InRecords s (x .0) (now m) ⌝ }
+    ensures { λ r. ⌜ sentOf r ≡ packetAt (settingsOf s) (now (m .entry)) (x .0) ⌝ }
 {
     let at = layout::slot_of(s, x);
     let length = layout::get2(m, s, Table::Length, at);
@@ -150,7 +118,7 @@ pub fn packet(m: &[u8], s: Shape, x: u16) -> Sent
     let transaction = layout::get1(m, s, Table::Transaction, at);
     let price = layout::get1(m, s, Table::Price, at);
     Sent {
-        entry: EntryId(x),
+        entry: x,
         length,
         queue,
         destination,
@@ -192,7 +160,8 @@ pub fn record(m: &mut [u8], s: Shape, k: Sent)
     requires { ⌜ InRecords s (k .entry .0) (now m) ⌝ }
     ensures { λ _. ⌜ now (m .exit) ≡ recordMem (settingsOf s) (sentOf k) (now (m .entry)) ⌝ }
 {
-    let at = layout::slot_of(s, k.entry.0);
+    let x = k.entry;
+    let at = layout::slot_of(s, x);
     record_wide(m, s, at, k.length, k.timestamp);
     record_way(m, s, at, k.queue, k.destination, k.poisoned);
     record_rest(m, s, at, k.transaction, k.price);

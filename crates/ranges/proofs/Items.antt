@@ -76,7 +76,8 @@ module _ (S : Settings) (m : List ℕ) where
           let past : S .ports ≤ low S + j = omega arith in
           let far : ids ≤ low S + j - S .ports = omega arith in
           let back : low S + j - S .ports - ids ≡ j = omega arith in
-          let t : leb (get S m Count (prefetchAt S j)) (S .slots) ≡ true = rw back at (sym (fits-count (low S + j) past far) ∙ ok (low S + j) (omega arith)) in
+          let t : leb (get S m Count (prefetchAt S j)) (S .slots) ≡ true =
+          rw back at (sym (fits-count (low S + j) past far) ∙ ok (low S + j) (omega arith)) in
           omega (
             arith,
             leb-yes (get S m Count (prefetchAt S j)) (S .slots) t,

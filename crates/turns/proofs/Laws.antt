@@ -60,7 +60,8 @@ module _ (S : Settings) (m : List ℕ) (s : StateOf S m) (p q : ℕ) (hp : p < S
   some-ready n =
       let e = some-is S m l l-in n in
       ap (covered q (outwardOf S L p q)) (cons-form (listAt S L (prefetched p q)) e)
-      ∙ ap (λ (k : Packet). eqb q 0 || leb (k .price) (outwardOf S L p q)) (first-held S (roomy S (s .sound .rows)) m s (prefetched p q) (hp, hq) (omega arith) e)
+      ∙ ap (λ (k : Packet). eqb q 0 || leb (k .price) (outwardOf S L p q))
+      (first-held S (roomy S (s .sound .rows)) m s (prefetched p q) (hp, hq) (omega arith) e)
 
 -- ---- the word, a bit at a time from the highest
 
@@ -74,7 +75,8 @@ unfolding wordOf
 word-down r n q h k =
     let e : n - (q - 1) ≡ suc (n - q) = omega arith in
     rw e
-    (let f : wordOf (λ i. r (q - 1 + suc i)) (n - q) ≡ wordOf (λ i. r (q + i)) (n - q) = word-ext (λ i. r (q - 1 + suc i)) (λ i. r (q + i)) (n - q) (λ i. ap r (omega arith)) in
+    (let f : wordOf (λ i. r (q - 1 + suc i)) (n - q) ≡ wordOf (λ i. r (q + i)) (n - q) =
+    word-ext (λ i. r (q - 1 + suc i)) (λ i. r (q + i)) (n - q) (λ i. ap r (omega arith)) in
     let z : bit (r (q - 1 + 0)) ≡ bit (r (q - 1)) = ap (λ (j : ℕ). bit (r j)) (omega arith) in
     omega arith)
 
@@ -90,7 +92,11 @@ word-end r n q e =
 
 -- the word so far leaves room for one bit more
 pub word-room : (r : ℕ → Bool) (n q : ℕ) → n ≤ 64 → 0 < q → q ≤ n → wordOf (λ i. r (q + i)) (n - q) < 2 ^ 63
-word-room r n q few h k = let a = word-lt (λ i. r (q + i)) (n - q) in let d : n - q ≤ 63 = omega arith in let b : 2 ^ (n - q) ≤ 2 ^ 63 = pow-mono d in omega arith
+word-room r n q few h k =
+    let a = word-lt (λ i. r (q + i)) (n - q) in
+    let d : n - q ≤ 63 = omega arith in
+    let b : 2 ^ (n - q) ≤ 2 ^ 63 = pow-mono d in
+    omega arith
 
 -- ---- the pick, as the machine shifts
 
@@ -179,40 +185,42 @@ module _ (S : Settings) (m : List ℕ) (p : ℕ) where
 
 -- ---- what serving writes
 
-pub home-in : (S : Settings) (x : ℕ) → isNode S x ≡ true → x / 2048 < S .ports
+pub home-in : (S : Settings) (x : ℕ) → isNode S x ≡ true → owner x < S .ports
 home-in S x n = node-from S x n .home
 
 pub free-in : (S : Settings) → Roomy S → (h : ℕ) → h < S .ports → place# S (free h) < lists S
 free-in S ok h hh = place#-lt S (free h) (hh, omega (arith, ok .some-queues))
 
-module _ (S : Settings) (m : List ℕ) (s : StateOf S m) (p q : ℕ) (hp : p < S .ports) (hq : q < S .queues) (some : 0 < get S m Count (place# S (prefetched p q))) where
-  abbrev P : Packet
-  P = packetAt S m (headOf S m (prefetched p q))
+module _
+    (S : Settings) (m : List ℕ) (s : StateOf S m) (p q : ℕ) (hp : p < S .ports) (hq : q < S .queues)
+    (some : 0 < get S m Count (place# S (prefetched p q)))
+  where
+    -- the oldest node, and its packet
+    abbrev x : ℕ
+    x = headOf S m (prefetched p q)
 
-  filled : isEmpty (listAt S (ledgerIn S m) (prefetched p q)) ≡ false
-  filled = some-is S m (place# S (prefetched p q)) (place#-lt S (prefetched p q) (hp, hq)) (λ z. omega (arith, z))
+    abbrev P : Packet
+    P = packetAt S m x
 
-  -- the credit that goes back fits
-  pub given-small : arrivalOf S (ledgerIn S m) (owner (headOf S m (prefetched p q))) q + P .price < 65536
-  unfolding packetAt
-  given-small =
-      let ok = roomy S (s .sound .rows) in
-      subst (λ (k : Packet). arrivalOf S (ledgerIn S m) (owner (k .node)) q + k .price < 65536) (j-is S ok m s p q hp hq filled)
-      (given-fits S ok m s p q hp hq filled)
+    filled : isEmpty (listAt S (ledgerIn S m) (prefetched p q)) ≡ false
+    filled = some-is S m (place# S (prefetched p q)) (place#-lt S (prefetched p q) (hp, hq)) (λ z. omega (arith, z))
 
-  pub serve-mem : (m′ : List ℕ) (g l : ℕ)
-      → g ≡ arrivalOf S (ledgerIn S m) (owner (headOf S m (prefetched p q))) q + P .price
-      → l ≡ outwardOf S (ledgerIn S m) p q - P .price
-      → m′ ≡ put S Last p q (creditMem S Outward p q l (creditMem S Arrival (owner (headOf S m (prefetched p q))) q g (moveMem S (prefetched p q) (free (owner (headOf S m (prefetched p q)))) m)))
-      → m′ ≡ serveMem S p q P m
-  unfolding serveMem packetAt
-  serve-mem m′ g l eg el e = e ∙ rw (eg, el)
+    -- the credit that goes back fits
+    pub given-small : arrivalOf S (ledgerIn S m) (owner x) q + P .price < 65536
+    unfolding packetAt
+    given-small =
+        let ok = roomy S (s .sound .rows) in
+        subst (λ (k : Packet). arrivalOf S (ledgerIn S m) (owner (k .node)) q + k .price < 65536) (j-is S ok m s p q hp hq filled)
+        (given-fits S ok m s p q hp hq filled)
 
--- the shift, in the words of the places
-pub moves-home : (S : Settings) (m : List ℕ) (p q : ℕ) (m′ : List ℕ) (a b x : ℕ) → a ≡ place# S (prefetched p q) → b ≡ place# S (free (x / 2048)) → x ≡ headOf S m (prefetched p q)
-    → m′ ≡ pushMem S b (get S m Head a) (popMem S a m) → m′ ≡ moveMem S (prefetched p q) (free (owner (headOf S m (prefetched p q)))) m
-unfolding moveMem
-moves-home S m p q m′ a b x ea eb ex e = e ∙ rw (eb, ea, ex)
+    -- the list, the free list of its home, the credits, the shift and the settling make up what serving writes
+    pub serve-mem : {m′ n : List ℕ} {a b h g l : ℕ}
+        → a ≡ place# S (prefetched p q) → b ≡ place# S (free h) → h ≡ owner x
+        → g ≡ arrivalOf S (ledgerIn S m) (owner x) q + P .price → l ≡ outwardOf S (ledgerIn S m) p q - P .price
+        → n ≡ pushMem S b (get S m Head a) (popMem S a m) → m′ ≡ put S Last p q (creditMem S Outward p q l (creditMem S Arrival h q g n))
+        → m′ ≡ serveMem S p q P m
+    unfolding serveMem moveMem packetAt
+    serve-mem ea eb eh eg el en e = e ∙ rw (en, ea, eb, eh, eg, el)
 
 -- what leaves, as the code has it
 pub turn-leaves : (S : Settings) (m : List ℕ) (p : ℕ) (hp : p < S .ports) (s : StateOf S m) (n : readyWord S (ledgerIn S m) p ≡ 0 → ⊥)

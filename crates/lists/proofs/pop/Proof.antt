@@ -42,19 +42,7 @@ same-length c = search needs
 
 returns : tie.Need-returns
 unfolding popMem
-returns c = record {
-  first = c .before .before .before .before .before .before .before .before .before .before .before .first .ensures;
-  memory =
-      let linked = c .before .before .before .before .before .before .before .before in
-      rw (
-        c .before .before .put4 .ensures,
-        c .before .before .before .before .before .before .put2 .ensures,
-        linked .get2 .ensures,
-        linked .before .before .slot-of .ensures,
-        linked .before .before .before .first .ensures,
-        linked .before .before .before .before .before .count .ensures,
-      );
-}
+returns c = record { first = cc; memory = cc }
 
 pub pop-spec : {M : Type 1} → statement M
 pop-spec = tie.close (tie.spec count-requires first-requires slot-of-requires get2-requires put2-requires sub-put4 put4-requires same-length returns)

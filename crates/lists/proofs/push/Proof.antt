@@ -29,8 +29,7 @@ same-length c = search needs
 
 returns : tie.Need-returns
 unfolding pushMem
-returns c =
-    rw (c .before .before .put4 .ensures, c .before .before .before .before .before .before .put2 .ensures, c .before .before .before .before .before .before .before .before .before .before .link .ensures, c .before .before .before .before .before .before .before .before .before .before .before .before .count .ensures)
+returns c = cc
 
 pub push-spec : {M : Type 1} → statement M
 push-spec = tie.close (tie.spec count-requires link-requires put2-requires add-put4 put4-requires same-length returns)

@@ -36,13 +36,15 @@ returns-2 : tie.Need-returns-2
 returns-2 c =
     let st = c .before .before .before .before .before in
     let a = st .args in
-    laws.stitch-nothing (settingsOf (a .s)) (a .m .now) (a .port) (st .pre .laid .roomy) (c .before .before .before .if1 .left) (sym (waiting-is (c .before)) ∙ c .if2 .taken)
+    laws.stitch-nothing (settingsOf (a .s)) (a .m .now) (a .port) (st .pre .laid .roomy) (c .before .before .before .if1 .left)
+    (sym (waiting-is (c .before)) ∙ c .if2 .taken)
 
 returns-3 : tie.Need-returns-3
 returns-3 c =
     let st = c .before .before .before .before .before in
     let a = st .args in
-    laws.stitch-goes (settingsOf (a .s)) (a .m .now) (a .port) (st .pre .laid .roomy) (c .before .before .before .if1 .left) (λ z. c .if2 .left (waiting-is (c .before) ∙ z))
+    laws.stitch-goes (settingsOf (a .s)) (a .m .now) (a .port) (st .pre .laid .roomy) (c .before .before .before .if1 .left)
+    (λ z. c .if2 .left (waiting-is (c .before) ∙ z))
 
 pub judge-stitch-spec : {M : Type 1} → statement M
 judge-stitch-spec = tie.close (tie.spec returns ingress-list-requires count-requires returns-2 returns-3)

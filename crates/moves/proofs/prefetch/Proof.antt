@@ -23,24 +23,28 @@ enum-known-verdict c = search needs
 enum-told : tie.Need-enum-told
 enum-told c = search needs
 
-went : (c : tie.After-enum-told) → let a = c .before .before .before .before .before .args in Goes (settingsOf (a .s)) (a .m .now) (a .port) (a .queue)
+abbrev start : tie.After-enum-told → tie.Start
+start c = c .before .before .before .before .before
+
+-- the judge let it go
+went : (c : tie.After-enum-told) → let a = start c .args in Goes (settingsOf (a .s)) (a .m .now) (a .port) (a .queue)
 went c =
-    let st = c .before .before .before .before .before in
+    let st = start c in
     let a = st .args in
     gone-on (settingsOf (a .s)) (a .m .now) (st .pre .state) (a .port) (a .queue)
     (sym (ap judgementOf (c .enum-told .given .1)) ∙ c .before .before .judge-prefetch .ensures)
 
 egress-list-requires : tie.Need-egress-list-requires
-egress-list-requires c κs = record { laid = c .before .before .before .before .before .pre .laid; port = went c .port; queue = went c .queue }
+egress-list-requires c κs = record { laid = start c .pre .laid; port = went c .port; queue = went c .queue }
 
 prefetch-list-requires : tie.Need-prefetch-list-requires
-prefetch-list-requires c κs = record { laid = c .before .before .before .before .before .before .pre .laid; port = went (c .before) .port; queue = went (c .before) .queue }
+prefetch-list-requires c κs = let e = c .before in record { laid = start e .pre .laid; port = went e .port; queue = went e .queue }
 
 shift-requires : tie.Need-shift-requires
 shift-requires c κs =
     let e = c .before .before .before in
     let w = went e in
-    let st = e .before .before .before .before .before in
+    let st = start e in
     let S = settingsOf (st .args .s) in
     let p = st .args .port in
     let q = st .args .queue in
@@ -61,7 +65,8 @@ returns : tie.Need-returns
 returns c =
     let j = c .before .before .before in
     let a = j .before .before .before .args in
-    sym (acted-bad (settingsOf (a .s)) (a .m .now) (prefetch (a .port) (a .queue)) _ (sym (j .judge-prefetch .ensures) ∙ ap judgementOf (c .before .verdict .given .1)))
+    let said = sym (j .judge-prefetch .ensures) ∙ ap judgementOf (c .before .verdict .given .1) in
+    sym (acted-bad (settingsOf (a .s)) (a .m .now) (prefetch (a .port) (a .queue)) _ said)
 
 same-length-2 : tie.Need-same-length-2
 same-length-2 c = search needs
@@ -69,18 +74,15 @@ same-length-2 c = search needs
 returns-2 : tie.Need-returns-2
 returns-2 c =
     let e = c .before .before .before .before .before in
-    let w = went (e .before) in
-    let a = e .before .before .before .before .before .before .args in
+    let a = start (e .before) .args in
     let S = settingsOf (a .s) in
-    let m = a .m .now in
     let sh = c .before .before .shift .ensures in
-    let from = e .egress-list .ensures in
-    let to = c .before .before .before .before .prefetch-list .ensures in
-    let node : c .before .before .shift .result ≡ get S m Head (place# S (egress (a .port) (a .queue))) = sh .first ∙ ap (get S m Head) from in
-    let memory : c .before .before .shift .last .0
-    ≡ pushMem S (place# S (prefetched (a .port) (a .queue))) (get S m Head (place# S (egress (a .port) (a .queue)))) (popMem S (place# S (egress (a .port) (a .queue))) m) =
-    sh .memory ∙ rw (from, to) in
-    rw (node, memory) (sym (w .outcome))
+    let from = place# S (egress (a .port) (a .queue)) in
+    let to = place# S (prefetched (a .port) (a .queue)) in
+    let node : c .before .before .shift .result .0 ≡ get S (a .m .now) Head from = sh .first ∙ ap (get S (a .m .now) Head) (e .egress-list .ensures) in
+    let memory : c .before .before .shift .last .0 ≡ pushMem S to (get S (a .m .now) Head from) (popMem S from (a .m .now)) =
+    sh .memory ∙ rw (e .egress-list .ensures, c .before .before .before .before .prefetch-list .ensures) in
+    rw (node, memory) (sym (went (e .before) .outcome))
 
 pub prefetch-spec : {M : Type 1} → statement M
 prefetch-spec =

@@ -1,46 +1,59 @@
+-- `moves::record_of` meets its contract. Assumes nothing.
 use borrow.Author.Needs.{needs}
 use Rattle.ledger.specs.Calls.{stitchRecord}
 use Rattle.moves.proofs.record_of.Statement.{statement}
 use Rattle.moves.proofs.record_of.Tie as tie
 
--- src/lib.rt:99:9
-cast-t8 : tie.Need-cast-t8
-cast-t8 c = search needs
+bytes2-requires : tie.Need-bytes2-requires
+bytes2-requires c κs = search needs
 
--- src/lib.rt:100:9
-cast-t10 : tie.Need-cast-t10
-cast-t10 c = search needs
+bytes2-requires-2 : tie.Need-bytes2-requires-2
+bytes2-requires-2 c κs = search needs
 
--- src/lib.rt:101:9
-cast-t12 : tie.Need-cast-t12
-cast-t12 c = search needs
+bytes4-requires : tie.Need-bytes4-requires
+bytes4-requires c κs = search needs
 
--- src/lib.rt:102:9
-cast-t14 : tie.Need-cast-t14
-cast-t14 c = search needs
+array-read-t10 : tie.Need-array-read-t10
+array-read-t10 c = search needs
 
--- src/lib.rt:105:9
-cast-t16 : tie.Need-cast-t16
-cast-t16 c = search needs
+array-read-t13 : tie.Need-array-read-t13
+array-read-t13 c = search needs
 
--- src/lib.rt:106:9
-cast-t19 : tie.Need-cast-t19
-cast-t19 c = search needs
+array-read-t16 : tie.Need-array-read-t16
+array-read-t16 c = search needs
 
--- src/lib.rt:107:9
-cast-t22 : tie.Need-cast-t22
-cast-t22 c = search needs
+array-read-t19 : tie.Need-array-read-t19
+array-read-t19 c = search needs
 
--- src/lib.rt:108:9
-cast-t24 : tie.Need-cast-t24
-cast-t24 c = search needs
+array-read-t22 : tie.Need-array-read-t22
+array-read-t22 c = search needs
 
--- src/lib.rt:91:1
+array-read-t25 : tie.Need-array-read-t25
+array-read-t25 c = search needs
+
+array-read-t28 : tie.Need-array-read-t28
+array-read-t28 c = search needs
+
+array-read-t31 : tie.Need-array-read-t31
+array-read-t31 c = search needs
+
 returns : tie.Need-returns
 unfolding stitchRecord
-returns c = search needs
+returns c = rw (c .before .before .bytes2 .ensures, c .before .bytes22 .ensures, c .bytes4 .ensures)
 
 pub record-of-spec : {M : Type 1} → statement M
 record-of-spec =
     tie.close
-    (tie.spec cast-t8 cast-t10 cast-t12 cast-t14 cast-t16 cast-t19 cast-t22 cast-t24 returns)
+    (tie.spec
+    bytes2-requires
+    bytes2-requires-2
+    bytes4-requires
+    array-read-t10
+    array-read-t13
+    array-read-t16
+    array-read-t19
+    array-read-t22
+    array-read-t25
+    array-read-t28
+    array-read-t31
+    returns)

@@ -1,9 +1,10 @@
 -- `moves::stitch` meets its contract: the judge decides, and where it lets the call go the node is shifted and its record made.
 -- Assumes nothing.
-use mathlib.Core.Path.{_≡_, refl, sym, ap, _∙_}
+use mathlib.Core.Path.{_≡_, refl, sym, ap, ap₂, _∙_}
 use mathlib.Core.List.{List}
 use Prim.Native.Nat.{ℕ, _<_}
 use borrow.Author.Needs.{needs}
+use Rattle.ledger.specs.Settings.{Settings}
 use Rattle.ledger.specs.Answers.{sentOf}
 use Rattle.ledger.specs.Calls.{Reply, stitch}
 use Rattle.ledger.specs.Ledger.{Packet, ingress, egress, place#, mapOf}
@@ -12,6 +13,7 @@ use Rattle.layout.specs.declared.Table.the-variants.{Head}
 use Rattle.layout.specs.Tables.{settingsOf, lists, get}
 use Rattle.layout.specs.Picture.{packetAt, ledgerIn}
 use Rattle.memory.specs.Ends.{popMem, pushMem}
+use Rattle.memory.specs.Writes.{headOf}
 use Rattle.memory.specs.Judged.{good, judgementOf, judged}
 use Rattle.memory.proofs.Chains.{state-tidy}
 use Rattle.memory.proofs.Judged.{acted-bad}
@@ -29,61 +31,80 @@ enum-known-verdict c = search needs
 enum-told : tie.Need-enum-told
 enum-told c = search needs
 
+-- the moments, each from the next
+abbrev start : tie.After-enum-told → tie.Start
+start c = c .before .before .before .before .before
+
+abbrev begun : tie.After-ingress-list → tie.Start
+begun c = start (c .before)
+
+abbrev listed : tie.After-first → tie.After-ingress-list
+listed c = c .before .before
+
+abbrev met : tie.After-packet → tie.After-first
+met c = c .before
+
+abbrev read : tie.After-mapped → tie.After-packet
+read c = c .before .before .before
+
+-- the settings and the memory at the start, the oldest node and its packet
+abbrev S : tie.Start → Settings
+S st = settingsOf (st .args .s)
+
+abbrev m : tie.Start → List ℕ
+m st = st .args .m .now
+
+abbrev oldest : tie.Start → ℕ
+oldest st = headOf (S st) (m st) (ingress (st .args .port))
+
+abbrev packet : tie.Start → Packet
+packet st = packetAt (S st) (m st) (oldest st)
+
 -- the judge let it go
-went : (c : tie.After-enum-told) → let a = c .before .before .before .before .before .args in good ≡ judged (settingsOf (a .s)) (ledgerIn (settingsOf (a .s)) (a .m .now)) (stitch (a .port))
+went : (c : tie.After-enum-told) → good ≡ judged (S (start c)) (ledgerIn (S (start c)) (m (start c))) (stitch (start c .args .port))
 went c = sym (ap judgementOf (c .enum-told .given .1)) ∙ c .before .before .judge-stitch .ensures
 
 -- so what is first in the list is a packet that can be stitched
-first-goes : (c : tie.After-enum-told) → let a = c .before .before .before .before .before .args in
-    Stitches (settingsOf (a .s)) (a .m .now) (a .port) (packetAt (settingsOf (a .s)) (a .m .now) (get (settingsOf (a .s)) (a .m .now) Head (place# (settingsOf (a .s)) (ingress (a .port)))))
-    (mapOf (ledgerIn (settingsOf (a .s)) (a .m .now)) (packetAt (settingsOf (a .s)) (a .m .now) (get (settingsOf (a .s)) (a .m .now) Head (place# (settingsOf (a .s)) (ingress (a .port)))) .dest))
-first-goes c =
-    let st = c .before .before .before .before .before in
-    let a = st .args in
-    stitched-on (settingsOf (a .s)) (a .m .now) (st .pre .state) (a .port) (went c) _ refl _ refl
+first-goes : (c : tie.After-enum-told) → let st = start c in
+    Stitches (S st) (m st) (st .args .port) (packet st) (mapOf (ledgerIn (S st) (m st)) (packet st .dest))
+first-goes c = let st = start c in stitched-on (S st) (m st) (st .pre .state) (st .args .port) (went c) _ refl _ refl
 
 ingress-list-requires : tie.Need-ingress-list-requires
-ingress-list-requires c κs = record { laid = c .before .before .before .before .before .pre .laid; port = first-goes c .port }
+ingress-list-requires c κs = record { laid = start c .pre .laid; port = first-goes c .port }
 
-from-in : (c : tie.After-ingress-list) → c .ingress-list .result < lists (settingsOf (c .before .before .before .before .before .before .args .s))
+from-in : (c : tie.After-ingress-list) → c .ingress-list .result < lists (S (begun c))
 from-in c =
-    let st = c .before .before .before .before .before .before in
-    rw (c .ingress-list .ensures) (ingress-in (settingsOf (st .args .s)) (st .args .m .now) (st .args .port) (st .pre .laid .roomy) (first-goes (c .before) .port))
+    let st = begun c in
+    rw (c .ingress-list .ensures) (ingress-in (S st) (m st) (st .args .port) (st .pre .laid .roomy) (first-goes (c .before) .port))
 
 first-requires : tie.Need-first-requires
 first-requires c κs =
-    let st = c .before .before .before .before .before .before .before in
-    record { laid = st .pre .laid; long = st .pre .state .long; inside = from-in (c .before) }
+    let l = c .before in
+    record { laid = begun l .pre .laid; long = begun l .pre .state .long; inside = from-in l }
 
 -- the node whose packet is read is the first of the list
-node-is : (c : tie.After-first) → let a = c .before .before .before .before .before .before .before .before .args in
-    c .first .result ≡ get (settingsOf (a .s)) (a .m .now) Head (place# (settingsOf (a .s)) (ingress (a .port)))
-node-is c =
-    let a = c .before .before .before .before .before .before .before .before .args in
-    c .first .ensures ∙ ap (get (settingsOf (a .s)) (a .m .now) Head) (c .before .before .ingress-list .ensures)
+node-is : (c : tie.After-first) → c .first .result .0 ≡ oldest (begun (listed c))
+node-is c = let st = begun (listed c) in c .first .ensures ∙ ap (get (S st) (m st) Head) (listed c .ingress-list .ensures)
 
 packet-requires : tie.Need-packet-requires
 packet-requires c κs =
-    let st = c .before .before .before .before .before .before .before .before in
-    record { laid = st .pre .laid; long = st .pre .state .long; node = rw (node-is c) (first-goes (c .before .before .before) .node) }
+    let l = listed c in
+    record { laid = begun l .pre .laid; long = begun l .pre .state .long; node = rw (node-is c) (first-goes (l .before) .node) }
 
-packet-is : (c : tie.After-packet) → let a = c .before .before .before .before .before .before .before .before .before .args in
-    sentOf (c .packet .result) ≡ packetAt (settingsOf (a .s)) (a .m .now) (get (settingsOf (a .s)) (a .m .now) Head (place# (settingsOf (a .s)) (ingress (a .port))))
-packet-is c =
-    let a = c .before .before .before .before .before .before .before .before .before .args in
-    c .packet .ensures ∙ ap (packetAt (settingsOf (a .s)) (a .m .now)) (node-is (c .before))
+packet-is : (c : tie.After-packet) → sentOf (c .packet .result) ≡ packet (begun (listed (met c)))
+packet-is c = let st = begun (listed (met c)) in c .packet .ensures ∙ ap (packetAt (S st) (m st)) (node-is (met c))
 
 cast-mapped : tie.Need-cast-mapped
 cast-mapped c = search needs
 
-dest-is : (c : tie.After-packet) → let a = c .before .before .before .before .before .before .before .before .before .args in
-    c .packet .result .destination ≡ packetAt (settingsOf (a .s)) (a .m .now) (get (settingsOf (a .s)) (a .m .now) Head (place# (settingsOf (a .s)) (ingress (a .port)))) .dest
+dest-is : (c : tie.After-packet) → c .packet .result .destination ≡ packet (begun (listed (met c))) .dest
 dest-is c = ap (λ (k : Packet). k .dest) (packet-is c)
 
 mapped-requires : tie.Need-mapped-requires
 mapped-requires c κs =
-    let st = c .before .before .before .before .before .before .before .before .before .before .before in
-    record { laid = st .pre .laid; long = st .pre .state .long; id = rw (dest-is (c .before .before)) (first-goes (c .before .before .before .before .before .before) .dest-in) }
+    let p = c .before .before in
+    let l = listed (met p) in
+    record { laid = begun l .pre .laid; long = begun l .pre .state .long; id = rw (dest-is p) (first-goes (l .before) .dest-in) }
 
 cast-egress-list : tie.Need-cast-egress-list
 cast-egress-list c = search needs
@@ -92,34 +113,33 @@ cast-egress-list-2 : tie.Need-cast-egress-list-2
 cast-egress-list-2 c = search needs
 
 -- all of it together, of the packet and the port as the code holds them
-goes : (c : tie.After-mapped) → let a = c .before .before .before .before .before .before .before .before .before .before .before .before .args in
-    Stitches (settingsOf (a .s)) (a .m .now) (a .port) (sentOf (c .before .before .before .packet .result)) (c .mapped .result)
+goes : (c : tie.After-mapped) → let st = begun (listed (met (read c))) in
+    Stitches (S st) (m st) (st .args .port) (sentOf (read c .packet .result)) (c .mapped .result)
 goes c =
-    let p = c .before .before .before in
-    let st = p .before .before .before .before .before .before .before .before .before in
-    let a = st .args in
-    stitched-on (settingsOf (a .s)) (a .m .now) (st .pre .state) (a .port) (went (p .before .before .before .before)) (sentOf (p .packet .result)) (packet-is p) (c .mapped .result) (c .mapped .ensures)
+    let p = read c in
+    let l = listed (met p) in
+    let st = begun l in
+    stitched-on (S st) (m st) (st .pre .state) (st .args .port) (went (l .before)) _ (packet-is p) _ (c .mapped .ensures)
 
 egress-list-requires : tie.Need-egress-list-requires
 egress-list-requires c κs =
-    let g = goes (c .before) in
-    record { laid = c .before .before .before .before .before .before .before .before .before .before .before .before .before .pre .laid; port = g .to-in; queue = g .queue-in }
+    let mp = c .before in
+    record { laid = begun (listed (met (read mp))) .pre .laid; port = goes mp .to-in; queue = goes mp .queue-in }
 
 shift-requires : tie.Need-shift-requires
 shift-requires c κs =
     let mp = c .before .before .before in
     let g = goes mp in
-    let i = mp .before .before .before .before .before .before in
-    let st = i .before .before .before .before .before .before in
-    let S = settingsOf (st .args .s) in
+    let l = listed (met (read mp)) in
+    let st = begun l in
     record {
       take = record {
         laid = st .pre .laid;
-        tidy = state-tidy S (st .args .m .now) (st .pre .state);
-        inside = from-in i;
-        some = rw (i .ingress-list .ensures) (g .some);
+        tidy = state-tidy (S st) (m st) (st .pre .state);
+        inside = from-in l;
+        some = rw (l .ingress-list .ensures) (g .some);
       };
-      target = rw (c .before .egress-list .ensures) (place#-lt S (egress (mp .mapped .result) (sentOf (mp .before .before .before .packet .result) .queue)) (g .to-in, g .queue-in));
+      target = rw (c .before .egress-list .ensures) (place#-lt (S st) (egress _ _) (g .to-in, g .queue-in));
     }
 
 record-of-requires : tie.Need-record-of-requires
@@ -131,8 +151,8 @@ same-length c = search needs
 returns : tie.Need-returns
 returns c =
     let j = c .before .before .before in
-    let a = j .before .before .before .args in
-    let e = acted-bad (settingsOf (a .s)) (a .m .now) (stitch (a .port)) _ (sym (j .judge-stitch .ensures) ∙ ap judgementOf (c .before .verdict .given .1)) in
+    let st = j .before .before .before in
+    let e = acted-bad (S st) (m st) (stitch (st .args .port)) _ (sym (j .judge-stitch .ensures) ∙ ap judgementOf (c .before .verdict .given .1)) in
     (sym e, sym (ap (λ (out : Reply × List ℕ). recordIn (out .0)) e))
 
 same-length-2 : tie.Need-same-length-2
@@ -143,16 +163,13 @@ returns-2 c =
     let sh = c .before .before .before in
     let mp = sh .before .before .before .before in
     let g = goes mp in
-    let i = mp .before .before .before .before .before .before in
-    let a = i .before .before .before .before .before .before .args in
-    let S = settingsOf (a .s) in
-    let m = a .m .now in
-    let k = sentOf (mp .before .before .before .packet .result) in
-    let from = i .ingress-list .ensures in
-    let to = sh .before .before .egress-list .ensures in
-    let memory : sh .shift .last .0
-    ≡ pushMem S (place# S (egress (mp .mapped .result) (k .queue))) (get S m Head (place# S (ingress (a .port)))) (popMem S (place# S (ingress (a .port))) m) =
-    sh .shift .ensures .memory ∙ rw (from, to) in
+    let l = listed (met (read mp)) in
+    let st = begun l in
+    let from = place# (S st) (ingress (st .args .port)) in
+    let to = place# (S st) (egress (mp .mapped .result) (read mp .packet .result .queue)) in
+    let memory : sh .shift .last .0 ≡ pushMem (S st) to (oldest st) (popMem (S st) from (m st)) =
+    sh .shift .ensures .memory
+    ∙ ap₂ (λ (a b : ℕ). pushMem (S st) b (get (S st) (m st) Head a) (popMem (S st) a (m st))) (l .ingress-list .ensures) (sh .before .before .egress-list .ensures) in
     (rw (c .record-of .ensures, memory) (sym (g .outcome)), c .record-of .ensures ∙ sym (ap (λ (out : Reply × List ℕ). recordIn (out .0)) (g .outcome)))
 
 pub stitch-spec : {M : Type 1} → statement M

@@ -39,7 +39,7 @@ unfolding packetAt
 returns c =
     rw (← c .before .before .before .before .before .before .before .slot-of .ensures)
     (λ i. record {
-      node = c .before .before .before .before .before .before .before .before .before .args .x;
+      node = c .before .before .before .before .before .before .before .before .before .args .x .0;
       len = c .before .before .before .before .before .before .get2 .ensures i;
       queue = c .before .before .before .before .get1 .ensures i;
       dest = c .before .before .before .get12 .ensures i;
@@ -50,4 +50,15 @@ returns c =
     })
 
 pub packet-spec : {M : Type 1} → statement M
-packet-spec = tie.close (tie.spec slot-of-requires get2-requires get4-requires get1-requires get1-requires-2 get1-requires-3 get1-requires-4 get1-requires-5 returns)
+packet-spec =
+    tie.close
+    (tie.spec
+    slot-of-requires
+    get2-requires
+    get4-requires
+    get1-requires
+    get1-requires-2
+    get1-requires-3
+    get1-requires-4
+    get1-requires-5
+    returns)

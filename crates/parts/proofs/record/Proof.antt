@@ -6,8 +6,11 @@ use Rattle.parts.proofs.Laws.{node-slot}
 use Rattle.parts.proofs.record.Statement.{statement}
 use Rattle.parts.proofs.record.Tie as tie
 
-inside : (c : tie.After-slot-of) → InSlots (c .before .before .args .s) (c .slot-of .result) (c .before .before .args .m .now)
-inside c = node-slot (c .before .before .pre) (c .slot-of .ensures)
+abbrev start : tie.After-slot-of → tie.Start
+start c = c .before .before .before
+
+inside : (c : tie.After-slot-of) → InSlots (start c .args .s) (c .slot-of .result) (start c .args .m .now)
+inside c = node-slot (start c .pre) (c .slot-of .ensures)
 
 slot-of-requires : tie.Need-slot-of-requires
 slot-of-requires c κs = search needs
@@ -26,8 +29,7 @@ same-length c = search needs
 
 returns : tie.Need-returns
 unfolding recordMem
-returns c =
-    rw (c .before .before .record-rest .ensures, c .before .before .before .before .before .before .record-way .ensures, c .before .before .before .before .before .before .before .before .before .before .record-wide .ensures, c .before .before .before .before .before .before .before .before .before .before .before .before .slot-of .ensures)
+returns c = cc
 
 pub record-spec : {M : Type 1} → statement M
 record-spec = tie.close (tie.spec slot-of-requires record-wide-requires record-way-requires record-rest-requires same-length returns)

@@ -13,7 +13,7 @@ same-length : tie.Need-same-length
 same-length c = search needs
 
 returns : tie.Need-returns
-returns c = rw (c .before .before .put12 .ensures, c .before .before .before .before .before .before .put1 .ensures)
+returns c = cc
 
 pub record-rest-spec : {M : Type 1} → statement M
 record-rest-spec = tie.close (tie.spec put1-requires put1-requires-2 same-length returns)

@@ -13,7 +13,7 @@ same-length : tie.Need-same-length
 same-length c = search needs
 
 returns : tie.Need-returns
-returns c = rw (c .before .before .put4 .ensures, c .before .before .before .before .before .before .put2 .ensures)
+returns c = cc
 
 pub record-wide-spec : {M : Type 1} → statement M
 record-wide-spec = tie.close (tie.spec put2-requires put4-requires same-length returns)

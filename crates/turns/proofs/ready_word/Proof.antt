@@ -46,7 +46,8 @@ add-word : tie.Need-add-word Inv-loop μ-loop
 add-word c =
     let st = c .before .before .before .before in
     let a = st .args in
-    omega (arith, room (c .before), c .readiness .ensures, bit-le (isReady (settingsOf (a .s)) (ledgerIn (settingsOf (a .s)) (a .m .now)) (a .p) (c .before .before .loop .q - 1)))
+    let r = isReady (settingsOf (a .s)) (ledgerIn (settingsOf (a .s)) (a .m .now)) (a .p) in
+    omega (arith, room (c .before), c .readiness .ensures, bit-le (r (c .before .before .loop .q - 1)))
 
 loop-less : tie.Need-loop-less Inv-loop μ-loop
 loop-less c = omega arith
@@ -56,10 +57,9 @@ loop-again c =
     let st = c .before .before .before .before in
     let a = st .args in
     let q = c .before .before .loop .q in
-    let r = isReady (settingsOf (a .s)) (ledgerIn (settingsOf (a .s)) (a .m .now)) (a .p) in (
-      omega arith,
-      rw (c .before .before .loop .inv .1, c .readiness .ensures) (word-down r (a .s .queues) q (c .before .loop-test .taken) (c .before .before .loop .inv .0)),
-    )
+    let r = isReady (settingsOf (a .s)) (ledgerIn (settingsOf (a .s)) (a .m .now)) (a .p) in
+    let inv = c .before .before .loop .inv in
+    (omega arith, rw (inv .1, c .readiness .ensures) (word-down r (a .s .queues) q (c .before .loop-test .taken) (inv .0)))
 
 returns : tie.Need-returns Inv-loop μ-loop
 unfolding readyWord

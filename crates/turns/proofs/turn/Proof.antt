@@ -34,18 +34,22 @@ pick-requires : tie.Need-pick-requires
 pick-requires c κs =
     let e = c .before .before .before .before .before in
     let st = e .before .before in
-    omega (arith, c .last .ensures, st .pre .state .sound .orderly .ranges .numbers-in last (st .args .port) (e .if1 .left), st .pre .laid .roomy .few-queues)
+    let low = st .pre .state .sound .orderly .ranges .numbers-in last (st .args .port) (e .if1 .left) in
+    omega (arith, c .last .ensures, st .pre .laid .roomy .few-queues)
 
 cast-serve : tie.Need-cast-serve
 cast-serve c = search needs
 
 -- some queue is ready
-some : (c : tie.Else2) → let a = c .before .before .before .before .before .args in readyWord (settingsOf (a .s)) (ledgerIn (settingsOf (a .s)) (a .m .now)) (a .port) ≡ 0 → ⊥
+some : (c : tie.Else2) → let a = c .before .before .before .before .before .args in
+    readyWord (settingsOf (a .s)) (ledgerIn (settingsOf (a .s)) (a .m .now)) (a .port) ≡ 0 → ⊥
 some c z = c .if2 .left (c .before .ready-word .ensures ∙ z)
 
 -- the queue that was picked
 picked : (c : tie.After-pick) → let a = c .before .before .before .before .before .before .before .before .args in
-    c .pick .result ≡ pick (lastOf (ledgerIn (settingsOf (a .s)) (a .m .now)) (a .port)) (readyWord (settingsOf (a .s)) (ledgerIn (settingsOf (a .s)) (a .m .now)) (a .port))
+    let S = settingsOf (a .s) in
+    let L = ledgerIn S (a .m .now) in
+    c .pick .result ≡ pick (lastOf L (a .port)) (readyWord S L (a .port))
 picked c = c .pick .ensures ∙ ap₂ pick (c .before .last .ensures) (c .before .before .before .before .ready-word .ensures)
 
 serve-requires : tie.Need-serve-requires
@@ -82,7 +86,8 @@ returns-3 c =
     let a = st .args in
     let S = settingsOf (a .s) in
     let m = a .m .now in
-    laws.turn-leaves S m (a .port) (e₁ .if1 .left) (st .pre .state) (some e₂) (pk .pick .result) (picked pk) _ _ _ (sv .serve .ensures .packet) (c .exit-of .ensures) (sv .serve .ensures .memory)
+    laws.turn-leaves S m (a .port) (e₁ .if1 .left) (st .pre .state) (some e₂) (pk .pick .result) (picked pk) _ _ _
+    (sv .serve .ensures .packet) (c .exit-of .ensures) (sv .serve .ensures .memory)
 
 pub turn-spec : {M : Type 1} → statement M
 turn-spec =
