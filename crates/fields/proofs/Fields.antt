@@ -48,6 +48,3 @@ stands s at = go (leb (length s) at) (leb (nextAt s at) (length s)) refl
 
 pub whole-inside : (s : List ℕ) (at tag v len next : ℕ) → fieldAt s at ≡ Whole tag v len next → Inside s at v len next
 whole-inside s at tag v len next e = subst (Stands s at) e (stands s at)
-
-pub whole-next-larger : (s : List ℕ) (at tag v len next : ℕ) → fieldAt s at ≡ Whole tag v len next → (at < next) × (next ≤ length s)
-whole-next-larger s at tag v len next e = let i = whole-inside s at tag v len next e in (omega arith, i .within)

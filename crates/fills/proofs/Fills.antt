@@ -1,6 +1,6 @@
 -- The laws of fills: one more turn is one more put, equal places and values give the same, and what lies past the
 -- size is not touched. Assumes nothing.
-use mathlib.Core.Path.{_≡_, refl, ap, _∙_}
+use mathlib.Core.Path.{_≡_, refl, sym, ap, _∙_}
 use mathlib.Core.List.{List, _∷_, _++_}
 use Prim.Native.Nat.{ℕ, zero, suc, _+_, _-_, _*_, _≤_, _<_}
 use native.Mathlib.Nat.{mul-le-mul-right}
@@ -20,6 +20,25 @@ use Rattle.memory.specs.Image.{fill, settingAt, linked, allLinked, written, ima
 use Rattle.fills.specs.declared.Line.{Line}
 use Rattle.fills.specs.Fills.{along, freed}
 
+-- ---- a loop over the memory
+
+-- of n turns, after each of which it is as `after` says, i are done
+pub record Partly (after : ℕ → List ℕ) (n : ℕ) (m₀ : List ℕ) (i : ℕ) (m : List ℕ) : Type 0 where
+  pub most : i ≤ n
+  pub same-length : length m ≡ length m₀
+  pub made : m ≡ after i
+
+module _ {after : ℕ → List ℕ} {n : ℕ} {m₀ : List ℕ} where
+  pub partly-none : after 0 ≡ m₀ → Partly after n m₀ 0 m₀
+  partly-none e = record { most = omega arith; same-length = refl; made = sym e }
+
+  module _ {i : ℕ} {m : List ℕ} (at : Partly after n m₀ i m) where
+    pub partly-next : {m′ : List ℕ} → i < n → length m′ ≡ length m → m′ ≡ after (i + 1) → Partly after n m₀ (i + 1) m′
+    partly-next h l e = record { most = omega arith; same-length = l ∙ at .same-length; made = e }
+
+    pub partly-all : n ≤ i → m ≡ after n
+    partly-all h = let all : i ≡ n = omega arith in at .made ∙ ap after all
+
 -- ---- bytes that are cleared
 
 replicate-next : (n : ℕ) (ys : List ℕ) → replicate n 0 ++ (0 ∷ ys) ≡ replicate (suc n) 0 ++ ys
@@ -34,14 +53,15 @@ clear-next m i h =
 -- ---- a fill
 
 module _ (S : Settings) (t : Table) where
-  module _ (g f : ℕ → ℕ) where
-    pub fill-none : (m : List ℕ) → fill S t g f 0 m ≡ m
+  module _ (g f : ℕ → ℕ) {n : ℕ} {m₀ : List ℕ} where
+    pub fill-none : Partly (λ k. fill S t g f k m₀) n m₀ 0 m₀
     unfolding fill
-    fill-none m = refl
+    fill-none = partly-none refl
 
-    pub fill-next : (n : ℕ) (m : List ℕ) → fill S t g f (n + 1) m ≡ put S t (g n) (f n) (fill S t g f n m)
+    pub fill-next : {i : ℕ} {m m′ : List ℕ} → Partly (λ k. fill S t g f k m₀) n m₀ i m → i < n → length m′ ≡ length m
+        → m′ ≡ put S t (g i) (f i) m → Partly (λ k. fill S t g f k m₀) n m₀ (i + 1) m′
     unfolding fill
-    fill-next n m = rw add-one
+    fill-next at h l e = partly-next at h l (e ∙ rw (at .made, add-one))
 
   pub fill-same : (g f g′ f′ : ℕ → ℕ) (n : ℕ) (m : List ℕ) → ((i : ℕ) → g i ≡ g′ i) → ((i : ℕ) → f i ≡ f′ i)
       → fill S t g f n m ≡ fill S t g′ f′ n m
@@ -52,13 +72,15 @@ module _ (S : Settings) (t : Table) where
 -- ---- the links of every port
 
 module _ (S : Settings) where
-  pub links-none : (m : List ℕ) → allLinked S 0 m ≡ m
-  unfolding allLinked
-  links-none m = refl
+  module _ {n : ℕ} {m₀ : List ℕ} where
+    pub links-none : Partly (λ k. allLinked S k m₀) n m₀ 0 m₀
+    unfolding allLinked
+    links-none = partly-none refl
 
-  pub links-next : (n : ℕ) (m : List ℕ) → allLinked S (n + 1) m ≡ linked S n (allLinked S n m)
-  unfolding allLinked
-  links-next n m = rw add-one
+    pub links-next : {i : ℕ} {m m′ : List ℕ} → Partly (λ k. allLinked S k m₀) n m₀ i m → i < n → length m′ ≡ length m
+        → m′ ≡ linked S i m → Partly (λ k. allLinked S k m₀) n m₀ (i + 1) m′
+    unfolding allLinked
+    links-next at h l e = partly-next at h l (e ∙ rw (at .made, add-one))
 
   pub setting-small : Roomy S → (i : ℕ) → settingAt S i ≤ 65535
   setting-small r zero = omega arith

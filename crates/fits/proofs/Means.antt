@@ -125,7 +125,8 @@ list-step : {P R : Type 0} (F G : Finding) → (F ≡ Whole) ↔ P → (G ≡ Wh
 list-step Whole G f g = (λ e. (f .0 refl, g .0 e), λ a. g .1 (a .1))
 list-step (At x) G f g = (λ e. absurd (none x e), λ a. absurd (none x (f .1 (a .0))))
 
-first-means : {A : Type 0} (t : ℕ → Bool) (P : A → Type 0) (f : ℕ → A) → ((x : ℕ) → (t x ≡ true) ↔ P (f x)) → (xs : List ℕ) → (firstBad t xs ≡ Whole) ↔ All P (map f xs)
+first-means : {A : Type 0} (t : ℕ → Bool) (P : A → Type 0) (f : ℕ → A) → ((x : ℕ) → (t x ≡ true) ↔ P (f x)) → (xs : List ℕ)
+    → (firstBad t xs ≡ Whole) ↔ All P (map f xs)
 unfolding firstBad
 first-means t P f h [] = (λ e. tt, λ a. refl)
 first-means t P f h (x ∷ xs) = first-step (t x) (firstBad t xs) x (h x) (first-means t P f h xs)
@@ -152,6 +153,7 @@ module _ (rule : NodeRule) (S : Settings) (m : List ℕ) where
       let w = from-next Listed l n in
       (λ e. w .0 (s .0 e), λ f. s .1 (w .1 f))
 
+  -- (d), (e) or (f) of the whole ledger
   pub fits-means : (fitsFound rule S m ≡ Whole) ↔ Everywhere (λ l k. NodeHolds rule S (placeOf S l) k) (ledgerIn S m .lists)
   unfolding fitsFound
   fits-means =
@@ -159,18 +161,3 @@ module _ (rule : NodeRule) (S : Settings) (m : List ℕ) where
         λ e. record { holds = λ l h. let b : l < lists S = rw (length-lists S m) at h in rw (list-at S m l b) (f .0 e l (omega arith) (omega arith)) },
         λ w. f .1 (λ l low high. let b : l < lists S = omega arith in rw (list-at S m l b) at (w .holds l (rw (length-lists S m) b))),
       )
-
--- ---- the three rules
-
-module _ (S : Settings) (m : List ℕ) where
-  -- (d)
-  pub own-port-means : (fitsFound OwnPort S m ≡ Whole) ↔ Everywhere (λ l k. sound.OwnPort (placeOf S l) k) (ledgerIn S m .lists)
-  own-port-means = fits-means OwnPort S m
-
-  -- (e)
-  pub own-queue-means : (fitsFound OwnQueue S m ≡ Whole) ↔ Everywhere (λ l k. sound.OwnQueue (placeOf S l) k) (ledgerIn S m .lists)
-  own-queue-means = fits-means OwnQueue S m
-
-  -- (f)
-  pub record-means : (fitsFound Record S m ≡ Whole) ↔ Everywhere (λ l k. WellRecorded S (placeOf S l) k) (ledgerIn S m .lists)
-  record-means = fits-means Record S m

@@ -13,28 +13,17 @@ use Rattle.ledger.specs.Header.{leastLength}
 use Rattle.ledger.specs.Ledger.{isNode}
 use Rattle.ledger.specs.Sound.{All}
 use Rattle.ledger.proofs.Tests.{ltb-yes, and-left, and-right}
-use Rattle.layout.specs.declared.Shape.{Shape}
-use Rattle.layout.specs.declared.Table.{Table}
 use Rattle.layout.specs.declared.Table.the-variants.{Head, Count, Next}
-use Rattle.layout.specs.Tables.{lists, get, settingsOf}
+use Rattle.layout.specs.Tables.{lists, get}
 use Rattle.layout.specs.Picture.{slot, chain, nodesOf, packetAt}
-use Rattle.layout.specs.Access.{Reads}
 use Rattle.memory.specs.Ends.{Tidy}
-use Rattle.memory.proofs.Chains.{members, slot-lt, chain-more}
+use Rattle.memory.proofs.Chains.{members, chain-more}
 use Rattle.fits.specs.declared.NodeRule.{NodeRule}
 use Rattle.fits.specs.declared.Note.{Note}
 use Rattle.fits.specs.Fits.{spared, rangeTest, fieldsTest, properTest, ruleTest, nodeTest, firstBad, orElse, listFound, fitsFrom, fitsFound}
-use Rattle.fits.specs.Walk.{FieldOf, NoteOf}
+use Rattle.fits.specs.Walk.{NoteOf}
 
--- ---- a node's element of a table
-
-pub reads : {k x : ℕ} {s : Shape} {t : Table} {m : List ℕ} → FieldOf k s t x m → Reads k s t (slot (settingsOf s) x) m
-reads {k} {x} {s} f = record {
-  laid = f .seen .laid;
-  long = f .seen .long;
-  wide = f .wide;
-  inside = rw (f .each) (slot-lt (settingsOf s) x (f .seen .node));
-}
+-- ---- what is read of a record
 
 -- a length in range is short enough to have a price
 pub range-len : (S : Settings) (len queue dest poisoned : ℕ) → rangeTest S len queue dest poisoned ≡ true → len < 2 ^ 13
@@ -42,10 +31,10 @@ unfolding rangeTest
 range-len S len queue dest poisoned e = ltb-yes len (2 ^ 13) (and-left (ltb len (2 ^ 13)) _ (and-right (leb leastLength len) _ e))
 
 -- what was read of a record is tested as the packet is
-pub note-tests : {S : Settings} {m : List ℕ} {i : ℕ} {n : Note} (x : ℕ) → i ≡ slot S x → NoteOf S m i n
+pub note-tests : {S : Settings} {m : List ℕ} {n : Note} (x : ℕ) → NoteOf S m (slot S x) n
     → fieldsTest S (n .len) (n .queue) (n .dest) (n .poisoned) (n .price) ≡ properTest S (packetAt S m x)
 unfolding properTest packetAt
-note-tests x e w = rw (w .len-is, w .queue-is, w .dest-is, w .poisoned-is, w .price-is, e)
+note-tests x w = rw (w .len-is, w .queue-is, w .dest-is, w .poisoned-is, w .price-is)
 
 -- ---- a list of which the rule says nothing
 

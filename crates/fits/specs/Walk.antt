@@ -7,9 +7,8 @@ use lib.ListN.{length}
 use Rattle.ledger.specs.Settings.{Settings, size}
 use Rattle.ledger.specs.Ledger.{isNode}
 use Rattle.layout.specs.declared.Shape.{Shape}
-use Rattle.layout.specs.declared.Table.{Table}
 use Rattle.layout.specs.declared.Table.the-variants.{Length, Queue, Dest, Poisoned, Price}
-use Rattle.layout.specs.Tables.{width, many, lists, all, get, settingsOf, Laid}
+use Rattle.layout.specs.Tables.{lists, all, get, settingsOf, Laid}
 use Rattle.memory.specs.Ends.{Tidy}
 use Rattle.fits.specs.declared.NodeRule.{NodeRule}
 use Rattle.fits.specs.declared.Note.{Note}
@@ -20,12 +19,6 @@ pub record NodeOf (s : Shape) (x : ℕ) (m : List ℕ) : Type 0 where
   pub laid : Laid s
   pub long : size (settingsOf s) ≤ length m
   pub node : isNode (settingsOf s) x ≡ true
-
--- table t has an element of k bytes for it
-pub record FieldOf (k : ℕ) (s : Shape) (t : Table) (x : ℕ) (m : List ℕ) : Type 0 where
-  pub seen : NodeOf s x m
-  pub wide : width t ≡ k
-  pub each : many (settingsOf s) t ≡ all (settingsOf s)
 
 -- element i of the tables of nodes
 pub record RecordOf (s : Shape) (i : ℕ) (m : List ℕ) : Type 0 where

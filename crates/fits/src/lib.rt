@@ -8,31 +8,16 @@ ghost use Prim.Native.Nat.{_^_, _≤_, _<_};
 ghost use lib.Dec.{eqb};
 ghost use Rattle.ledger.specs.Header.{price as priceOf};
 ghost use Rattle.ledger.specs.Ledger.{owner};
-ghost use Rattle.layout.specs.Tables.{settingsOf, get, Laid};
-ghost use Rattle.layout.specs.Picture.{slot, packetAt};
+ghost use Rattle.layout.specs.Tables.{settingsOf, Laid};
+ghost use Rattle.layout.specs.Picture.{packetAt};
 ghost use Rattle.fits.specs.Fits.{spared, queueAt, rangeTest, fieldsTest, properTest, ruleTest, listFound, fitsFound};
-ghost use Rattle.fits.specs.Walk.{NodeOf, FieldOf, RecordOf, NoteOf, Spoken, Walkable, ListOf};
+ghost use Rattle.fits.specs.Walk.{NodeOf, RecordOf, NoteOf, Spoken, Walkable, ListOf};
 
 // Which of the three rules is tested.
 pub enum NodeRule {
     OwnPort,
     OwnQueue,
     Record,
-}
-
-// What a table has for a node: a read for each width.
-fn field1(m: &[u8], s: Shape, t: Table, x: u16) -> u8
-    requires { ⌜ FieldOf 1 s t x (now m) ⌝ }
-    ensures { λ r. ⌜ r ≡ get (settingsOf s) (now (m .entry)) t (slot (settingsOf s) x) ⌝ }
-{
-    layout::get1(m, s, t, layout::slot_of(s, x))
-}
-
-fn field2(m: &[u8], s: Shape, t: Table, x: u16) -> u16
-    requires { ⌜ FieldOf 2 s t x (now m) ⌝ }
-    ensures { λ r. ⌜ r ≡ get (settingsOf s) (now (m .entry)) t (slot (settingsOf s) x) ⌝ }
-{
-    layout::get2(m, s, t, layout::slot_of(s, x))
 }
 
 // Whether the rule says nothing of a port's list, by the list's column.
@@ -153,7 +138,10 @@ fn node_fits(m: &[u8], s: Shape, rule: NodeRule, port: usize, column: usize, x: 
 {
     match rule {
         NodeRule::OwnPort => own_port(port, x),
-        NodeRule::OwnQueue => own_queue(s, column, field1(m, s, Table::Queue, x) as usize),
+        NodeRule::OwnQueue => {
+            let queue = layout::get1(m, s, Table::Queue, layout::slot_of(s, x));
+            own_queue(s, column, queue as usize)
+        }
         NodeRule::Record => proper(m, s, x),
     }
 }
@@ -175,7 +163,7 @@ fn list_fits(m: &[u8], s: Shape, rule: NodeRule, l: usize) -> Finding
         if !node_fits(m, s, rule, port, column, x) {
             return Finding::At(x as usize);
         }
-        x = field2(m, s, Table::Next, x);
+        x = layout::get2(m, s, Table::Next, layout::slot_of(s, x));
         left -= 1;
     }
     Finding::Whole

@@ -49,12 +49,10 @@ module _ (S : Settings) (m : List ℕ) (p c x : ℕ) where
 
 module _ (S : Settings) (m : List ℕ) (c x : ℕ) where
   -- by what was answered of its queue, and of what was read of its record
-  pub note-fits : {i : ℕ} {n : Note} → i ≡ slot S x → NoteOf S m i n → (a b : Bool) → (ltb c 2 || eqb (n .queue) (queueAt S c)) ≡ a
+  pub note-fits : {n : Note} → NoteOf S m (slot S x) n → (a b : Bool) → (ltb c 2 || eqb (n .queue) (queueAt S c)) ≡ a
       → fieldsTest S (n .len) (n .queue) (n .dest) (n .poisoned) (n .price) ≡ b → (a && b) ≡ packetFits S m c x
   unfolding packetFits
-  note-fits {i} {n} e w a b f g =
-      let queue : n .queue ≡ get S m Queue (slot S x) = w .queue-is ∙ ap (get S m Queue) e in
-      ap₂ _&&_ (sym f ∙ ap (λ (q : ℕ). ltb c 2 || eqb q (queueAt S c)) queue) (sym g ∙ note-tests x e w)
+  note-fits w a b f g = ap₂ _&&_ (sym f ∙ ap (λ (q : ℕ). ltb c 2 || eqb q (queueAt S c)) (w .queue-is)) (sym g ∙ note-tests x w)
 
   -- a packet that fits has its queue in range
   pub fits-queue : packetFits S m c x ≡ true → get S m Queue (slot S x) < S .queues

@@ -139,7 +139,8 @@ module _ (S : Settings) (m : List ℕ) where
   unfolding right ends
   right-is ms l a h = rw (a, eqb-is _ _ h)
 
-  met-all : (l : ℕ) (ms : List ℕ) → length ms ≡ all S → ((y : ℕ) → seen S ms y ≤ bit (isNode S y)) → unmarked l ms ≡ Whole → (y : ℕ) → seen S ms y ≡ bit (isNode S y)
+  met-all : (l : ℕ) (ms : List ℕ) → length ms ≡ all S → ((y : ℕ) → seen S ms y ≤ bit (isNode S y)) → unmarked l ms ≡ Whole
+      → (y : ℕ) → seen S ms y ≡ bit (isNode S y)
   met-all l ms long b e y = go (isNode S y) refl
     where
       go : (c : Bool) → isNode S y ≡ c → seen S ms y ≡ bit (isNode S y)
@@ -171,8 +172,8 @@ module _ (S : Settings) (m : List ℕ) where
       go here later j h k (no d) = later j (omega arith) (omega arith)
 
   -- and back
-  scan-is : Roomy S → (n l : ℕ) (ms : List ℕ) → length ms ≡ all S → ((j : ℕ) → l ≤ j → j < l + n → Hangs S m j) → ((y : ℕ) → seen S ms y + stands y l n ≡ bit (isNode S y))
-      → scan S m ms l n ≡ Whole
+  scan-is : Roomy S → (n l : ℕ) (ms : List ℕ) → length ms ≡ all S → ((j : ℕ) → l ≤ j → j < l + n → Hangs S m j)
+      → ((y : ℕ) → seen S ms y + stands y l n ≡ bit (isNode S y)) → scan S m ms l n ≡ Whole
   unfolding scan
   scan-is R zero l ms long h c = all-marked l ms (λ i k. each-marked R ms (λ y. unfold stands in omega (arith, c y)) i (rw long at k))
   scan-is R (suc n) l ms long h c =
@@ -208,4 +209,5 @@ module _ (S : Settings) (m : List ℕ) where
   pub whole-found : Roomy S → ((l : ℕ) → l < lists S → Hangs S m l) × Once S (ledgerIn S m .lists) → onceFound S m ≡ Whole
   unfolding onceFound
   whole-found R h =
-      scan-is R (lists S) 0 (replicate (all S) 0) (length-replicate (all S) 0) (λ j i k. h .0 j (omega arith)) (λ y. omega (arith, h .1 y, clear y, stands-all y))
+      scan-is R (lists S) 0 (replicate (all S) 0) (length-replicate (all S) 0) (λ j i k. h .0 j (omega arith))
+      (λ y. omega (arith, h .1 y, clear y, stands-all y))

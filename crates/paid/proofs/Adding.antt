@@ -76,7 +76,8 @@ module _ (S : Settings) (m : List ℕ) where
     where
       count : (x : ℕ) → isNode S x ≡ true → WellRecorded S (placeOf S l) (nodeIn S m l x) → Counted S m x
       count x e w =
-          let r : Proper S (packetAt S m x) = by-place S (λ v. WellRecorded S v (packetAt S m x) → Proper S (packetAt S m x)) (λ p k. k) (λ p q k. k) (λ p q k. k) l n (rw (item-used S m l x n) at w) in
+          let k = packetAt S m x in
+          let r = by-place S (λ v. WellRecorded S v k → Proper S k) (λ p w. w) (λ p q w. w) (λ p q w. w) l n (rw (item-used S m l x n) at w) in
           record { node = e; queue-in = r .queue-in }
 
   pub free-list : (sums : List ℕ) (l : ℕ) → l % row S ≡ 0 → addList S m sums l ≡ sums
@@ -95,10 +96,11 @@ module _ (S : Settings) (m : List ℕ) where
 
   pub add-sums : (sums : List ℕ) (x b : ℕ) → Sums S sums b → Sums S (addNode S m sums x) (b + 255)
   unfolding addNode addPrice
-  add-sums sums x b s = record {
-    many = node-length sums x ∙ s .many;
-    low = λ p q. credit-le S sums (owner x) (get S m Queue (slot S x)) _ p q (b + 255) (omega (arith, s .low (owner x) (get S m Queue (slot S x)), get-lt S m Price (slot S x))) (omega (arith, s .low p q));
-  }
+  add-sums sums x b s =
+      let r = get S m Queue (slot S x) in
+      let mine = s .low (owner x) r in
+      let price = get-lt S m Price (slot S x) in
+      record { many = node-length sums x ∙ s .many; low = λ p q. credit-le S sums (owner x) r _ p q (b + 255) (omega arith) (omega (arith, s .low p q)) }
 
   pub all-sums : (xs sums : List ℕ) (b : ℕ) → Sums S sums b → Sums S (addAll S m sums xs) (b + 255 * length xs)
   unfolding addAll

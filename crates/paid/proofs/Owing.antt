@@ -1,6 +1,6 @@
 -- The sums are what the nodes owe, so that no cell is found is rule (g). Assumes nothing.
 use mathlib.Core.Path.{_≡_, refl, sym, ap, _∙_}
-use mathlib.Core.Logic.{_↔_}
+use mathlib.Core.Logic.{_↔_, _≢_}
 use mathlib.Core.Bool.{true, cond, _&&_}
 use mathlib.Core.List.{List, [], _∷_, map}
 use Prim.Native.Nat.{ℕ, zero, suc, _+_, _-_, _/_, _%_, _≤_, _<_}
@@ -80,6 +80,12 @@ module _ (S : Settings) (m : List ℕ) (p q : ℕ) (hp : p < S .ports) (some : 0
   nodes-owe (x ∷ xs) sums e a =
       omega (arith, nodes-owe xs (addNode S m sums x) (node-length S m sums x ∙ e) (a .1), node-owes sums x e (a .0))
 
+  -- in a list that is not free
+  used-owes : (l : ℕ) → l % row S ≢ 0 → (x : ℕ) → owed S p q l (nodeIn S m l x) ≡ owes p q (packetAt S m x)
+  used-owes l n x =
+      ap (owed S p q l) (item-used S m l x n)
+      ∙ by-place S (λ v. due p q v (packetAt S m x) ≡ owes p q (packetAt S m x)) (λ r. refl) (λ r t. refl) (λ r t. refl) l n
+
   list-owes : Payable S m → (sums : List ℕ) (l : ℕ) → length sums ≡ cells S → l < lists S
       → creditAt S (addList S m sums l) p q ≡ creditAt S sums p q + sum (owed S p q l) (shown S m l)
   list-owes P sums l e h = go (ℕ-discrete (l % row S) 0)
@@ -92,7 +98,7 @@ module _ (S : Settings) (m : List ℕ) (p q : ℕ) (hp : p < S .ports) (some : 0
           let each : sum (owed S p q l) (shown S m l) ≡ sum (λ x. owes p q (packetAt S m x)) (nodesOf S m l) =
           sum-map (owed S p q l) (nodeIn S m l) (nodesOf S m l)
           ∙ sum-cong (λ x. owed S p q l (nodeIn S m l x)) (λ x. owes p q (packetAt S m x)) (nodesOf S m l)
-          (All-of (nodesOf S m l) (λ x. ap (owed S p q l) (item-used S m l x n) ∙ by-place S (λ v. due p q v (packetAt S m x) ≡ owes p q (packetAt S m x)) (λ r. refl) (λ r t. refl) (λ r t. refl) l n))
+          (All-of (nodesOf S m l) (used-owes l n))
           in
           rw (used-list S m sums l n) (omega (arith, nodes-owe (nodesOf S m l) sums e (counted S m P l h n)))
 
@@ -116,7 +122,8 @@ module _ (S : Settings) (m : List ℕ) (p q : ℕ) (hp : p < S .ports) (some : 0
       omega (
         arith,
         zero-sums S .low p q,
-        lists-owe P (lists S) 0 (replicate (cells S) 0) (owed S p q) (λ i. let k : i ≡ 0 + i = omega arith in ap (owed S p q) k) (length-replicate (cells S) 0) (omega arith),
+        lists-owe P (lists S) 0 (replicate (cells S) 0) (owed S p q) (λ i. let k : i ≡ 0 + i = omega arith in ap (owed S p q) k)
+            (length-replicate (cells S) 0) (omega arith),
       )
 
 -- ---- rule (g)
@@ -133,7 +140,8 @@ module _ (S : Settings) (m : List ℕ) (R : Roomy S) (P : Payable S m) where
   at-cell p r hp hr =
       omega (arith, getD-table (get S m Arrival) (cells S) (cell S p r) 0 (cell-lt S p r hp hr), sums-owe S m p (suc r) hp (omega arith) hr P)
 
-  settled-cell : (c : ℕ) → c < cells S → ((p r : ℕ) → p < S .ports → suc r < S .queues → settledAt S m (sumsOf S m) (cell S p r) ≡ true) → settledAt S m (sumsOf S m) c ≡ true
+  settled-cell : (c : ℕ) → c < cells S → ((p r : ℕ) → p < S .ports → suc r < S .queues → settledAt S m (sumsOf S m) (cell S p r) ≡ true)
+      → settledAt S m (sumsOf S m) c ≡ true
   unfolding cell
   settled-cell c h each =
       let wide : 0 < S .queues - 1 = omega arith in
@@ -142,7 +150,9 @@ module _ (S : Settings) (m : List ℕ) (R : Roomy S) (P : Payable S m) where
 
   pub paid-means : (paidFound S m ≡ Whole) ↔ AllPaid S m
   unfolding dueFound settledAt
-  paid-means = (λ e. means (first-all (settledAt S m (sumsOf S m)) (cells S) .0 e), λ h. first-all (settledAt S m (sumsOf S m)) (cells S) .1 (λ c k. settled-cell c k (holds h)))
+  paid-means =
+      let f = first-all (settledAt S m (sumsOf S m)) (cells S) in
+      (λ e. means (f .0 e), λ h. f .1 (λ c k. settled-cell c k (holds h)))
     where
       means : ((c : ℕ) → c < cells S → settledAt S m (sumsOf S m) c ≡ true) → AllPaid S m
       means h p zero hp some hq = absurd (omega arith)

@@ -51,7 +51,8 @@ module _ {s : Shape} {m sums : List ℕ} {x : ℕ} (a : Adds s m sums x) where
 
 -- ---- the nodes of a list
 
-pub list-reads : {k : ℕ} {s : Shape} {m sums : List ℕ} {l : ℕ} → AddsList s m sums l → (t : Table) → width t ≡ k → many (settingsOf s) t ≡ lists (settingsOf s) → Reads k s t l m
+pub list-reads : {k : ℕ} {s : Shape} {m sums : List ℕ} {l : ℕ} → AddsList s m sums l
+    → (t : Table) → width t ≡ k → many (settingsOf s) t ≡ lists (settingsOf s) → Reads k s t l m
 list-reads a t w n = record { laid = a .laid; long = a .payable .tidy .long; wide = w; inside = rw n (a .inside) }
 
 chain-end : (S : Settings) (m : List ℕ) (n i x : ℕ) → n ≤ i → chain S m (n - i) x ≡ []
@@ -95,7 +96,7 @@ module _ (S : Settings) (m sums₀ : List ℕ) (l n : ℕ) (sums : List ℕ) (x 
     low = omega arith;
     nodes = rw (a .next-is) (rw (chain-front S m n i x h) at (w .nodes) .1);
     rest = rw (a .next-is, a .sums-are) (rw (chain-front S m n i x h) at (w .rest));
-    held = rw (a .sums-are) (sums-more S (addNode S m sums x) (listMost * l + 255 * i + 255) (listMost * l + 255 * (i + 1)) (omega arith) (add-sums S m sums x (listMost * l + 255 * i) (w .held)));
+    held = rw (a .sums-are) (sums-more S (addNode S m sums x) (listMost * l + 255 * i + 255) _ (omega arith) (add-sums S m sums x _ (w .held)));
   }
 
   pub walk-end : n ≤ i → l % row S ≢ 0 → sums ≡ addList S m sums₀ l
@@ -116,7 +117,8 @@ module _ (S : Settings) (m : List ℕ) where
       let k : lists S - 0 ≡ lists S = omega arith in
       record { low = omega arith; rest = rw (e, k) refl; held = rw e (sums-more S (replicate (cells S) 0) 0 (listMost * 0) (omega arith) (zero-sums S)) }
 
-  pub list-next : Payable S m → Roomy S → (sums sums′ : List ℕ) (l : ℕ) → l < lists S → Listing S m sums l → sums′ ≡ addList S m sums l → Listing S m sums′ (l + 1)
+  pub list-next : Payable S m → Roomy S → (sums sums′ : List ℕ) (l : ℕ) → l < lists S → Listing S m sums l → sums′ ≡ addList S m sums l
+      → Listing S m sums′ (l + 1)
   unfolding addFrom
   list-next P R sums sums′ l h s e =
       let k : lists S - l ≡ suc (lists S - suc l) = omega arith in
@@ -132,7 +134,8 @@ module _ (S : Settings) (m : List ℕ) where
 
   -- ---- all sums
 
-  from-sums : Payable S m → Roomy S → (n l : ℕ) (sums : List ℕ) → l + n ≤ lists S → Sums S sums (listMost * l) → Sums S (addFrom S m sums l n) (listMost * (l + n))
+  from-sums : Payable S m → Roomy S → (n l : ℕ) (sums : List ℕ) → l + n ≤ lists S → Sums S sums (listMost * l)
+      → Sums S (addFrom S m sums l n) (listMost * (l + n))
   unfolding addFrom
   from-sums P R zero l sums h s = sums-more S sums (listMost * l) (listMost * (l + 0)) (omega arith) s
   from-sums P R (suc n) l sums h s =

@@ -92,7 +92,8 @@ fn put(room: &mut [u8], at: usize, bytes: [u8; 4])
 fn turn_port(m: &mut [u8], s: Shape, p: usize, room: &mut [u8])
     requires { ⌜ Works s (now m) × (p < s .ports) × (4 * s .ports ≤ length (now room)) ⌝ }
     ensures { λ _. ⌜ now (m .exit) ≡ acted (settingsOf s) (now (m .entry)) (turn p) .1 ⌝ }
-    ensures { λ _. ⌜ now (room .exit) ≡ take (4 * p) (now (room .entry)) ++ (answerBytes (acted (settingsOf s) (now (m .entry)) (turn p) .0) ++ drop (4 * p + 4) (now (room .entry))) ⌝ }
+    ensures { λ _. ⌜ now (room .exit) ≡ take (4 * p) (now (room .entry))
+        ++ (answerBytes (acted (settingsOf s) (now (m .entry)) (turn p) .0) ++ drop (4 * p + 4) (now (room .entry))) ⌝ }
 {
     let bytes = told(turns::turn(m, s, p as u32));
     put(room, 4 * p, bytes);
@@ -115,7 +116,8 @@ fn turn_each(m: &mut [u8], s: Shape, room: &mut [u8])
 // The round: refused where the room has less than four bytes a port.
 pub fn round(m: &mut [u8], s: Shape, room: &mut [u8]) -> Plain
     requires { ⌜ Works s (now m) ⌝ }
-    ensures { λ r. ⌜ _≡_ {A = Reply × List ℕ × List ℕ} (plainReply r, now (m .exit), now (room .exit)) (rounded (settingsOf s) (now (m .entry)) (now (room .entry))) ⌝ }
+    ensures { λ r. ⌜ _≡_ {A = Reply × List ℕ × List ℕ} (plainReply r, now (m .exit), now (room .exit))
+        (rounded (settingsOf s) (now (m .entry)) (now (room .entry))) ⌝ }
 {
     let ports = s.ports;
     if room.len() < 4 * ports {

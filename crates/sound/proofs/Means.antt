@@ -29,7 +29,7 @@ use Rattle.once.proofs.Means.{found-whole, found-tidy, whole-found}
 use Rattle.fits.specs.declared.NodeRule.{NodeRule}
 use Rattle.fits.specs.declared.NodeRule.the-variants.{OwnPort, OwnQueue, Record}
 use Rattle.fits.specs.Fits.{fitsFound}
-use Rattle.fits.proofs.Means.{own-port-means, own-queue-means, record-means}
+use Rattle.fits.proofs.Means.{fits-means}
 use Rattle.paid.specs.Paid.{paidFound}
 use Rattle.paid.proofs.Owing.{paid-means}
 use Rattle.sound.specs.declared.Broken.{Broken}
@@ -102,7 +102,7 @@ module _ (m : List ℕ) (s : Shape) where
     clean-state k =
         let S : Settings = settingsOf s in
         let w = found-whole S m (k .once) in
-        let proper = record-means S m .0 (k .fits Record) in
+        let proper = fits-means Record S m .0 (k .fits Record) in
         let tidy = passed-once (k .once) in
         record {
           long = tidy .long;
@@ -113,8 +113,8 @@ module _ (m : List ℕ) (s : Shape) where
               shaped = shaped S m;
               ranges = ranges-means S m (o .laid .roomy) .0 (k .ranges);
               once = w .1;
-              owned = own-port-means S m .0 (k .fits OwnPort);
-              queued = own-queue-means S m .0 (k .fits OwnQueue);
+              owned = fits-means OwnPort S m .0 (k .fits OwnPort);
+              queued = fits-means OwnQueue S m .0 (k .fits OwnQueue);
               proper = proper;
               paid = paid-means S m (o .laid .roomy) (record { tidy = tidy; proper = proper }) .0 (k .paid);
             };
@@ -128,7 +128,7 @@ state-clean S m t =
     record {
       ranges = ranges-means S m R .1 (o .ranges);
       once = whole-found S m R (t .hangs, o .once);
-      fits = by-rule S m (own-port-means S m .1 (o .owned)) (own-queue-means S m .1 (o .queued)) (record-means S m .1 (o .proper));
+      fits = by-rule S m (fits-means OwnPort S m .1 (o .owned)) (fits-means OwnQueue S m .1 (o .queued)) (fits-means Record S m .1 (o .proper));
       paid = paid-means S m R (record { tidy = state-tidy S m t; proper = o .proper }) .1 (o .paid);
     }
 

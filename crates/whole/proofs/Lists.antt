@@ -3,9 +3,9 @@ use mathlib.Core.Path.{_≡_, refl, sym, ap, _∙_}
 use mathlib.Core.Bool.{Bool, true, false}
 use mathlib.Core.List.{List}
 use Prim.Native.Nat.{ℕ, suc, _+_, _-_, _*_, _/_, _%_, _≤_, _<_}
-use native.Mathlib.Decide.{ℕ-discrete}
 use native.Mathlib.Numerals.{add-one}
 use native.Mathlib.Omega.{arith}
+use borrow.Author.Count.{below-more}
 use lib.ListN.{length}
 use Rattle.ledger.specs.declared.Finding.{Finding}
 use Rattle.ledger.specs.declared.Finding.the-variants.{Whole, At}
@@ -23,7 +23,7 @@ use Rattle.fits.specs.declared.NodeRule.{NodeRule}
 use Rattle.fits.specs.declared.NodeRule.the-variants.{Record}
 use Rattle.fits.specs.Fits.{listFound, fitsFound}
 use Rattle.fits.proofs.Walk.{fits-start, fits-end, fits-stop, fits-next}
-use Rattle.fits.proofs.Means.{none, record-means}
+use Rattle.fits.proofs.Means.{none, fits-means}
 use Rattle.paid.specs.Paid.{addList, addFrom, sumsOf}
 use Rattle.paid.specs.Passes.{Sums, Payable}
 use Rattle.paid.proofs.Adding.{sums-more}
@@ -76,13 +76,6 @@ module _ {S : Settings} {m ms sums : List ℕ} {l n : ℕ} (W : AtList S m ms su
     pub lists-many : fewIn S m l ≡ false → Kept S m → ⊥
     lists-many e k = true≢false (sym (k .slots l some) ∙ e)
 
-    few-next : fewIn S m l ≡ true → (i : ℕ) → i < l + 1 → fewIn S m i ≡ true
-    few-next e i h = go (ℕ-discrete l i)
-      where
-        go : Dec (l ≡ i) → fewIn S m i ≡ true
-        go (yes q) = rw (← q) e
-        go (no d) = W .slots i (omega arith)
-
     next : fewIn S m l ≡ true → ListKept S m ms l → (ms′ sums′ : List ℕ) → length ms′ ≡ length ms
         → ms′ ≡ markAll S ms (nodesOf S m l) → sums′ ≡ addList S m sums l → Sums S sums′ (countMost * (l + 1))
         → AtList S m ms′ sums′ (l + 1) (n + get S m Count l)
@@ -92,7 +85,7 @@ module _ {S : Settings} {m ms sums : List ℕ} {l n : ℕ} (W : AtList S m ms su
         record {
           scan = scan-yes (W .scan) some (k .once) ms′ long e;
           met = ap setMarks e ∙ list-more S m ms l (W .scan .fits) (k .once) ∙ ap (λ (j : ℕ). j + get S m Count l) (W .met);
-          slots = few-next f;
+          slots = below-more (λ i. fewIn S m i ≡ true) l (W .slots) f;
           fits = λ rule. sym (fits-next rule S m l some (k .fits rule)) ∙ W .fits rule;
           add = rw (a, add-one l) (rw one at (W .add));
           held = h;
@@ -123,4 +116,4 @@ module _ {S : Settings} {m ms sums : List ℕ} {l n : ℕ} (W : AtList S m ms su
 
 -- rules (c) and (f) make the prices payable
 pub payable : (S : Settings) (m : List ℕ) → size S ≤ length m → onceFound S m ≡ Whole → fitsFound Record S m ≡ Whole → Payable S m
-payable S m long e f = record { tidy = found-tidy S m long e; proper = record-means S m .0 f }
+payable S m long e f = record { tidy = found-tidy S m long e; proper = fits-means Record S m .0 f }

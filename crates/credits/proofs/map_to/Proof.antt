@@ -19,16 +19,20 @@ enum-known-verdict c = search needs
 enum-told : tie.Need-enum-told
 enum-told c = search needs
 
-went : (c : tie.After-enum-told) → let a = c .before .before .before .before .before .args in Maps (settingsOf (a .s)) (a .m .now) (a .id) (a .port)
+-- where the judge has answered, and what it let go
+abbrev start : tie.After-judge-map → tie.Start
+start c = c .before .before .before
+
+went : (c : tie.After-enum-told) → let a = start (c .before .before) .args in Maps (settingsOf (a .s)) (a .m .now) (a .id) (a .port)
 went c = mapped-on _ _ _ _ (sym (ap judgementOf (c .enum-told .given .1)) ∙ c .before .before .judge-map .ensures)
 
 cast-set-mapped : tie.Need-cast-set-mapped
-cast-set-mapped c = omega (arith, went (c .before) .port, c .before .before .before .before .before .before .pre .laid .roomy .few-ports)
+cast-set-mapped c = omega (arith, went (c .before) .port, start (c .before .before .before) .pre .laid .roomy .few-ports)
 
 set-mapped-requires : tie.Need-set-mapped-requires
 set-mapped-requires c κs =
-    let st = c .before .before .before .before .before .before in
-    record { laid = st .pre .laid; long = st .pre .state .long; id = went (c .before) .id }
+    let p = start (c .before .before .before) .pre in
+    record { laid = p .laid; long = p .state .long; id = went (c .before) .id }
 
 same-length : tie.Need-same-length
 same-length c = search needs
@@ -36,7 +40,7 @@ same-length c = search needs
 returns : tie.Need-returns
 returns c =
     let j = c .before .before .before in
-    let a = j .before .before .before .args in
+    let a = start j .args in
     sym (acted-bad (settingsOf (a .s)) (a .m .now) (mapTo (a .id) (a .port)) _ (sym (j .judge-map .ensures) ∙ ap judgementOf (c .before .verdict .given .1)))
 
 same-length-2 : tie.Need-same-length-2

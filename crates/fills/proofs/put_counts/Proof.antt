@@ -1,21 +1,19 @@
--- `fills::put_counts` meets its contract. The loop's invariant: the memory is the fill of the ports passed. The measure is how many are left. Assumes nothing.
-use mathlib.Core.Path.{_≡_, refl, sym}
-use Prim.Native.Nat.{_-_, _*_, _≤_}
+-- `fills::put_counts` meets its contract. The loop's invariant: the ports passed have their counts. The measure is how many are left. Assumes nothing.
+use mathlib.Core.Path.{refl}
+use Prim.Native.Nat.{_-_, _*_}
 use native.Mathlib.Omega.{arith}
-use borrow.Author.Needs.{needs}
-use lib.ListN.{length}
 use Rattle.ledger.specs.Settings.{row}
 use Rattle.layout.specs.Tables.{settingsOf}
 use Rattle.layout.specs.declared.Table.the-variants.{Count}
 use Rattle.layout.proofs.Shapes.{few}
 use Rattle.memory.specs.Image.{fill}
-use Rattle.fills.proofs.Fills.{fill-none, fill-next, free-in}
+use Rattle.fills.proofs.Fills.{Partly, partly-all, fill-none, fill-next, free-in}
 use Rattle.fills.proofs.put_counts.Statement.{statement}
 use Rattle.fills.proofs.put_counts.Tie as tie
 
 abbrev Inv-loop : tie.InvT-loop
 Inv-loop m₀ s ports r nodes p₀ m p =
-    (p ≤ ports) × (length m ≡ length m₀) × (m ≡ fill (settingsOf s) Count (λ i. i * row (settingsOf s)) (λ i. s .nodes) p m₀)
+    Partly (λ k. fill (settingsOf s) Count (λ i. i * row (settingsOf s)) (λ i. s .nodes) k m₀) ports m₀ p m
 
 abbrev μ-loop : tie.MeasureT-loop
 μ-loop m₀ s ports r nodes p₀ m p = ports - p
@@ -30,23 +28,26 @@ cast-nodes : tie.Need-cast-nodes Inv-loop μ-loop
 cast-nodes c = omega arith
 
 loop-holds : tie.Need-loop-holds Inv-loop μ-loop
-loop-holds c = (omega arith, refl, sym (fill-none _ _ _ _ _))
+loop-holds c = fill-none _ _ _ _
+
+abbrev start : tie.At-loop Inv-loop μ-loop → tie.Start Inv-loop μ-loop
+start c = c .before .before .before .before
 
 mul-put4 : tie.Need-mul-put4 Inv-loop μ-loop
 unfolding row
 mul-put4 c =
-    let start = c .before .before .before .before .before .before in
-    omega (arith, few _ (start .pre .laid .roomy), free-in (settingsOf (start .args .s)) (c .before .before .loop .p) (omega arith))
+    let at = c .before .before in
+    omega (arith, few _ (start at .pre .laid .roomy), free-in (settingsOf (start at .args .s)) (at .loop .p) (omega arith))
 
 put4-requires : tie.Need-put4-requires Inv-loop μ-loop
 unfolding row
 put4-requires c κs =
-    let start = c .before .before .before .before .before .before in
+    let at = c .before .before in
     record {
-      laid = start .pre .laid;
+      laid = start at .pre .laid;
       long = omega arith;
       wide = refl;
-      inside = free-in (settingsOf (start .args .s)) (c .before .before .loop .p) (omega arith);
+      inside = free-in (settingsOf (start at .args .s)) (at .loop .p) (omega arith);
     }
 
 add-p : tie.Need-add-p Inv-loop μ-loop
@@ -58,15 +59,16 @@ loop-less c = omega arith
 loop-again : tie.Need-loop-again Inv-loop μ-loop
 unfolding row
 loop-again c =
-    let a = c .before .before .before .before .before .before .before .before .before .args in
-    let S = settingsOf (a .s) in
-    (omega arith, search needs, cc (fill-next S Count (λ i. i * row S) (λ i. S .nodes) (c .before .before .before .before .before .loop .p) (a .m .now)))
+    let back = c .before in
+    let done = back .before in
+    let inside = done .before .before in
+    fill-next _ _ _ _ (inside .before .loop .inv) (inside .loop-test .taken) (back .m .given) (done .put4 .ensures)
 
 same-length : tie.Need-same-length Inv-loop μ-loop
-same-length c = c .before .loop .inv .1
+same-length c = c .before .loop .inv .same-length
 
 returns : tie.Need-returns Inv-loop μ-loop
-returns c = let all : c .before .loop .p ≡ c .before .before .before .before .before .args .s .ports = omega arith in cc
+returns c = partly-all (c .before .loop .inv) (c .loop-test .left)
 
 pub put-counts-spec : {M : Type 1} → statement M
 put-counts-spec =

@@ -17,6 +17,9 @@ add-t8 c = search needs
 sub-t7 : tie.Need-sub-t7
 sub-t7 c = search needs
 
+abbrev begun : tie.After-put-line → tie.Start
+begun c = c .before .before .before .before .before
+
 put-line-requires : tie.Need-put-line-requires
 unfolding row
 put-line-requires c κs =
@@ -31,7 +34,7 @@ put-line-requires c κs =
 put-line-requires-2 : tie.Need-put-line-requires-2
 unfolding row
 put-line-requires-2 c κs =
-    let start = c .before .before .before .before .before .before .before .before in
+    let start = begun (c .before .before .before) in
     record {
       room = search needs;
       wide = refl;
@@ -51,8 +54,12 @@ same-length c = search needs
 returns : tie.Need-returns
 unfolding row
 returns c =
-    let start = c .before .before .before .before .before .before .before .before .before .before .before .before .before .before .before .before .before .before .before in
-    rw (c .before .before .put-all-links .ensures, c .before .before .before .before .before .before .put-counts .ensures, c .before .before .before .before .before .before .before .before .before .before .put-line2 .ensures, c .before .before .before .before .before .before .before .before .before .before .before .before .before .before .put-line .ensures)
+    let linked = c .before .before in
+    let counted = linked .before .before .before .before in
+    let tailed = counted .before .before .before .before in
+    let headed = tailed .before .before .before .before in
+    let start = begun headed in
+    rw (linked .put-all-links .ensures, counted .put-counts .ensures, tailed .put-line2 .ensures, headed .put-line .ensures)
     (freed-along (settingsOf (start .args .s)) _ _ _ (λ p. omega arith) (λ p. omega arith) (λ p. omega arith) (start .args .m .now))
 
 pub put-free-lists-spec : {M : Type 1} → statement M

@@ -1,30 +1,31 @@
 -- `fills::put_line` meets its contract. The loop's invariant: the memory is the fill of the places passed. The measure is how many are left. Assumes nothing.
-use mathlib.Core.Path.{_≡_, refl, sym, ap, _∙_}
-use Prim.Native.Nat.{ℕ, _-_, _≤_}
+use mathlib.Core.Path.{_∙_}
+use Prim.Native.Nat.{_-_}
 use native.Mathlib.Omega.{arith}
-use borrow.Author.Needs.{needs}
-use lib.ListN.{length}
 use Rattle.layout.specs.Access.{Reads}
 use Rattle.layout.specs.Tables.{settingsOf}
 use Rattle.layout.proofs.Shapes.{reach}
 use Rattle.memory.specs.Image.{fill}
 use Rattle.fills.specs.Fills.{along}
-use Rattle.fills.proofs.Fills.{fill-none, fill-next}
+use Rattle.fills.proofs.Fills.{Partly, partly-all, fill-none, fill-next}
 use Rattle.fills.proofs.put_line.Statement.{statement}
 use Rattle.fills.proofs.put_line.Tie as tie
 
 abbrev Inv-loop : tie.InvT-loop
 Inv-loop m₀ s t places values n i₀ m i =
-    (i ≤ n) × (length m ≡ length m₀) × (m ≡ fill (settingsOf s) t (along places) (along values) i m₀)
+    Partly (λ k. fill (settingsOf s) t (along places) (along values) k m₀) n m₀ i m
 
 abbrev μ-loop : tie.MeasureT-loop
 μ-loop m₀ s t places values n i₀ m i = n - i
 
+abbrev start : tie.In-loop Inv-loop μ-loop → tie.Start Inv-loop μ-loop
+start c = c .before .before .before
+
 -- the place of this turn is an element of the table
 here : (c : tie.In-loop Inv-loop μ-loop)
-    → Reads 2 (c .before .before .before .args .s) (c .before .before .before .args .t) (along (c .before .before .before .args .places) (c .before .loop .i)) (c .before .loop .m)
+    → let a = start c .args in Reads 2 (a .s) (a .t) (along (a .places) (c .before .loop .i)) (c .before .loop .m)
 here c =
-    let pre = c .before .before .before .pre in
+    let pre = start c .pre in
     record {
       laid = pre .room .laid;
       long = omega arith;
@@ -33,17 +34,20 @@ here c =
     }
 
 loop-holds : tie.Need-loop-holds Inv-loop μ-loop
-loop-holds c = (omega arith, refl, sym (fill-none _ _ _ _ _))
+loop-holds c = fill-none _ _ _ _
 
 at-requires : tie.Need-at-requires Inv-loop μ-loop
 at-requires c κs = omega (arith, reach (here (c .before)))
 
 at-requires-2 : tie.Need-at-requires-2 Inv-loop μ-loop
-at-requires-2 c κs = omega (arith, c .before .before .before .before .before .pre .small (c .before .before .before .loop .i) (omega arith))
+at-requires-2 c κs =
+    let inside = c .before .before in
+    omega (arith, start inside .pre .small (inside .before .loop .i) (omega arith))
 
 cast-put2 : tie.Need-cast-put2 Inv-loop μ-loop
 cast-put2 c =
-    omega (arith, c .before .before .before .before .before .before .pre .small (c .before .before .before .before .loop .i) (omega arith))
+    let inside = c .before .before .before in
+    omega (arith, start inside .pre .small (inside .before .loop .i) (omega arith))
 
 put2-requires : tie.Need-put2-requires Inv-loop μ-loop
 put2-requires c κs =
@@ -58,18 +62,19 @@ loop-less c = omega arith
 
 loop-again : tie.Need-loop-again Inv-loop μ-loop
 loop-again c =
-    let at = c .before .before .before .before .before .before .before .loop in
-    let a = c .before .before .before .before .before .before .before .before .before .args in
-    (omega arith, search needs, cc (fill-next (settingsOf (a .s)) (a .t) (along (a .places)) (along (a .values)) (at .i) (a .m .now)))
+    let back = c .before in
+    let done = back .before in
+    let valued = done .before in
+    let placed = valued .before in
+    let inside = placed .before .before in
+    fill-next _ _ _ _ (inside .before .loop .inv) (inside .loop-test .taken) (back .m .given)
+    (done .put2 .ensures ∙ rw (placed .at .ensures, valued .at2 .ensures))
 
 same-length : tie.Need-same-length Inv-loop μ-loop
-same-length c = c .before .loop .inv .1
+same-length c = c .before .loop .inv .same-length
 
 returns : tie.Need-returns Inv-loop μ-loop
-returns c =
-    let a = c .before .before .before .args in
-    let all : c .before .loop .i ≡ a .n = omega arith in
-    c .before .loop .inv .2 ∙ ap (λ (k : ℕ). fill (settingsOf (a .s)) (a .t) (along (a .places)) (along (a .values)) k (a .m .now)) all
+returns c = partly-all (c .before .loop .inv) (c .loop-test .left)
 
 pub put-line-spec : {M : Type 1} → statement M
 put-line-spec =

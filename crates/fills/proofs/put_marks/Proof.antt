@@ -1,18 +1,16 @@
--- `fills::put_marks` meets its contract. The loop's invariant: the memory is the fill of the ports passed. The measure is how many are left. Assumes nothing.
-use mathlib.Core.Path.{_≡_, refl, sym}
-use Prim.Native.Nat.{_-_, _≤_}
+-- `fills::put_marks` meets its contract. The loop's invariant: the ports passed have their marks. The measure is how many are left. Assumes nothing.
+use Prim.Native.Nat.{_-_}
 use native.Mathlib.Omega.{arith}
 use borrow.Author.Needs.{needs}
-use lib.ListN.{length}
 use Rattle.layout.specs.Tables.{settingsOf}
 use Rattle.layout.specs.declared.Table.the-variants.{Last}
 use Rattle.memory.specs.Image.{fill}
-use Rattle.fills.proofs.Fills.{fill-none, fill-next}
+use Rattle.fills.proofs.Fills.{Partly, partly-all, fill-none, fill-next}
 use Rattle.fills.proofs.put_marks.Statement.{statement}
 use Rattle.fills.proofs.put_marks.Tie as tie
 
 abbrev Inv-loop : tie.InvT-loop
-Inv-loop m₀ s ports last p₀ m p = (p ≤ ports) × (length m ≡ length m₀) × (m ≡ fill (settingsOf s) Last (λ i. i) (λ i. s .queues - 1) p m₀)
+Inv-loop m₀ s ports last p₀ m p = Partly (λ k. fill (settingsOf s) Last (λ i. i) (λ i. s .queues - 1) k m₀) ports m₀ p m
 
 abbrev μ-loop : tie.MeasureT-loop
 μ-loop m₀ s ports last p₀ m p = ports - p
@@ -24,7 +22,7 @@ cast-last : tie.Need-cast-last Inv-loop μ-loop
 cast-last c = omega arith
 
 loop-holds : tie.Need-loop-holds Inv-loop μ-loop
-loop-holds c = (omega arith, refl, sym (fill-none _ _ _ _ _))
+loop-holds c = fill-none _ _ _ _
 
 put1-requires : tie.Need-put1-requires Inv-loop μ-loop
 put1-requires c κs = search needs
@@ -37,14 +35,16 @@ loop-less c = omega arith
 
 loop-again : tie.Need-loop-again Inv-loop μ-loop
 loop-again c =
-    let a = c .before .before .before .before .before .before .before .before .args in
-    (omega arith, search needs, cc (fill-next (settingsOf (a .s)) Last (λ i. i) (λ i. a .s .queues - 1) (c .before .before .before .before .before .loop .p) (a .m .now)))
+    let back = c .before in
+    let done = back .before in
+    let inside = done .before .before in
+    fill-next _ _ _ _ (inside .before .loop .inv) (inside .loop-test .taken) (back .m .given) (done .put1 .ensures)
 
 same-length : tie.Need-same-length Inv-loop μ-loop
-same-length c = c .before .loop .inv .1
+same-length c = c .before .loop .inv .same-length
 
 returns : tie.Need-returns Inv-loop μ-loop
-returns c = let all : c .before .loop .p ≡ c .before .before .before .before .args .s .ports = omega arith in cc
+returns c = partly-all (c .before .loop .inv) (c .loop-test .left)
 
 pub put-marks-spec : {M : Type 1} → statement M
 put-marks-spec =

@@ -1,24 +1,23 @@
--- `fills::put_settings` meets its contract. The loop's invariant: the memory is the fill of the settings passed. The measure is how many are left. Assumes nothing.
-use mathlib.Core.Path.{_≡_, refl, sym}
-use Prim.Native.Nat.{_-_, _≤_}
+-- `fills::put_settings` meets its contract. The loop's invariant: the settings passed are put. The measure is how many are left. Assumes nothing.
+use mathlib.Core.Path.{_∙_}
+use Prim.Native.Nat.{_-_}
 use native.Mathlib.Omega.{arith}
 use borrow.Author.Needs.{needs}
-use lib.ListN.{length}
 use Rattle.layout.specs.Tables.{settingsOf}
 use Rattle.layout.specs.declared.Table.the-variants.{Setting}
 use Rattle.memory.specs.Image.{fill, settingAt}
-use Rattle.fills.proofs.Fills.{fill-none, fill-next, setting-small}
+use Rattle.fills.proofs.Fills.{Partly, partly-all, fill-none, fill-next, setting-small}
 use Rattle.fills.proofs.put_settings.Statement.{statement}
 use Rattle.fills.proofs.put_settings.Tie as tie
 
 abbrev Inv-loop : tie.InvT-loop
-Inv-loop m₀ s i₀ m i = (i ≤ 6) × (length m ≡ length m₀) × (m ≡ fill (settingsOf s) Setting (λ k. k) (settingAt (settingsOf s)) i m₀)
+Inv-loop m₀ s i₀ m i = Partly (λ k. fill (settingsOf s) Setting (λ j. j) (settingAt (settingsOf s)) k m₀) 6 m₀ i m
 
 abbrev μ-loop : tie.MeasureT-loop
 μ-loop m₀ s i₀ m i = 6 - i
 
 loop-holds : tie.Need-loop-holds Inv-loop μ-loop
-loop-holds c = (omega arith, refl, sym (fill-none _ _ _ _ _))
+loop-holds c = fill-none _ _ _ _
 
 setting-at-requires : tie.Need-setting-at-requires Inv-loop μ-loop
 setting-at-requires c κs = omega arith
@@ -37,15 +36,17 @@ loop-less c = omega arith
 
 loop-again : tie.Need-loop-again Inv-loop μ-loop
 loop-again c =
-    let a = c .before .before .before .before .before .before .before .before .args in
-    let S = settingsOf (a .s) in
-    (omega arith, search needs, cc (fill-next S Setting (λ k. k) (settingAt S) (c .before .before .before .before .before .before .loop .i) (a .m .now)))
+    let back = c .before in
+    let done = back .before in
+    let read = done .before in
+    let inside = read .before .before in
+    fill-next _ _ _ _ (inside .before .loop .inv) (inside .loop-test .taken) (back .m .given) (done .put2 .ensures ∙ rw (read .setting-at .ensures))
 
 same-length : tie.Need-same-length Inv-loop μ-loop
-same-length c = c .before .loop .inv .1
+same-length c = c .before .loop .inv .same-length
 
 returns : tie.Need-returns Inv-loop μ-loop
-returns c = let all : c .before .loop .i ≡ 6 = omega arith in cc
+returns c = partly-all (c .before .loop .inv) (c .loop-test .left)
 
 pub put-settings-spec : {M : Type 1} → statement M
 put-settings-spec =

@@ -29,14 +29,20 @@ same-length c = search needs
 
 returns : tie.Need-returns
 returns c =
-    let start = c .before .before .before .before .before .before .before .before .before .before .before .before .before .before .before .before .before .before .before .before .before .before in
+    let freed = c .before .before in
+    let credited = freed .before .before .before .before in
+    let marked = credited .before .before .before .before in
+    let set = marked .before .before .before .before in
+    let cleared = set .before .before .before .before in
+    let sized = cleared .before in
+    let start = sized .before .before .before in
     rw (
-      c .before .before .put-free-lists .ensures,
-      c .before .before .before .before .before .before .put-line .ensures,
-      c .before .before .before .before .before .before .before .before .before .before .put-marks .ensures,
-      c .before .before .before .before .before .before .before .before .before .before .before .before .before .before .put-settings .ensures,
-      c .before .before .before .before .before .before .before .before .before .before .before .before .before .before .before .before .before .before .clear .ensures,
-      c .before .before .before .before .before .before .before .before .before .before .before .before .before .before .before .before .before .before .before .size-of .ensures,
+      freed .put-free-lists .ensures,
+      credited .put-line .ensures,
+      marked .put-marks .ensures,
+      set .put-settings .ensures,
+      cleared .clear .ensures,
+      sized .size-of .ensures,
       start .pre .laid .cells-are,
     )
     (written-along (settingsOf (start .args .s)) _ _ (λ p. omega arith) (λ p. omega arith) (start .args .m .now))

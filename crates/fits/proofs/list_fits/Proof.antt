@@ -1,13 +1,14 @@
 -- `fits::list_fits` meets its contract. The loop's invariant: what is left of the list says what the whole says, and holds nodes alone.
 -- The measure is the count of what is left. Assumes nothing.
 use Prim.Native.Nat.{_%_}
+use mathlib.Core.Path.{refl}
 use native.Mathlib.Omega.{arith}
 use borrow.Author.Needs.{needs}
 use borrow.Author.Tests.{not-true, not-false}
 use Rattle.ledger.specs.Settings.{row}
 use Rattle.layout.specs.Tables.{settingsOf}
 use Rattle.layout.specs.Picture.{packetAt}
-use Rattle.memory.proofs.Chains.{node-lt}
+use Rattle.memory.proofs.Chains.{node-lt, slot-lt}
 use Rattle.fits.specs.Fits.{ruleTest, listFound}
 use Rattle.fits.specs.Walk.{Spoken}
 use Rattle.fits.proofs.Walk.{spared-whole, Left, left-start, left-none, left-node, left-bad, left-next}
@@ -21,17 +22,23 @@ Inv-loop m s rule l row port column left₀ x₀ left x =
 abbrev μ-loop : tie.MeasureT-loop
 μ-loop m s rule l row port column left₀ x₀ left x = left
 
+-- ---- the moments, each reached from the next
+
+abbrev start : tie.Else1 Inv-loop μ-loop → tie.Start Inv-loop μ-loop
+start c = c .before .before .before .before
+
+abbrev tested : tie.In-loop Inv-loop μ-loop → tie.Else1 Inv-loop μ-loop
+tested c = c .before .before .before .before
+
 -- where the walk stands: at a node of a list that the rule speaks of
 here : (c : tie.In-loop Inv-loop μ-loop)
-    → let a = c .before .before .before .before .before .before .before .before .args in
-    Spoken (a .rule) (a .l % row (settingsOf (a .s))) (a .s) (c .before .loop .x) (a .m .now)
+    → let a = start (tested c) .args in Spoken (a .rule) (a .l % row (settingsOf (a .s))) (a .s) (c .before .loop .x) (a .m .now)
 unfolding row
 here c =
-    let tested = c .before .before .before .before in
-    let w = tested .before .before .before .before .pre .walkable in
+    let w = start (tested c) .pre .walkable in
     record {
       seen = record { laid = w .laid; long = w .tidy .long; node = left-node (c .before .loop .inv) (c .loop-test .taken) };
-      spoken = rw (tested .before .spares .ensures) at (tested .if1 .left);
+      spoken = rw (tested c .before .spares .ensures) at (tested c .if1 .left);
     }
 
 mul-row : tie.Need-mul-row Inv-loop μ-loop
@@ -64,11 +71,10 @@ get2-requires c κs = search needs
 loop-holds : tie.Need-loop-holds Inv-loop μ-loop
 unfolding row
 loop-holds c =
-    let tested = c .before .before in
-    let start = tested .before .before .before .before in
-    let p = start .pre in
+    let spoken = c .before .before in
+    let p = start spoken .pre in
     rw (c .before .get4 .ensures, c .get2 .ensures)
-    (left-start (start .args .rule) _ _ _ (p .walkable .tidy) (p .inside) (rw (tested .before .spares .ensures) at (tested .if1 .left)))
+    (left-start (start spoken .args .rule) _ _ _ (p .walkable .tidy) (p .inside) (rw (spoken .before .spares .ensures) at (spoken .if1 .left)))
 
 node-fits-requires : tie.Need-node-fits-requires Inv-loop μ-loop
 unfolding row
@@ -83,8 +89,13 @@ returns-2 c =
     left-bad (at .before .loop .inv) (at .loop-test .taken)
     (rw (c .before .node-fits .ensures) at (not-true (c .before .node-fits .result) (c .if2 .taken)))
 
-field2-requires : tie.Need-field2-requires Inv-loop μ-loop
-field2-requires c κs = let n = here (c .before .before) in search needs
+slot-of-requires : tie.Need-slot-of-requires Inv-loop μ-loop
+slot-of-requires c κs = search needs
+
+get2-requires-2 : tie.Need-get2-requires-2 Inv-loop μ-loop
+get2-requires-2 c κs =
+    let n = here (c .before .before .before) .seen in
+    record { laid = n .laid; long = n .long; wide = refl; inside = rw (c .slot-of .ensures) (slot-lt _ _ (n .node)) }
 
 sub-left : tie.Need-sub-left Inv-loop μ-loop
 sub-left c = omega arith
@@ -94,10 +105,12 @@ loop-less c = omega arith
 
 loop-again : tie.Need-loop-again Inv-loop μ-loop
 loop-again c =
-    let at = c .before .before .before in
-    rw (c .field2 .ensures)
+    let passed = c .before .before in
+    let tested = passed .before in
+    let at = tested .before in
+    rw (c .get22 .ensures, c .before .slot-of .ensures)
     (left-next (at .before .loop .inv) (at .loop-test .taken)
-    (rw (c .before .before .node-fits .ensures) at (not-false (c .before .before .node-fits .result) (c .before .if2 .left))))
+    (rw (tested .node-fits .ensures) at (not-false (tested .node-fits .result) (passed .if2 .left))))
 
 returns-3 : tie.Need-returns-3 Inv-loop μ-loop
 returns-3 c = left-none (c .before .loop .inv) (omega arith)
@@ -120,7 +133,8 @@ list-fits-spec =
     node-fits-requires
     cast-t15
     returns-2
-    field2-requires
+    slot-of-requires
+    get2-requires-2
     sub-left
     loop-less
     loop-again

@@ -1,7 +1,9 @@
 -- `fits::node_fits` meets its contract, rule by rule. Assumes nothing.
+use mathlib.Core.Path.{refl}
 use borrow.Author.Needs.{needs}
 use borrow.Author.Tests.{ltb-false}
 use Rattle.layout.specs.Picture.{packetAt}
+use Rattle.memory.proofs.Chains.{slot-lt}
 use Rattle.fits.specs.Fits.{ruleTest}
 use Rattle.fits.proofs.node_fits.Statement.{statement}
 use Rattle.fits.proofs.node_fits.Tie as tie
@@ -15,16 +17,22 @@ own-port-requires c κs = search needs
 enum-told-2 : tie.Need-enum-told-2
 enum-told-2 c = search needs
 
-field1-requires : tie.Need-field1-requires
-field1-requires c κs = search needs
+slot-of-requires : tie.Need-slot-of-requires
+slot-of-requires c κs = search needs
+
+get1-requires : tie.Need-get1-requires
+get1-requires c κs =
+    let p = c .before .before .before .before .pre .seen in
+    record { laid = p .laid; long = p .long; wide = refl; inside = rw (c .slot-of .ensures) (slot-lt _ _ (p .node)) }
 
 cast-own-queue : tie.Need-cast-own-queue
 cast-own-queue c = search needs
 
 own-queue-requires : tie.Need-own-queue-requires
 own-queue-requires c κs =
-    let start = c .before .before .before .before in
-    ltb-false (start .args .column) 2 (rw (c .before .enum-told2 .given .1) at (start .pre .spoken))
+    let told = c .before .before in
+    let start = told .before .before .before in
+    ltb-false (start .args .column) 2 (rw (told .enum-told2 .given .1) at (start .pre .spoken))
 
 enum-told-3 : tie.Need-enum-told-3
 enum-told-3 c = search needs
@@ -38,7 +46,9 @@ returns c = rw (c .before .enum-told .given .1) (c .own-port .ensures)
 
 returns-2 : tie.Need-returns-2
 unfolding ruleTest packetAt
-returns-2 c = rw (c .before .before .enum-told2 .given .1, ← c .before .field1 .ensures) (c .own-queue .ensures)
+returns-2 c =
+    let at = c .before .before in
+    rw (at .before .enum-told2 .given .1, ← at .slot-of .ensures, ← c .before .get1 .ensures) (c .own-queue .ensures)
 
 returns-3 : tie.Need-returns-3
 unfolding ruleTest
@@ -51,7 +61,8 @@ node-fits-spec =
     enum-told
     own-port-requires
     enum-told-2
-    field1-requires
+    slot-of-requires
+    get1-requires
     cast-own-queue
     own-queue-requires
     enum-told-3

@@ -18,7 +18,7 @@ note-proper-requires : tie.Need-note-proper-requires
 note-proper-requires c κs = search needs
 
 returns : tie.Need-returns
-returns c = c .note-proper .ensures ∙ note-tests _ (c .before .before .slot-of .ensures) (c .before .noted .ensures)
+returns c = c .note-proper .ensures ∙ note-tests _ (rw (c .before .before .slot-of .ensures) at (c .before .noted .ensures))
 
 pub proper-spec : {M : Type 1} → statement M
 proper-spec = tie.close (tie.spec slot-of-requires noted-requires note-proper-requires returns)

@@ -1,14 +1,15 @@
 -- `nodes::packet_passes` meets its contract, by the first test that fails. Assumes nothing.
-use mathlib.Core.Path.{_≡_, refl, sym, ap, ap₂, _∙_}
+use mathlib.Core.Path.{_≡_, refl, sym, ap₂, _∙_}
 use mathlib.Core.Bool.{true, false, false≢true}
 use native.Mathlib.Omega.{arith}
 use borrow.Author.Needs.{needs}
 use borrow.Author.Tests.{not-true, not-false}
-use Rattle.layout.specs.declared.Table.the-variants.{Queue, Price}
-use Rattle.layout.specs.Tables.{get, settingsOf}
+use Rattle.layout.specs.declared.Table.the-variants.{Price}
+use Rattle.layout.specs.Tables.{settingsOf}
 use Rattle.layout.specs.Picture.{slot}
 use Rattle.layout.proofs.Tables.{get-lt}
 use Rattle.memory.proofs.Chains.{node-from, slot-lt}
+use Rattle.fits.specs.Walk.{NoteOf}
 use Rattle.paid.specs.Paid.{addPrice, addNode}
 use Rattle.nodes.specs.Nodes.{packetFits}
 use Rattle.nodes.proofs.Here.{note-fits, fits-queue}
@@ -28,24 +29,18 @@ asked c = c .before .before .before
 
 -- ---- what is known at each
 
+-- what was read of its record
+read : (c : tie.After-noted) → let a = start c .args in NoteOf (settingsOf (a .s)) (a .m .now) (slot (settingsOf (a .s)) (a .x)) (c .noted .result)
+read c = rw (start c .pre .at-is) at (c .noted .ensures)
+
 -- the packet fits
 fitted : (c : tie.Else2)
     → let a = start (noted-at (asked c)) .args in packetFits (settingsOf (a .s)) (a .m .now) (a .column) (a .x) ≡ true
 fitted c =
     let w = asked c in
-    let b = start (noted-at w) in
     let queue = sym (w .queue-fits .ensures) ∙ not-false _ (c .before .before .if1 .left) in
     let proper = sym (c .before .note-proper .ensures) ∙ not-false _ (c .if2 .left) in
-    sym (note-fits _ _ _ _ (b .pre .at-is) (noted-at w .noted .ensures) true true queue proper)
-
--- what was read of its queue and its price
-queue-is : (c : tie.After-noted)
-    → let a = start c .args in c .noted .result .queue ≡ get (settingsOf (a .s)) (a .m .now) Queue (slot (settingsOf (a .s)) (a .x))
-queue-is c = let a = start c .args in c .noted .ensures .queue-is ∙ ap (get (settingsOf (a .s)) (a .m .now) Queue) (start c .pre .at-is)
-
-price-is : (c : tie.After-noted)
-    → let a = start c .args in c .noted .result .price ≡ get (settingsOf (a .s)) (a .m .now) Price (slot (settingsOf (a .s)) (a .x))
-price-is c = let a = start c .args in c .noted .ensures .price-is ∙ ap (get (settingsOf (a .s)) (a .m .now) Price) (start c .pre .at-is)
+    sym (note-fits _ _ _ _ (read (noted-at w)) true true queue proper)
 
 noted-requires : tie.Need-noted-requires
 noted-requires c κs =
@@ -61,12 +56,8 @@ queue-fits-requires c κs = search needs
 returns : tie.Need-returns
 returns c =
     let w = c .before in
-    let b = start (noted-at w) in
     let queue = sym (w .queue-fits .ensures) ∙ not-true _ (c .if1 .taken) in
-    record {
-      answer = note-fits _ _ _ _ (b .pre .at-is) (noted-at w .noted .ensures) false _ queue refl;
-      added = λ e. absurd (false≢true e);
-    }
+    record { answer = note-fits _ _ _ _ (read (noted-at w)) false _ queue refl; added = λ e. absurd (false≢true e) }
 
 note-proper-requires : tie.Need-note-proper-requires
 note-proper-requires c κs = search needs
@@ -74,13 +65,9 @@ note-proper-requires c κs = search needs
 returns-2 : tie.Need-returns-2
 returns-2 c =
     let w = c .before .before .before in
-    let b = start (noted-at w) in
     let queue = sym (w .queue-fits .ensures) ∙ not-false _ (c .before .before .if1 .left) in
     let proper = sym (c .before .note-proper .ensures) ∙ not-true _ (c .if2 .taken) in
-    record {
-      answer = note-fits _ _ _ _ (b .pre .at-is) (noted-at w .noted .ensures) true false queue proper;
-      added = λ e. absurd (false≢true e);
-    }
+    record { answer = note-fits _ _ _ _ (read (noted-at w)) true false queue proper; added = λ e. absurd (false≢true e) }
 
 cast-add-price : tie.Need-cast-add-price
 cast-add-price c = search needs
@@ -91,13 +78,13 @@ cast-add-price-2 c = search needs
 add-price-requires : tie.Need-add-price-requires
 add-price-requires c κs =
     let passed = c .before .before .before in
-    let read = noted-at (asked passed) in
-    let b = start read in
+    let n = noted-at (asked passed) in
+    let b = start n in
     record {
       laid = b .pre .laid;
       home = node-from _ (b .args .x) (b .pre .node) .home;
-      inside = omega (arith, queue-is read, fits-queue _ _ _ _ (fitted passed));
-      cheap = omega (arith, price-is read, get-lt (settingsOf (b .args .s)) (b .args .m .now) Price (slot (settingsOf (b .args .s)) (b .args .x)));
+      inside = omega (arith, read n .queue-is, fits-queue _ _ _ _ (fitted passed));
+      cheap = omega (arith, read n .price-is, get-lt (settingsOf (b .args .s)) (b .args .m .now) Price (slot (settingsOf (b .args .s)) (b .args .x)));
       held = b .pre .held;
     }
 
@@ -109,11 +96,12 @@ unfolding addNode
 returns-3 c =
     let added = c .before .before in
     let passed = added .before .before .before .before in
-    let read = noted-at (asked passed) in
-    let a = start read .args in
+    let n = noted-at (asked passed) in
+    let a = start n .args in
     record {
       answer = sym (fitted passed);
-      added = λ e. added .add-price .ensures ∙ ap₂ (addPrice (settingsOf (a .s)) (a .sums .now) (a .x)) (queue-is read) (price-is read);
+      added = λ e.
+          added .add-price .ensures ∙ ap₂ (addPrice (settingsOf (a .s)) (a .sums .now) (a .x)) (read n .queue-is) (read n .price-is);
     }
 
 pub packet-passes-spec : {M : Type 1} → statement M

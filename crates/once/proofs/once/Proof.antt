@@ -18,6 +18,12 @@ Inv-loop m s marks₀ lists l₀ marks l = Scanning (settingsOf s) m marks l
 abbrev μ-loop : tie.MeasureT-loop
 μ-loop m s marks₀ lists l₀ marks l = lists - l
 
+abbrev start : tie.At-loop Inv-loop μ-loop → tie.Start Inv-loop μ-loop
+start c = c .before .before .before
+
+abbrev at-list : tie.After-walk-list Inv-loop μ-loop → tie.At-loop Inv-loop μ-loop
+at-list c = c .before .before .before
+
 -- there is a mark for each node
 fits : (c : tie.Start Inv-loop μ-loop) → length (c .args .marks .now) ≡ all (settingsOf (c .args .s))
 fits c = scan-start (settingsOf (c .args .s)) (c .args .m .now) _ (c .pre .clear) .fits
@@ -29,13 +35,12 @@ walk-list-requires : tie.Need-walk-list-requires Inv-loop μ-loop
 walk-list-requires c κs = search needs
 
 same-length : tie.Need-same-length Inv-loop μ-loop
-same-length c = omega (arith, fits (c .before .before .before .before .before .before .before .before .before))
+same-length c = omega (arith, fits (start (at-list (c .before .before .before))))
 
 returns : tie.Need-returns Inv-loop μ-loop
 returns c =
     let w = c .before .before .before in
-    let turn = w .before .before in
-    sym (scan-no (turn .before .loop .inv) (omega arith) (sym (w .walk-list .ensures .answer) ∙ not-true _ (c .if1 .taken)))
+    sym (scan-no (at-list w .loop .inv) (omega arith) (sym (w .walk-list .ensures .answer) ∙ not-true _ (c .if1 .taken)))
 
 add-l : tie.Need-add-l Inv-loop μ-loop
 add-l c = search needs
@@ -46,21 +51,20 @@ loop-less c = search needs
 loop-again : tie.Need-loop-again Inv-loop μ-loop
 loop-again c =
     let w = c .before .before .before in
-    let turn = w .before .before in
     let yes = not-false _ (c .if1 .left) in
-    scan-yes (turn .before .loop .inv) (omega arith) (sym (w .walk-list .ensures .answer) ∙ yes) _ (w .walk-list .kept .1 .1 .1 .0) (w .walk-list .ensures .after yes)
+    scan-yes (at-list w .loop .inv) (omega arith) (sym (w .walk-list .ensures .answer) ∙ yes) _ (w .walk-list .kept .1 .1 .1 .0)
+    (w .walk-list .ensures .after yes)
 
 first-unmarked-requires : tie.Need-first-unmarked-requires Inv-loop μ-loop
-first-unmarked-requires c κs = omega (arith, few _ (c .before .before .before .before .before .pre .laid .roomy))
+first-unmarked-requires c κs = omega (arith, few _ (start (c .before .before) .pre .laid .roomy))
 
 same-length-2 : tie.Need-same-length-2 Inv-loop μ-loop
-same-length-2 c = omega (arith, fits (c .before .before .before .before .before .before))
+same-length-2 c = omega (arith, fits (start (c .before .before .before)))
 
 returns-2 : tie.Need-returns-2 Inv-loop μ-loop
 returns-2 c =
-    let end = c .before .before in
-    let laid = end .before .before .before .before .pre .laid in
-    c .first-unmarked .ensures ∙ rw (laid .lists-are) (sym (scan-end (end .before .loop .inv) (omega arith)))
+    let at = c .before .before .before in
+    c .first-unmarked .ensures ∙ rw (start at .pre .laid .lists-are) (sym (scan-end (at .loop .inv) (omega arith)))
 
 pub once-spec : {M : Type 1} → statement M
 once-spec =

@@ -20,6 +20,17 @@ Inv-loop m s l marks₀ tail left₀ x₀ last₀ marks left x last = Walking (s
 abbrev μ-loop : tie.MeasureT-loop
 μ-loop m s l marks₀ tail left₀ x₀ last₀ marks left x last = left
 
+-- ---- the moments, each reached from the next
+
+abbrev begun : tie.After-get22 Inv-loop μ-loop → tie.Start Inv-loop μ-loop
+begun c = c .before .before .before .before .before
+
+abbrev at-loop : tie.After-meet Inv-loop μ-loop → tie.At-loop Inv-loop μ-loop
+at-loop c = c .before .before .before
+
+abbrev start : tie.After-meet Inv-loop μ-loop → tie.Start Inv-loop μ-loop
+start c = begun (at-loop c .before)
+
 get2-requires : tie.Need-get2-requires Inv-loop μ-loop
 get2-requires c κs = search needs
 
@@ -30,7 +41,9 @@ get2-requires-2 : tie.Need-get2-requires-2 Inv-loop μ-loop
 get2-requires-2 c κs = search needs
 
 loop-holds : tie.Need-loop-holds Inv-loop μ-loop
-loop-holds c = rw (c .before .before .get2 .ensures, c .before .get4 .ensures, c .get22 .ensures) (walk-start _ _ _ _ (c .before .before .before .before .before .pre .marks .fits))
+loop-holds c =
+    rw (c .before .before .get2 .ensures, c .before .get4 .ensures, c .get22 .ensures)
+    (walk-start _ _ _ _ (begun c .pre .marks .fits))
 
 meet-requires : tie.Need-meet-requires Inv-loop μ-loop
 meet-requires c κs = search needs
@@ -38,14 +51,10 @@ meet-requires c κs = search needs
 same-length : tie.Need-same-length Inv-loop μ-loop
 same-length c = search needs
 
--- the node that is met, and what the walk knows of it
-abbrev at-loop : tie.After-meet Inv-loop μ-loop → tie.At-loop Inv-loop μ-loop
-at-loop c = c .before .before .before
-
-abbrev start : tie.After-meet Inv-loop μ-loop → tie.Start Inv-loop μ-loop
-start c = at-loop c .before .before .before .before .before .before
-
-new-here : (c : tie.Else1 Inv-loop μ-loop) → let w = c .before .before .before in isNew (settingsOf (start w .args .s)) (at-loop w .loop .marks) (at-loop w .loop .x) ≡ true
+-- the node that is met is new
+new-here : (c : tie.Else1 Inv-loop μ-loop)
+    → let w = c .before .before .before in
+    isNew (settingsOf (start w .args .s)) (at-loop w .loop .marks) (at-loop w .loop .x) ≡ true
 new-here c = sym (c .before .before .before .meet .ensures .answer) ∙ not-false _ (c .if1 .left)
 
 returns : tie.Need-returns Inv-loop μ-loop

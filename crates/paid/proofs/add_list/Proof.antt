@@ -17,7 +17,15 @@ Inv-loop m s sums₀ l row n x₀ i₀ sums x i = Walking (settingsOf s) m sums�
 abbrev μ-loop : tie.MeasureT-loop
 μ-loop m s sums₀ l row n x₀ i₀ sums x i = n - i
 
-used : (c : tie.Else1 Inv-loop μ-loop) → c .before .before .before .before .args .l % row (settingsOf (c .before .before .before .before .args .s)) ≢ 0
+-- ---- the moments, each reached from the next
+
+abbrev start : tie.Else1 Inv-loop μ-loop → tie.Start Inv-loop μ-loop
+start c = c .before .before .before .before
+
+abbrev not-free : tie.At-loop Inv-loop μ-loop → tie.Else1 Inv-loop μ-loop
+not-free c = c .before .before .before
+
+used : (c : tie.Else1 Inv-loop μ-loop) → let a = start c .args in a .l % row (settingsOf (a .s)) ≢ 0
 unfolding row
 used c = c .if1 .left
 
@@ -35,23 +43,25 @@ unfolding row
 returns c = sym (free-list _ _ _ _ (c .if1 .taken))
 
 get4-requires : tie.Need-get4-requires Inv-loop μ-loop
-get4-requires c κs = list-reads (c .before .before .before .before .pre) Count refl refl
+get4-requires c κs = list-reads (start c .pre) Count refl refl
 
 get2-requires : tie.Need-get2-requires Inv-loop μ-loop
-get2-requires c κs = list-reads (c .before .before .before .before .before .pre) Head refl refl
+get2-requires c κs = list-reads (start (c .before) .pre) Head refl refl
 
 loop-holds : tie.Need-loop-holds Inv-loop μ-loop
-loop-holds c = walk-start _ _ _ _ _ _ (c .before .before .before .before .before .before .pre) (used (c .before .before)) (c .before .get4 .ensures) (c .get2 .ensures)
+loop-holds c =
+    let e = c .before .before in
+    walk-start _ _ _ _ _ _ (start e .pre) (used e) (c .before .get4 .ensures) (c .get2 .ensures)
 
 add-node-requires : tie.Need-add-node-requires Inv-loop μ-loop
 add-node-requires c κs =
-    let start = c .before .before .before .before .before .before .before .before .before in
     let at = c .before .before in
+    let p = start (not-free at) .pre in
     record {
-      laid = start .pre .laid;
-      long = start .pre .payable .tidy .long;
+      laid = p .laid;
+      long = p .payable .tidy .long;
       counted = walk-counted _ _ _ _ _ _ _ _ (at .loop .inv) (c .before .loop-test .taken);
-      held = walk-held _ _ _ _ _ _ _ _ (at .loop .inv) (start .pre .laid .roomy) (start .pre .inside);
+      held = walk-held _ _ _ _ _ _ _ _ (at .loop .inv) (p .laid .roomy) (p .inside);
     }
 
 add-i : tie.Need-add-i Inv-loop μ-loop
@@ -61,13 +71,16 @@ loop-less : tie.Need-loop-less Inv-loop μ-loop
 loop-less c = omega arith
 
 loop-again : tie.Need-loop-again Inv-loop μ-loop
-loop-again c = walk-next _ _ _ _ _ _ _ _ (c .before .before .before .before .before .loop .inv) _ _ (c .before .before .before .before .loop-test .taken) (c .before .before .add-node .ensures)
+loop-again c =
+    let added = c .before .before in
+    let inside = added .before .before in
+    walk-next _ _ _ _ _ _ _ _ (inside .before .loop .inv) _ _ (inside .loop-test .taken) (added .add-node .ensures)
 
 same-length : tie.Need-same-length Inv-loop μ-loop
-same-length c = c .before .loop .inv .held .many ∙ sym (c .before .before .before .before .before .before .before .before .pre .held .many)
+same-length c = c .before .loop .inv .held .many ∙ sym (start (not-free (c .before)) .pre .held .many)
 
 returns-2 : tie.Need-returns-2 Inv-loop μ-loop
-returns-2 c = walk-end _ _ _ _ _ _ _ _ (c .before .loop .inv) (c .loop-test .left) (used (c .before .before .before .before))
+returns-2 c = walk-end _ _ _ _ _ _ _ _ (c .before .loop .inv) (c .loop-test .left) (used (not-free (c .before)))
 
 pub add-list-spec : {M : Type 1} → statement M
 add-list-spec =

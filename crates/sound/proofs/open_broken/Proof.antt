@@ -11,11 +11,20 @@ use Rattle.sound.proofs.Means.{passed-once}
 use Rattle.sound.proofs.open_broken.Statement.{statement}
 use Rattle.sound.proofs.open_broken.Tie as tie
 
--- what each rule has found where the next is tested
-ranged : (c : tie.After-enum-told) → rangesFound (settingsOf (c .before .before .before .before .args .s)) (c .before .before .before .before .args .m .now) ≡ Whole
+-- ---- the moments: the next rule is tested where one has found nothing
+
+abbrev start : tie.After-enum-told → tie.Start
+start c = c .before .before .before .before
+
+abbrev in-range : tie.After-enum-told2 → tie.After-enum-told
+in-range c = c .before .before .before
+
+-- ---- what each rule has found there
+
+ranged : (c : tie.After-enum-told) → let a = start c .args in rangesFound (settingsOf (a .s)) (a .m .now) ≡ Whole
 ranged c = sym (c .before .before .ranges .ensures) ∙ c .enum-told .given .1
 
-met : (c : tie.After-enum-told2) → onceFound (settingsOf (c .before .before .before .before .before .before .before .args .s)) (c .before .before .before .before .before .before .before .args .m .now) ≡ Whole
+met : (c : tie.After-enum-told2) → let a = start (in-range c) .args in onceFound (settingsOf (a .s)) (a .m .now) ≡ Whole
 met c = sym (c .before .before .once-in .ensures) ∙ c .enum-told2 .given .1
 
 ranges-requires : tie.Need-ranges-requires
@@ -45,11 +54,11 @@ enum-told-2 : tie.Need-enum-told-2
 enum-told-2 c = search needs
 
 nodes-broken-requires : tie.Need-nodes-broken-requires
-nodes-broken-requires c κs = let o = c .before .before .before .before .before .before .before .pre in record { opens = o; tidy = passed-once _ _ o (met c) }
+nodes-broken-requires c κs = let o = start (in-range c) .pre in record { opens = o; tidy = passed-once _ _ o (met c) }
 
 returns-3 : tie.Need-returns-3
 unfolding openBroken
-returns-3 c = rw (ranged (c .before .before .before .before), met (c .before)) (c .nodes-broken .ensures)
+returns-3 c = rw (ranged (in-range (c .before)), met (c .before)) (c .nodes-broken .ensures)
 
 pub open-broken-spec : {M : Type 1} → statement M
 open-broken-spec =

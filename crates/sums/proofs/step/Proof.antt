@@ -1,4 +1,5 @@
--- `sums::step` meets its contract. The loop's invariant: the bits that are left, from the sum so far, give the byte's sum. The measure is their count. Assumes nothing.
+-- `sums::step` meets its contract. The loop's invariant: the bits that are left, from the sum so far, give the byte's sum. The measure is
+-- their count. Assumes nothing.
 use Prim.Native.Nat.{ℕ, _-_}
 use mathlib.Core.Path.{_≡_, sym, ap, _∙_}
 use native.Mathlib.Omega.{arith}

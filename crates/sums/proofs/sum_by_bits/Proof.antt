@@ -1,4 +1,5 @@
--- `sums::sum_by_bits` meets its contract. The loop's invariant: the bytes that are left, from the sum so far, give the whole sum. The measure is their count. Assumes nothing.
+-- `sums::sum_by_bits` meets its contract. The loop's invariant: the bytes that are left, from the sum so far, give the whole sum. The
+-- measure is their count. Assumes nothing.
 use Prim.Native.Nat.{ℕ, _+_, _-_, _≤_}
 use mathlib.Core.Path.{_≡_, refl, sym, ap, _∙_}
 use native.Mathlib.Omega.{arith}

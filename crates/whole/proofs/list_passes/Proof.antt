@@ -6,6 +6,7 @@ use Prim.Native.Nat.{_/_, _%_}
 use native.Mathlib.Omega.{arith}
 use borrow.Author.Needs.{needs}
 use borrow.Author.Tests.{not-true, not-false}
+use lib.ListN.{length}
 use lib.Dec.{eqb}
 use Rattle.ledger.specs.Settings.{row}
 use Rattle.ledger.specs.Ledger.{isNode}
@@ -45,6 +46,15 @@ tested c = c .before .before .before .before
 abbrev met-at : tie.After-node-passes Inv-loop μ-loop → tie.At-loop Inv-loop μ-loop
 met-at c = at-loop (known c .before)
 
+-- ---- what is known at each
+
+-- there are as many marks and sums as were lent
+kept : (c : tie.At-loop Inv-loop μ-loop)
+    → let a = begun c .args in (length (c .loop .marks) ≡ length (a .marks .now)) × (length (c .loop .sums) ≡ length (a .sums .now))
+kept c =
+    let b = begun c .pre .lent in
+    (c .loop .inv .walk .fits ∙ sym (b .marks), c .loop .inv .held .many ∙ sym (b .held .many))
+
 -- what was answered of the node, by the place of its list
 told : (c : tie.After-node-passes Inv-loop μ-loop)
     → let a = begun (met-at c) .args in
@@ -70,10 +80,10 @@ is-node-requires : tie.Need-is-node-requires Inv-loop μ-loop
 is-node-requires c κs = search needs
 
 same-length : tie.Need-same-length Inv-loop μ-loop
-same-length c = search needs
+same-length c = kept (at-loop (c .before)) .0
 
 same-length-2 : tie.Need-same-length-2 Inv-loop μ-loop
-same-length-2 c = search needs
+same-length-2 c = kept (at-loop (c .before)) .1
 
 -- an id that is no node is not new
 returns : tie.Need-returns Inv-loop μ-loop
@@ -131,10 +141,10 @@ node-passes-requires c κs =
     }
 
 same-length-3 : tie.Need-same-length-3 Inv-loop μ-loop
-same-length-3 c = search needs
+same-length-3 c = let w = tested (c .before) in w .node-passes .kept .1 .1 .1 .1 .1 .1 .0 ∙ kept (met-at w) .0
 
 same-length-4 : tie.Need-same-length-4 Inv-loop μ-loop
-same-length-4 c = search needs
+same-length-4 c = let w = tested (c .before) in w .node-passes .kept .1 .1 .1 .1 .1 .1 .1 .0 ∙ kept (met-at w) .1
 
 returns-2 : tie.Need-returns-2 Inv-loop μ-loop
 returns-2 c =
@@ -164,10 +174,10 @@ loop-again c =
     (next-is (w .before .before .before))
 
 same-length-5 : tie.Need-same-length-5 Inv-loop μ-loop
-same-length-5 c = search needs
+same-length-5 c = kept (c .before) .0
 
 same-length-6 : tie.Need-same-length-6 Inv-loop μ-loop
-same-length-6 c = search needs
+same-length-6 c = kept (c .before) .1
 
 returns-3 : tie.Need-returns-3 Inv-loop μ-loop
 returns-3 c =

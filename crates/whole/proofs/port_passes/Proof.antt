@@ -8,7 +8,7 @@ use borrow.Author.Tests.{not-true, not-false}
 use lib.ListN.{length}
 use Rattle.ledger.specs.Settings.{row}
 use Rattle.ledger.proofs.Tests.{true≢false}
-use Rattle.layout.specs.Tables.{cells, lists, all, settingsOf}
+use Rattle.layout.specs.Tables.{lists, settingsOf}
 use Rattle.layout.proofs.Shapes.{few}
 use Rattle.ranges.specs.Ranges.{fewAt, fewIn}
 use Rattle.whole.specs.Walks.{AtList}
@@ -47,14 +47,12 @@ sums-after c = c .list-passes .last .1 .1 .1 .1 .1 .1 .1 .0
 
 -- ---- what is known at each
 
--- how many marks and sums are lent, and are there
-lent : (b : tie.Start Inv-loop μ-loop)
-    → let S = settingsOf (b .args .s) in (length (b .args .marks .now) ≡ all S) × (length (b .args .sums .now) ≡ cells S)
-lent b = (b .pre .stands .scan .fits, b .pre .stands .held .many)
-
-stood : (c : tie.At-loop Inv-loop μ-loop)
-    → let S = settingsOf (begun c .args .s) in (length (c .loop .marks) ≡ all S) × (length (c .loop .sums) ≡ cells S)
-stood c = (c .loop .inv .1 .scan .fits, c .loop .inv .1 .held .many)
+-- there are as many marks and sums as were lent
+kept : (c : tie.At-loop Inv-loop μ-loop)
+    → let a = begun c .args in (length (c .loop .marks) ≡ length (a .marks .now)) × (length (c .loop .sums) ≡ length (a .sums .now))
+kept c =
+    let b = begun c .pre .stands in
+    (c .loop .inv .1 .scan .fits ∙ sym (b .scan .fits), c .loop .inv .1 .held .many ∙ sym (b .held .many))
 
 -- the list that is met, by its port and its column
 inside : (c : tie.In-loop Inv-loop μ-loop)
@@ -114,10 +112,10 @@ few-enough-requires : tie.Need-few-enough-requires Inv-loop μ-loop
 few-enough-requires c κs = begun (at-loop c) .pre .laid
 
 same-length : tie.Need-same-length Inv-loop μ-loop
-same-length c = let at = at-loop (c .before .before) in omega (arith, lent (begun at), stood at)
+same-length c = kept (at-loop (c .before .before)) .0
 
 same-length-2 : tie.Need-same-length-2 Inv-loop μ-loop
-same-length-2 c = let at = at-loop (c .before .before) in omega (arith, lent (begun at), stood at)
+same-length-2 c = kept (at-loop (c .before .before)) .1
 
 returns : tie.Need-returns Inv-loop μ-loop
 unfolding row
@@ -147,14 +145,12 @@ list-passes-requires c κs =
 same-length-3 : tie.Need-same-length-3 Inv-loop μ-loop
 same-length-3 c =
     let w = walked (c .before) in
-    let at = at-loop (counted w .before .before) in
-    omega (arith, lent (begun at), stood at, w .list-passes .kept .1 .1 .1 .1 .1 .1 .0)
+    w .list-passes .kept .1 .1 .1 .1 .1 .1 .0 ∙ kept (at-loop (counted w .before .before)) .0
 
 same-length-4 : tie.Need-same-length-4 Inv-loop μ-loop
 same-length-4 c =
     let w = walked (c .before) in
-    let at = at-loop (counted w .before .before) in
-    omega (arith, lent (begun at), stood at, w .list-passes .kept .1 .1 .1 .1 .1 .1 .1 .0)
+    w .list-passes .kept .1 .1 .1 .1 .1 .1 .1 .0 ∙ kept (at-loop (counted w .before .before)) .1
 
 returns-2 : tie.Need-returns-2 Inv-loop μ-loop
 unfolding row
@@ -206,10 +202,10 @@ unfolding row
 loop-again c = (omega arith, went (c .before))
 
 same-length-5 : tie.Need-same-length-5 Inv-loop μ-loop
-same-length-5 c = omega (arith, lent (begun (c .before)), stood (c .before))
+same-length-5 c = kept (c .before) .0
 
 same-length-6 : tie.Need-same-length-6 Inv-loop μ-loop
-same-length-6 c = omega (arith, lent (begun (c .before)), stood (c .before))
+same-length-6 c = kept (c .before) .1
 
 returns-3 : tie.Need-returns-3 Inv-loop μ-loop
 unfolding row

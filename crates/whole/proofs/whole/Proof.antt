@@ -9,7 +9,7 @@ use borrow.Author.Tests.{not-true, not-false}
 use lib.ListN.{length}
 use Rattle.ledger.specs.declared.Finding.the-variants.{Whole}
 use Rattle.ledger.specs.Settings.{row}
-use Rattle.layout.specs.Tables.{cells, lists, all, settingsOf}
+use Rattle.layout.specs.Tables.{lists, settingsOf}
 use Rattle.once.specs.Once.{onceFound}
 use Rattle.fits.specs.declared.NodeRule.{NodeRule}
 use Rattle.fits.specs.declared.NodeRule.the-variants.{Record}
@@ -51,14 +51,12 @@ told-at c = c .before .before .before
 
 -- ---- what is known at each
 
--- how many marks and sums are lent, and are there
-lent : (b : tie.Start Inv-loop μ-loop)
-    → let S = settingsOf (b .args .s) in (length (b .args .marks .now) ≡ all S) × (length (b .args .sums .now) ≡ cells S)
-lent b = let w = lists-start (b .pre) refl in (w .scan .fits, w .held .many)
-
-stood : (c : tie.At-loop Inv-loop μ-loop)
-    → let S = settingsOf (begun c .args .s) in (length (c .loop .marks) ≡ all S) × (length (c .loop .sums) ≡ cells S)
-stood c = (c .loop .inv .scan .fits, c .loop .inv .held .many)
+-- there are as many marks and sums as were lent
+kept : (c : tie.At-loop Inv-loop μ-loop)
+    → let a = begun c .args in (length (c .loop .marks) ≡ length (a .marks .now)) × (length (c .loop .sums) ≡ length (a .sums .now))
+kept c =
+    let b = lists-start (begun c .pre) refl in
+    (c .loop .inv .scan .fits ∙ sym (b .scan .fits), c .loop .inv .held .many ∙ sym (b .held .many))
 
 -- no list is left
 past : (c : tie.After-struct-known Inv-loop μ-loop)
@@ -94,14 +92,10 @@ port-passes-requires c κs =
     record { laid = p .laid; long = p .long; inside = c .before .before .before .loop-test .taken; stands = at .loop .inv }
 
 same-length : tie.Need-same-length Inv-loop μ-loop
-same-length c =
-    let w = walked (c .before) in
-    omega (arith, lent (begun (at-port w)), stood (at-port w), w .port-passes .kept .1 .1 .1 .0)
+same-length c = let w = walked (c .before) in w .port-passes .kept .1 .1 .1 .0 ∙ kept (at-port w) .0
 
 same-length-2 : tie.Need-same-length-2 Inv-loop μ-loop
-same-length-2 c =
-    let w = walked (c .before) in
-    omega (arith, lent (begun (at-port w)), stood (at-port w), w .port-passes .kept .1 .1 .1 .1 .0)
+same-length-2 c = let w = walked (c .before) in w .port-passes .kept .1 .1 .1 .1 .0 ∙ kept (at-port w) .1
 
 returns : tie.Need-returns Inv-loop μ-loop
 returns c = record {
@@ -119,10 +113,10 @@ loop-again : tie.Need-loop-again Inv-loop μ-loop
 loop-again c = walked (c .before) .port-passes .ensures .yes (not-false _ (c .if1 .left))
 
 same-length-3 : tie.Need-same-length-3 Inv-loop μ-loop
-same-length-3 c = omega (arith, lent (start (c .before)), stood (ended (c .before)))
+same-length-3 c = kept (ended (c .before)) .0
 
 same-length-4 : tie.Need-same-length-4 Inv-loop μ-loop
-same-length-4 c = omega (arith, lent (start (c .before)), stood (ended (c .before)))
+same-length-4 c = kept (ended (c .before)) .1
 
 returns-2 : tie.Need-returns-2 Inv-loop μ-loop
 returns-2 c =
@@ -146,10 +140,10 @@ enum-told : tie.Need-enum-told Inv-loop μ-loop
 enum-told c = search needs
 
 same-length-5 : tie.Need-same-length-5 Inv-loop μ-loop
-same-length-5 c = let e = told-at (c .before .before) in omega (arith, lent (start e), stood (ended e))
+same-length-5 c = kept (ended (told-at (c .before .before))) .0
 
 same-length-6 : tie.Need-same-length-6 Inv-loop μ-loop
-same-length-6 c = let e = told-at (c .before .before) in omega (arith, lent (start e), stood (ended e))
+same-length-6 c = kept (ended (told-at (c .before .before))) .1
 
 returns-3 : tie.Need-returns-3 Inv-loop μ-loop
 returns-3 c = record {
@@ -161,10 +155,10 @@ enum-told-2 : tie.Need-enum-told-2 Inv-loop μ-loop
 enum-told-2 c = search needs
 
 same-length-7 : tie.Need-same-length-7 Inv-loop μ-loop
-same-length-7 c = let e = told-at (c .before .before) in omega (arith, lent (start e), stood (ended e))
+same-length-7 c = kept (ended (told-at (c .before .before))) .0
 
 same-length-8 : tie.Need-same-length-8 Inv-loop μ-loop
-same-length-8 c = let e = told-at (c .before .before) in omega (arith, lent (start e), stood (ended e))
+same-length-8 c = kept (ended (told-at (c .before .before))) .1
 
 returns-4 : tie.Need-returns-4 Inv-loop μ-loop
 returns-4 c =
