@@ -2,8 +2,8 @@
 use fields::Order;
 use ledger::Entry;
 use ledger::Plain;
+use ledger::Stitched;
 use ledger::Turned;
-use moves::Stitched;
 use setup::Settings;
 ghost use mathlib.Core.Path.{_≡_};
 ghost use mathlib.Core.List.{List};

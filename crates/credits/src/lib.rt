@@ -2,7 +2,7 @@
 use layout::Shape;
 use ledger::Plain;
 use ledger::Refusal;
-use memory::Verdict;
+use ledger::Verdict;
 ghost use mathlib.Core.Path.{_≡_};
 ghost use mathlib.Core.List.{List};
 ghost use Prim.Native.Nat.{ℕ};

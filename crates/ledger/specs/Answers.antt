@@ -1,6 +1,7 @@
 -- What each answer of the code means in paper 01: its number for a refusal, its values for anything else. Assumes nothing.
 use mathlib.Core.List.{List}
 use Prim.Native.Nat.{ℕ}
+use lib.ListN.{replicate}
 use Rattle.ledger.specs.Ledger.{Packet, Place, free, ingress, egress, prefetched}
 use Rattle.ledger.specs.Calls.{Side, inside, outside, Reply, refused, done, entry, stitched, idle, leaves, word, found}
 use Rattle.ledger.specs.declared.Refusal.{Refusal}
@@ -93,3 +94,14 @@ readyReply (words.No r) = refused (numberOf r)
 abbrev pub whereReply : Whereabouts → Reply
 whereReply (places.Found v i) = found (kindOf v) i
 whereReply (places.No r) = refused (numberOf r)
+
+-- the ten bytes beside stitch's answer: the record, or zeros where there is none
+abbrev pub recordIn : Reply → List ℕ
+recordIn (refused n) = replicate 10 0
+recordIn done = replicate 10 0
+recordIn (entry x) = replicate 10 0
+recordIn (stitched b) = b
+recordIn idle = replicate 10 0
+recordIn (leaves k s) = replicate 10 0
+recordIn (word w n) = replicate 10 0
+recordIn (found v i) = replicate 10 0

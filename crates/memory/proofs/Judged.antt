@@ -11,8 +11,8 @@ use Rattle.ledger.specs.Calls.{Act, refused, rules, result}
 use Rattle.ledger.proofs.Answers.{number-inj}
 use Rattle.ledger.proofs.Steps.{cleared}
 use Rattle.layout.specs.Picture.{ledgerIn}
-use Rattle.memory.specs.declared.Verdict.{Verdict}
-use Rattle.memory.specs.declared.Verdict.the-variants.{Go, No}
+use Rattle.ledger.specs.declared.Verdict.{Verdict}
+use Rattle.ledger.specs.declared.Verdict.the-variants.{Go, No}
 use Rattle.memory.specs.Judged.{good, bad, judgementOf, judged}
 use Rattle.memory.specs.Writes.{write}
 use Rattle.memory.specs.Memory.{acted, refusedMem}

@@ -10,8 +10,8 @@ use Rattle.ledger.specs.Answers.{numberOf}
 use Rattle.layout.specs.declared.Shape.{Shape}
 use Rattle.layout.specs.Tables.{settingsOf, Laid}
 use Rattle.layout.specs.Picture.{settingsIn, StateOf}
-use Rattle.memory.specs.declared.Verdict.{Verdict}
-use Rattle.memory.specs.declared.Verdict.the-variants.{Go, No}
+use Rattle.ledger.specs.declared.Verdict.{Verdict}
+use Rattle.ledger.specs.declared.Verdict.the-variants.{Go, No}
 
 pub data Judgement : Type 0 where
   good : Judgement

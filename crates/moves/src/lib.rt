@@ -4,7 +4,8 @@ use ledger::Entry;
 use ledger::Plain;
 use ledger::Refusal;
 use ledger::Sent;
-use memory::Verdict;
+use ledger::Stitched;
+use ledger::Verdict;
 ghost use mathlib.Core.Path.{_≡_};
 ghost use mathlib.Core.List.{List};
 ghost use Prim.Native.Nat.{ℕ};
@@ -14,14 +15,7 @@ ghost use Rattle.layout.specs.Tables.{settingsOf};
 ghost use Rattle.layout.specs.Picture.{ledgerIn};
 ghost use Rattle.memory.specs.Judged.{Works, judgementOf, judged};
 ghost use Rattle.memory.specs.Memory.{acted};
-ghost use Rattle.moves.specs.Stitched.{recordIn};
-
-// Stitch's answer, with its ten-byte record beside it: entry id (2), length (2), queue, mapped port, timestamp (4), big-endian; ten zero
-// bytes where the answer is a refusal.
-pub struct Stitched {
-    pub answer: Plain,
-    pub record: [u8; 10],
-}
+ghost use Rattle.ledger.specs.Answers.{recordIn};
 
 // The first refusal of a prefetch that applies.
 pub fn judge_prefetch(m: &[u8], s: Shape, port: u32, queue: u32) -> Verdict

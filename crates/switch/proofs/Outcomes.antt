@@ -18,8 +18,8 @@ use Rattle.ledger.proofs.Answers.{plain-inj, stitch-inj, entry-inj, turn-inj, r
 use Rattle.memory.specs.Memory.{M}
 use Rattle.memory.proofs.Demands.{off-state}
 use Rattle.memory.proofs.Image.{zero-no-state}
-use Rattle.moves.specs.Stitched.{recordIn}
-use Rattle.moves.specs.declared.Stitched.{Stitched}
+use Rattle.ledger.specs.Answers.{recordIn}
+use Rattle.ledger.specs.declared.Stitched.{Stitched}
 use Rattle.switch.specs.Outcome.{Contract, OneOutcome}
 use Rattle.switch.proofs.set_up
 use Rattle.switch.proofs.arrive

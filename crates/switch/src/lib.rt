@@ -6,9 +6,9 @@ use ledger::EntryId;
 use ledger::Plain;
 use ledger::Readiness;
 use ledger::Refusal;
+use ledger::Stitched;
 use ledger::Turned;
 use ledger::Whereabouts;
-use moves::Stitched;
 use setup::Settings;
 use sound::Tested;
 ghost use mathlib.Core.Path.{_≡_};
@@ -19,7 +19,7 @@ ghost use Rattle.ledger.specs.Calls.{Reply, arrive, stitch, prefetch, credit, m
 ghost use Rattle.ledger.specs.Desk.{act};
 ghost use Rattle.memory.specs.Memory.{M};
 ghost use Rattle.memory.specs.Rounds.{roundOn};
-ghost use Rattle.moves.specs.Stitched.{recordIn};
+ghost use Rattle.ledger.specs.Answers.{recordIn};
 ghost use Rattle.setup.specs.Told.{callOf};
 
 // Setup: writes the starting ledger, also over an older one.

@@ -17,7 +17,7 @@ use Rattle.memory.specs.Writes.{headOf}
 use Rattle.memory.specs.Judged.{good, judgementOf, judged}
 use Rattle.memory.proofs.Chains.{state-tidy}
 use Rattle.memory.proofs.Judged.{acted-bad}
-use Rattle.moves.specs.Stitched.{recordIn}
+use Rattle.ledger.specs.Answers.{recordIn}
 use Rattle.moves.proofs.Laws.{ingress-in, Stitches, stitched-on}
 use Rattle.moves.proofs.stitch.Statement.{statement}
 use Rattle.moves.proofs.stitch.Tie as tie

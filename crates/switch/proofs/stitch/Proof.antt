@@ -2,7 +2,7 @@
 use mathlib.Core.Path.{sym, ap, _∙_}
 use borrow.Author.Needs.{needs}
 use Rattle.ledger.specs.Calls.{stitch}
-use Rattle.moves.specs.Stitched.{recordIn}
+use Rattle.ledger.specs.Answers.{recordIn}
 use Rattle.ledger.specs.Calls.{Reply}
 use mathlib.Core.List.{List}
 use Prim.Native.Nat.{ℕ}
