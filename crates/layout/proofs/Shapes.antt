@@ -37,9 +37,9 @@ pub record Small (s : Shape) : Type 0 where
   pub small-cells : s .cells ≤ 2016
   pub small-lists : s .lists ≤ 4160
   pub small-all : s .all ≤ 65536
-  pub small-arrival : s .arrival ≤ 48
-  pub small-head : s .head ≤ 8112
-  pub small-next : s .next ≤ 41392
+  pub small-arrival : s .arrival ≤ 65536
+  pub small-head : s .head ≤ 131072
+  pub small-next : s .next ≤ 262144
 
 pub small : (s : Shape) → Laid s → Small s
 unfolding startOf

@@ -13,24 +13,27 @@ use Rattle.layout.specs.declared.Table.{Table}
 use Rattle.layout.specs.declared.Table.the-variants.{Setting, Mapped, Last, Arrival, Outward, Head, Tail, Count, Next, Length, Stamp, Queue}
 use Rattle.layout.specs.declared.Table.the-variants.{Dest, Poisoned, Transaction, Price}
 
--- the tables in their order
+-- the tables in their order: the settings, the columns of numbers, then what there is for each list, then for each node
+abbrev pub columns : ℕ
+columns = 4
+
 abbrev pub turnOf : Table → ℕ
 turnOf Setting = 0
 turnOf Mapped = 1
 turnOf Last = 2
 turnOf Arrival = 3
 turnOf Outward = 4
-turnOf Head = 5
-turnOf Tail = 6
-turnOf Count = 7
-turnOf Next = 8
-turnOf Length = 9
-turnOf Stamp = 10
-turnOf Queue = 11
-turnOf Dest = 12
-turnOf Poisoned = 13
-turnOf Transaction = 14
-turnOf Price = 15
+turnOf Head = 1 + columns
+turnOf Tail = 2 + columns
+turnOf Count = 3 + columns
+turnOf Next = 4 + columns
+turnOf Length = 5 + columns
+turnOf Stamp = 6 + columns
+turnOf Queue = 7 + columns
+turnOf Dest = 8 + columns
+turnOf Poisoned = 9 + columns
+turnOf Transaction = 10 + columns
+turnOf Price = 11 + columns
 
 -- bytes of an element
 abbrev pub width : Table → ℕ
