@@ -70,7 +70,8 @@ abbrev carried : {X : Type 0} → (ℕ → X) → X → Verdict → X
 carried no′ out (bad n) = no′ n
 carried no′ out (good f) = out
 
-by-verdict : {X : Type 0} (rs ts : List Rule) (f : Fields) (no′ : ℕ → X) (out : X) → carried no′ (guard ts no′ out) (guard rs bad (good f)) ≡ guard (rs ++ ts) no′ out
+by-verdict : {X : Type 0} (rs ts : List Rule) (f : Fields) (no′ : ℕ → X) (out : X)
+    → carried no′ (guard ts no′ out) (guard rs bad (good f)) ≡ guard (rs ++ ts) no′ out
 by-verdict [] ts f no′ out = refl
 by-verdict (refuse n true ∷ rs) ts f no′ out = refl
 by-verdict (refuse n false ∷ rs) ts f no′ out = by-verdict rs ts f no′ out
@@ -90,7 +91,8 @@ module _ (S : Settings) (m : List ℕ) (p : ℕ) (h : List ℕ) where
     by-header : carried rejected (judgedFields S m p (fieldsOf h)) (verdict (S .queues) p h) ≡ judgedArrival S m p h
     unfolding judgedArrival judgedFields recorded
     by-header =
-        by-verdict (headerRules (S .queues) p h) (lastRules S (ledgerIn S m) p (packetFor S m p (fieldsOf h))) (fieldsOf h) rejected (accepted (packetFor S m p (fieldsOf h)))
+        by-verdict (headerRules (S .queues) p h) (lastRules S (ledgerIn S m) p (packetFor S m p (fieldsOf h))) (fieldsOf h) rejected
+        (accepted (packetFor S m p (fieldsOf h)))
         ∙ rw (leb-not (S .ports) p hp)
 
     pub bad-header : (n : ℕ) → bad n ≡ verdict (S .queues) p h → rejected n ≡ judgedArrival S m p h
@@ -130,7 +132,8 @@ arrives s m w p h k e =
     let c = judged-clear S (ledgerIn S m) (arrive p h) fine in
     let a = ledger.admits S (ledgerIn S m) p h c in
     let inside = lists-in S (w .laid .roomy) p (a .port) .0 in
-    let is : k ≡ packetFor S m p (fieldsOf h) = let f = e ∙ cleared (rules S (ledgerIn S m) (arrive p h)) rejected (accepted (packetFor S m p (fieldsOf h))) c in cc in
+    let f = e ∙ cleared (rules S (ledgerIn S m) (arrive p h)) rejected (accepted (packetFor S m p (fieldsOf h))) c in
+    let is : k ≡ packetFor S m p (fieldsOf h) = cc in
     let first : firstOf S (ledgerIn S m) (free p) .node ≡ headOf S m (free p) =
     ap (λ (j : Packet). j .node) (pop-item S (w .laid .roomy) m (state-tidy S m (w .state)) (place# S (free p)) inside (a .some))
     ∙ item-node S m (place# S (free p)) (headOf S m (free p)) in

@@ -26,14 +26,14 @@ pub enum Admitted {
 }
 
 // The packet that a header with these fields makes of node x.
-fn packet_of(s: Shape, x: u16, f: HeaderFields) -> Sent
+fn packet_of(s: Shape, x: EntryId, f: HeaderFields) -> Sent
     requires { ⌜ CanPrice s (headerOf f) ⌝ }
-    ensures { λ r. ⌜ sentOf r ≡ recorded (settingsOf s) x (headerOf f) ⌝ }
+    ensures { λ r. ⌜ sentOf r ≡ recorded (settingsOf s) (x .0) (headerOf f) ⌝ }
 {
     let beat = s.beat;
     let price = header::price_of(beat as u32, f.queue as u32, f.len as u32);
     Sent {
-        entry: EntryId(x),
+        entry: x,
         length: f.len,
         queue: f.queue,
         destination: f.dest,
@@ -49,7 +49,7 @@ fn admit(m: &[u8], s: Shape, p: usize, f: HeaderFields) -> Admitted
     requires { ⌜ CanAdmit s p (headerOf f) (now m) ⌝ }
     ensures { λ r. ⌜ admittedOf r ≡ judgedFields (settingsOf s) (now (m .entry)) p (headerOf f) ⌝ }
 {
-    let free = lists::free_list(s, p);
+    let free = layout::free_list(s, p);
     let k = packet_of(s, lists::first(m, s, free), f);
     let price = k.price as u16;
     let credit = parts::arrival(m, s, p, k.queue as usize);
@@ -88,8 +88,8 @@ fn take_in(m: &mut [u8], s: Shape, p: usize, k: Sent)
     let q = k.queue as usize;
     let price = k.price as u16;
     let credit = parts::arrival(m, s, p, q);
-    let from = lists::free_list(s, p);
-    let to = lists::ingress_list(s, p);
+    let from = layout::free_list(s, p);
+    let to = layout::ingress_list(s, p);
     let x = lists::pop(m, s, from);
     parts::record(m, s, k);
     lists::push(m, s, to, x);

@@ -2,18 +2,18 @@
 use mathlib.Core.Path.{_≡_, refl, sym, ap, _∙_}
 use mathlib.Core.Bool.{Bool, true, false, cond}
 use mathlib.Core.List.{List, [], _∷_, map}
-use Prim.Native.Nat.{ℕ, zero, suc, _+_, _-_, _*_, _/_, _%_, _≤_, _<_}
-use native.Mathlib.Nat.{le-of-suc-le-suc, not-suc-le-zero, mod-lt, div-lt-iff-lt-mul}
+use Prim.Native.Nat.{ℕ, zero, suc, _+_, _-_, _≤_, _<_}
+use native.Mathlib.Nat.{le-of-suc-le-suc, not-suc-le-zero}
 use native.Mathlib.Numerals.{add-one}
 use native.Mathlib.Omega.{arith}
 use lib.ListN.{length, getD}
 use lib.Dec.{eqb, ltb}
-use Rattle.ledger.specs.Settings.{Settings, row}
-use Rattle.ledger.specs.Ledger.{owner, index, isNode, Packet, free, ingress, egress, prefetched, placeIn, placeOf}
+use Rattle.ledger.specs.Settings.{Settings}
+use Rattle.ledger.specs.Ledger.{isNode, Packet, placeOf}
 use Rattle.ledger.specs.Ready.{bit}
 use Rattle.ledger.specs.Calls.{refused, found, whereIs, position, which}
 use Rattle.ledger.specs.Sound.{All}
-use Rattle.ledger.proofs.Tests.{ltb-yes, ltb-no, ltb-is, ltb-not, eqb-is, eqb-not}
+use Rattle.ledger.proofs.Tests.{ltb-yes, ltb-no, eqb-is, eqb-not}
 use Rattle.ledger.proofs.Find.{stands}
 use Rattle.layout.specs.declared.Table.the-variants.{Head, Count, Next}
 use Rattle.layout.specs.Tables.{lists, get}
@@ -24,17 +24,6 @@ use Rattle.finds.specs.declared.Step.the-variants.{At, NotThere}
 use Rattle.finds.specs.declared.Spot.{Spot}
 use Rattle.finds.specs.declared.Spot.the-variants.{In, Nowhere}
 use Rattle.finds.specs.Search.{walked, orElse, searched}
-
--- ---- whether y is a node, by its port p and its index i
-
-module _ (S : Settings) (y : ℕ) {p : ℕ} (port : p ≡ owner y) where
-  pub home-is : {i : ℕ} → i ≡ index y → p < S .ports → ltb i (S .nodes) ≡ isNode S y
-  unfolding isNode
-  home-is e h = rw (← port, ← e, ltb-is p (S .ports) h)
-
-  pub home-not : S .ports ≤ p → ltb p (S .ports) ≡ isNode S y
-  unfolding isNode
-  home-not h = rw (← port, ltb-not p (S .ports) h)
 
 module _ (S : Settings) (m : List ℕ) (x : ℕ) where
   -- ---- the walk of list l: at node y, of position i, what is found in the whole is what is found in the rest
@@ -129,7 +118,8 @@ module _ (S : Settings) (m : List ℕ) (x : ℕ) where
   search-step : (l n : ℕ) (ls : List (List Packet)) (later : Spot)
       → (which x ls < n → later ≡ In (suc l + which x ls) (position x (getD ls (which x ls) [])))
       → (b : Bool) → ltb (position x (shown S m l)) (length (shown S m l)) ≡ b → cond b 0 (suc (which x ls)) < suc n
-      → orElse l (walked x 0 (nodesOf S m l)) later ≡ In (l + cond b 0 (suc (which x ls))) (position x (getD (shown S m l ∷ ls) (cond b 0 (suc (which x ls))) []))
+      → orElse l (walked x 0 (nodesOf S m l)) later
+      ≡ In (l + cond b 0 (suc (which x ls))) (position x (getD (shown S m l ∷ ls) (cond b 0 (suc (which x ls))) []))
   search-step l n ls later k true e h =
       let a : 0 + position x (shown S m l) ≡ position x (shown S m l) = omega arith in
       let d : l ≡ l + 0 = omega arith in
@@ -175,30 +165,3 @@ module _ (S : Settings) (m : List ℕ) (x : ℕ) where
 
     pub stands-somewhere : Nowhere ≡ searched S m x 0 (lists S) → ⊥
     stands-somewhere e = let z : _≡_ {A = ℕ} 0 1 = cc finds in omega arith
-
--- ---- the place of a list's number, by its port and its column
-
-module _ (S : Settings) (p : ℕ) where
-  pub free-kind : (c : ℕ) → c ≡ 0 → free p ≡ placeIn S p c
-  free-kind c e = rw e
-
-  pub ingress-kind : (c : ℕ) → c ≡ 1 → ingress p ≡ placeIn S p c
-  ingress-kind c e = rw e
-
-  module _ (c : ℕ) (used : c ≡ 0 → ⊥) (left : c ≡ 1 → ⊥) where
-    second : c ≡ suc (suc (c - 2))
-    second = omega arith
-
-    pub egress-kind : c - 2 < S .queues → egress p (c - 2) ≡ placeIn S p c
-    egress-kind h = sym (ap (placeIn S p) second ∙ rw (ltb-is (c - 2) (S .queues) h))
-
-    pub prefetch-kind : S .queues ≤ c - 2 → prefetched p (c - 2 - S .queues) ≡ placeIn S p c
-    prefetch-kind h = sym (ap (placeIn S p) second ∙ rw (ltb-not (c - 2) (S .queues) h))
-
-pub port-in : (S : Settings) (l : ℕ) → l < lists S → l / row S < S .ports
-unfolding row
-port-in S l h = let pos : 0 < 2 + 2 * S .queues = omega arith in div-lt-iff-lt-mul pos .1 h
-
-pub column-in : (S : Settings) (l : ℕ) → l % row S < 2 + 2 * S .queues
-unfolding row
-column-in S l = let pos : 0 < 2 + 2 * S .queues = omega arith in mod-lt l pos

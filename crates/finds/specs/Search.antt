@@ -5,7 +5,7 @@ use Prim.Native.Nat.{ℕ, zero, suc, _<_}
 use lib.Dec.{eqb}
 use Rattle.ledger.specs.Settings.{Settings}
 use Rattle.layout.specs.declared.Shape.{Shape}
-use Rattle.layout.specs.Tables.{lists, settingsOf, Laid}
+use Rattle.layout.specs.Tables.{lists, settingsOf}
 use Rattle.layout.specs.Picture.{nodesOf}
 use Rattle.memory.specs.Judged.{Works}
 use Rattle.finds.specs.declared.Step.{Step}
@@ -28,12 +28,7 @@ unfoldable pub searched : Settings → List ℕ → ℕ → ℕ → ℕ → Spot
 searched S m y l zero = Nowhere
 searched S m y l (suc n) = orElse l (walked y 0 (nodesOf S m l)) (searched S m y (suc l) n)
 
--- the number of a list
-pub record InLists (s : Shape) (l : ℕ) : Type 0 where
-  pub laid : Laid s
-  pub inside : l < lists (settingsOf s)
-
--- the list of that number in a switch state
+-- list l of a switch state
 pub record Walks (s : Shape) (l : ℕ) (m : List ℕ) : Type 0 where
   pub works : Works s m
   pub inside : l < lists (settingsOf s)

@@ -2,12 +2,10 @@
 use layout::Shape;
 use layout::Table;
 use ledger::EntryId;
-use ledger::ListKind;
 use ledger::Refusal;
 use ledger::Whereabouts;
 ghost use mathlib.Core.Path.{_≡_};
-ghost use Rattle.ledger.specs.Ledger.{isNode, placeOf};
-ghost use Rattle.ledger.specs.Answers.{kindOf, whereReply};
+ghost use Rattle.ledger.specs.Answers.{whereReply};
 ghost use Rattle.ledger.specs.Calls.{whereIs};
 ghost use Rattle.layout.specs.declared.Table.the-variants.{Next};
 ghost use Rattle.layout.specs.Tables.{lists, get, settingsOf};
@@ -15,7 +13,7 @@ ghost use Rattle.layout.specs.Picture.{slot, nodesOf};
 ghost use Rattle.memory.specs.Judged.{Works};
 ghost use Rattle.memory.specs.Memory.{acted};
 ghost use Rattle.parts.specs.Parts.{InRecords};
-ghost use Rattle.finds.specs.Search.{Walks, InLists, walked, searched};
+ghost use Rattle.finds.specs.Search.{Walks, walked, searched};
 
 // What the walk of a list finds: the node's position, or that it isn't there.
 enum Step {
@@ -29,35 +27,24 @@ enum Spot {
     Nowhere,
 }
 
-// Whether an id is a node's.
-fn is_node(s: Shape, id: EntryId) -> bool
-    ensures { λ r. ⌜ r ≡ isNode (settingsOf s) (id .0) ⌝ }
-{
-    let ports = s.ports;
-    let nodes = s.nodes;
-    let port = id.port() as usize;
-    let index = id.index() as usize;
-    port < ports && index < nodes
-}
-
 // The node after x.
-fn next(m: &[u8], s: Shape, x: u16) -> u16
-    requires { ⌜ InRecords s x (now m) ⌝ }
-    ensures { λ r. ⌜ r ≡ get (settingsOf s) (now (m .entry)) Next (slot (settingsOf s) x) ⌝ }
+fn next(m: &[u8], s: Shape, x: EntryId) -> EntryId
+    requires { ⌜ InRecords s (x .0) (now m) ⌝ }
+    ensures { λ r. ⌜ r .0 ≡ get (settingsOf s) (now (m .entry)) Next (slot (settingsOf s) (x .0)) ⌝ }
 {
-    layout::get2(m, s, Table::Next, layout::slot_of(s, x))
+    EntryId(layout::get2(m, s, Table::Next, layout::slot_of(s, x)))
 }
 
 // Where node x stands in list l.
-fn in_list(m: &[u8], s: Shape, l: usize, x: u16) -> Step
+fn in_list(m: &[u8], s: Shape, l: usize, x: EntryId) -> Step
     requires { ⌜ Walks s l (now m) ⌝ }
-    ensures { λ r. ⌜ r ≡ walked x 0 (nodesOf (settingsOf s) (now (m .entry)) l) ⌝ }
+    ensures { λ r. ⌜ r ≡ walked (x .0) 0 (nodesOf (settingsOf s) (now (m .entry)) l) ⌝ }
 {
     let n = lists::count(m, s, l);
     let mut y = lists::first(m, s, l);
     let mut i: u32 = 0;
     while i < n {
-        if y == x {
+        if y.0 == x.0 {
             return Step::At(i as u16);
         }
         y = next(m, s, y);
@@ -67,9 +54,9 @@ fn in_list(m: &[u8], s: Shape, l: usize, x: u16) -> Step
 }
 
 // Where node x stands, of all lists.
-fn search(m: &[u8], s: Shape, x: u16) -> Spot
+fn search(m: &[u8], s: Shape, x: EntryId) -> Spot
     requires { ⌜ Works s (now m) ⌝ }
-    ensures { λ r. ⌜ r ≡ searched (settingsOf s) (now (m .entry)) x 0 (lists (settingsOf s)) ⌝ }
+    ensures { λ r. ⌜ r ≡ searched (settingsOf s) (now (m .entry)) (x .0) 0 (lists (settingsOf s)) ⌝ }
 {
     let n = s.lists;
     let mut l = 0;
@@ -82,45 +69,17 @@ fn search(m: &[u8], s: Shape, x: u16) -> Spot
     Spot::Nowhere
 }
 
-// Which list a list's number is: port by port, free, ingress, the egress lists, the prefetch lists.
-fn kind_of(s: Shape, l: usize) -> ListKind
-    requires { ⌜ InLists s l ⌝ }
-    ensures { λ r. ⌜ kindOf r ≡ placeOf (settingsOf s) l ⌝ }
-{
-    let queues = s.queues;
-    let row = 2 + 2 * queues;
-    let port = (l / row) as u8;
-    let column = l % row;
-    if column == 0 {
-        return ListKind::Free { port };
-    }
-    if column == 1 {
-        return ListKind::Ingress { port };
-    }
-    let k = column - 2;
-    if k < queues {
-        return ListKind::Egress {
-            port,
-            queue: k as u8,
-        };
-    }
-    ListKind::Prefetch {
-        port,
-        queue: (k - queues) as u8,
-    }
-}
-
 // The list in which a node stands and its position in it from 0; refused for an id that is no node's.
 pub fn where_is(m: &[u8], s: Shape, id: EntryId) -> Whereabouts
     requires { ⌜ Works s (now m) ⌝ }
     ensures { λ r. ⌜ whereReply r ≡ acted (settingsOf s) (now (m .entry)) (whereIs (id .0)) .0 ⌝ }
 {
-    if !is_node(s, id) {
+    if !layout::is_node(s, id) {
         return Whereabouts::No(Refusal::NoSuchId);
     }
-    let spot = search(m, s, id.0);
+    let spot = search(m, s, id);
     match spot {
-        Spot::In(l, i) => Whereabouts::Found(kind_of(s, l), i),
+        Spot::In(l, i) => Whereabouts::Found(layout::kind_of(s, l), i),
         // Never so: in a switch state each node stands somewhere.
         Spot::Nowhere => Whereabouts::No(Refusal::NoSuchId),
     }

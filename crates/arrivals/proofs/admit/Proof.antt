@@ -39,8 +39,8 @@ packet-is : (c : tie.After-packet-of) → let a = c .before .before .before .bef
     sentOf (c .packet-of .result) ≡ packetFor (settingsOf (a .s)) (a .m .now) (a .p) (headerOf (a .f))
 packet-is c =
     let a = c .before .before .before .before .args in
-    c .packet-of .ensures
-    ∙ ap (λ (x : ℕ). recorded (settingsOf (a .s)) x (headerOf (a .f))) (c .before .first .ensures ∙ ap (get (settingsOf (a .s)) (a .m .now) Head) (c .before .before .free-list .ensures))
+    let first = c .before .first .ensures ∙ ap (get (settingsOf (a .s)) (a .m .now) Head) (c .before .before .free-list .ensures) in
+    c .packet-of .ensures ∙ ap (λ (x : ℕ). recorded (settingsOf (a .s)) x (headerOf (a .f))) first
 
 queue-is : (c : tie.After-packet-of) → let a = c .before .before .before .before .args in
     c .packet-of .result .queue ≡ packetFor (settingsOf (a .s)) (a .m .now) (a .p) (headerOf (a .f)) .queue
@@ -70,7 +70,8 @@ arrival-requires c κs =
 
 -- the credit is that of its queue
 credit-is : (c : tie.After-arrival) → let a = c .before .before .before .before .before .before .before .args in
-    c .arrival .result ≡ arrivalOf (settingsOf (a .s)) (ledgerIn (settingsOf (a .s)) (a .m .now)) (a .p) (packetFor (settingsOf (a .s)) (a .m .now) (a .p) (headerOf (a .f)) .queue)
+    let S = settingsOf (a .s) in
+    c .arrival .result ≡ arrivalOf S (ledgerIn S (a .m .now)) (a .p) (packetFor S (a .m .now) (a .p) (headerOf (a .f)) .queue)
 credit-is c =
     let k = c .before .before .before in
     let a = k .before .before .before .before .args in

@@ -18,8 +18,8 @@ cast-price-of-3 c = search needs
 price-of-requires : tie.Need-price-of-requires
 price-of-requires c κs = search needs
 
-cast-t10 : tie.Need-cast-t10
-cast-t10 c =
+cast-t9 : tie.Need-cast-t9
+cast-t9 c =
     let st = c .before .before .before in
     omega (arith, price-le (st .args .s .beat) (st .args .f .queue) (st .args .f .len) (st .pre .laid .roomy .low-beat) (st .pre .len))
 
@@ -30,4 +30,4 @@ returns c = rw (c .price-of .ensures)
 pub packet-of-spec : {M : Type 1} → statement M
 packet-of-spec =
     tie.close
-    (tie.spec cast-price-of cast-price-of-2 cast-price-of-3 price-of-requires cast-t10 returns)
+    (tie.spec cast-price-of cast-price-of-2 cast-price-of-3 price-of-requires cast-t9 returns)

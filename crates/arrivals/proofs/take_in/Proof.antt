@@ -48,7 +48,7 @@ popped-is c =
     c .pop .ensures .memory ∙ ap (λ (l : ℕ). popMem (settingsOf (a .s)) l (a .m .now)) (from .free-list .ensures)
 
 -- the node that is taken off is the packet's
-node-is : (c : tie.After-pop) → c .pop .result ≡ sentOf (c .before .before .before .before .before .before .before .before .before .args .k) .node
+node-is : (c : tie.After-pop) → c .pop .result .0 ≡ sentOf (c .before .before .before .before .before .before .before .before .before .args .k) .node
 node-is c =
     let from = c .before .before .before in
     let st = from .before .before .before .before .before .before in
@@ -96,7 +96,8 @@ returns c =
     let to = pop .before .before in
     let a = to .before .before .before .before .before .before .before .args in
     laws.taken-in (settingsOf (a .s)) (a .p) (sentOf (a .k)) (a .m .now)
-    (popped-is pop) (rec .record .ensures) (push .push .ensures) (to .ingress-list .ensures) (node-is pop) (set .set-arrival .ensures) (to .before .before .arrival .ensures)
+    (popped-is pop) (rec .record .ensures) (push .push .ensures) (to .ingress-list .ensures) (node-is pop) (set .set-arrival .ensures)
+    (to .before .before .arrival .ensures)
 
 pub take-in-spec : {M : Type 1} → statement M
 take-in-spec =

@@ -10,7 +10,7 @@ use Rattle.finds.proofs.in_list.Statement.{statement}
 use Rattle.finds.proofs.in_list.Tie as tie
 
 abbrev Inv-loop : tie.InvT-loop
-Inv-loop m s l x n y₀ i₀ y i = laws.Walking (settingsOf s) m x l y i
+Inv-loop m s l x n y₀ i₀ y i = laws.Walking (settingsOf s) m (x .0) l (y .0) i
 
 abbrev μ-loop : tie.MeasureT-loop
 μ-loop m s l x n y₀ i₀ y i = n - i
@@ -24,26 +24,30 @@ first-requires c κs = let pre = c .before .before .pre in record { laid = pre .
 loop-holds : tie.Need-loop-holds Inv-loop μ-loop
 loop-holds c =
     let st = c .before .before .before in
-    rw (c .first .ensures) (laws.walk-starts (settingsOf (st .args .s)) (st .args .m .now) (st .args .x) (st .pre .works .state) (st .args .l) (st .pre .inside))
+    rw (c .first .ensures) (laws.walk-starts _ _ _ (st .pre .works .state) (st .args .l) (st .pre .inside))
+
+abbrev start : tie.At-loop Inv-loop μ-loop → tie.Start Inv-loop μ-loop
+start c = c .before .before .before .before
 
 -- in a turn the node at hand is one of the list's
-inside : (c : tie.In-loop Inv-loop μ-loop) → let a = c .before .before .before .before .before .args in
-    c .before .loop .i < get (settingsOf (a .s)) (a .m .now) Count (a .l)
+inside : (c : tie.In-loop Inv-loop μ-loop) → let a = start (c .before) .args in c .before .loop .i < get (settingsOf (a .s)) (a .m .now) Count (a .l)
 inside c = rw (c .before .before .before .count .ensures) at (c .loop-test .taken)
 
 cast-t9 : tie.Need-cast-t9 Inv-loop μ-loop
 cast-t9 c =
-    let st = c .before .before .before .before .before .before in
+    let at = c .before .before .before in
+    let st = start (at .before) in
     let w = st .pre .works in
-    omega (arith, inside (c .before), total-bound (settingsOf (st .args .s)) (st .args .m .now) (state-tidy _ _ (w .state)) (w .laid .roomy) (st .args .l) (st .pre .inside))
+    omega (arith, inside at, total-bound _ _ (state-tidy _ _ (w .state)) (w .laid .roomy) (st .args .l) (st .pre .inside))
 
 returns : tie.Need-returns Inv-loop μ-loop
-returns c = laws.walk-meets _ _ _ _ _ _ (c .before .before .loop .inv) (inside (c .before)) (c .if1 .taken)
+returns c = let at = c .before .before .before in laws.walk-meets _ _ _ _ _ _ (at .before .loop .inv) (inside at) (c .if1 .taken)
 
 next-requires : tie.Need-next-requires Inv-loop μ-loop
 next-requires c κs =
-    let w = c .before .before .before .before .before .before .pre .works in
-    record { laid = w .laid; long = w .state .long; node = laws.walk-node _ _ _ _ _ _ (c .before .before .loop .inv) (inside (c .before)) }
+    let at = c .before .before .before in
+    let w = start (at .before) .pre .works in
+    record { laid = w .laid; long = w .state .long; node = laws.walk-node _ _ _ _ _ _ (at .before .loop .inv) (inside at) }
 
 add-i : tie.Need-add-i Inv-loop μ-loop
 add-i c = search needs
@@ -52,7 +56,9 @@ loop-less : tie.Need-loop-less Inv-loop μ-loop
 loop-less c = search needs
 
 loop-again : tie.Need-loop-again Inv-loop μ-loop
-loop-again c = rw (c .next .ensures) (laws.walk-goes _ _ _ _ _ _ (c .before .before .before .loop .inv) (inside (c .before .before)) (c .before .if1 .left))
+loop-again c =
+    let at = c .before .before .before .before in
+    rw (c .next .ensures) (laws.walk-goes _ _ _ _ _ _ (at .before .loop .inv) (inside at) (c .before .if1 .left))
 
 returns-2 : tie.Need-returns-2 Inv-loop μ-loop
 returns-2 c = laws.walk-ends _ _ _ _ _ _ (c .before .loop .inv) (rw (c .before .before .before .count .ensures) at (c .loop-test .left))

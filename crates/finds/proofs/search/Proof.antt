@@ -9,7 +9,7 @@ use Rattle.finds.proofs.search.Statement.{statement}
 use Rattle.finds.proofs.search.Tie as tie
 
 abbrev Inv-loop : tie.InvT-loop
-Inv-loop m s x n l₀ l = laws.Searching (settingsOf s) m x l
+Inv-loop m s x n l₀ l = laws.Searching (settingsOf s) m (x .0) l
 
 abbrev μ-loop : tie.MeasureT-loop
 μ-loop m s x n l₀ l = n - l
