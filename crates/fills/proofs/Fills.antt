@@ -90,9 +90,9 @@ module _ (S : Settings) where
   setting-small r (suc (suc (suc (suc zero)))) = omega arith
   setting-small r (suc (suc (suc (suc (suc i))))) = omega arith
 
-  pub free-in : (p : ℕ) → p < S .ports → p * row S < lists S
+  pub free-in : {r : ℕ} → r ≡ row S → (p : ℕ) → p < S .ports → p * r < lists S
   unfolding row
-  free-in p h = omega (arith, mul-le-mul-right (row S) h)
+  free-in is p h = rw is (omega (arith, mul-le-mul-right (row S) h))
 
   pub link-in : (p i : ℕ) → p < S .ports → i < S .nodes - 1 → p * S .nodes + i < S .ports * S .nodes
   link-in p i h k = row-lt (S .nodes) (S .ports) p i h (omega arith)
@@ -127,9 +127,9 @@ module _ (S : Settings) where
       let settings = fill-front start Setting (λ i. i) (settingAt S) 6 (λ i h. h) in
       let marks = fill-front settings Last (λ p. p) (λ p. S .queues - 1) (S .ports) (λ p h. h) in
       let credits = fill-front marks Arrival (λ c. c) (λ c. S .credit) (cells S) (λ c h. h) in
-      let heads = fill-front credits Head (λ p. p * row S) (λ p. entryId p 0) (S .ports) free-in in
-      let tails = fill-front heads Tail (λ p. p * row S) (λ p. entryId p (S .nodes - 1)) (S .ports) free-in in
-      let counts = fill-front tails Count (λ p. p * row S) (λ p. S .nodes) (S .ports) free-in in
+      let heads = fill-front credits Head (λ p. p * row S) (λ p. entryId p 0) (S .ports) (free-in refl) in
+      let tails = fill-front heads Tail (λ p. p * row S) (λ p. entryId p (S .nodes - 1)) (S .ports) (free-in refl) in
+      let counts = fill-front tails Count (λ p. p * row S) (λ p. S .nodes) (S .ports) (free-in refl) in
       links-front counts (S .ports) (omega arith) .same
 
   written-over : (m : List ℕ) → written S (replicate (size S) 0 ++ drop (size S) m) ≡ setupMem S m

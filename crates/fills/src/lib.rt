@@ -87,7 +87,7 @@ fn put_counts(m: &mut [u8], s: Shape)
     ensures { λ _. ⌜ now (m .exit) ≡ fill (settingsOf s) Count (λ p. p * row (settingsOf s)) (λ p. s .nodes) (s .ports) (now (m .entry)) ⌝ }
 {
     let ports = s.ports;
-    let row = 2 + 2 * s.queues;
+    let row = s.row;
     let nodes = s.nodes as u32;
     let mut p = 0;
     while p < ports {
@@ -145,7 +145,7 @@ fn put_free_lists(m: &mut [u8], s: Shape)
     let ports = s.ports;
     let lists = Line {
         first: 0,
-        step: 2 + 2 * s.queues,
+        step: s.row,
     };
     let heads = Line {
         first: 0,

@@ -43,8 +43,9 @@ unfolding firstBad
 passed t [] h = refl
 passed t (x ∷ xs) h = rw (h x) (passed t xs h)
 
-pub spared-whole : (rule : NodeRule) (S : Settings) (m : List ℕ) (l : ℕ) → spared rule (l % row S) ≡ true → Whole ≡ listFound rule S m l
-spared-whole rule S m l e = passed (nodeTest rule S m l) (nodesOf S m l) (λ x. rw e)
+pub spared-whole : (rule : NodeRule) (S : Settings) (m : List ℕ) (l : ℕ) {r : ℕ} → r ≡ row S → spared rule (l % r) ≡ true
+    → Whole ≡ listFound rule S m l
+spared-whole rule S m l is e = passed (nodeTest rule S m l) (nodesOf S m l) (λ x. rw (← is, e))
 
 -- ---- a list: n nodes from x on are left
 
@@ -53,11 +54,12 @@ pub record Left (t : ℕ → Bool) (S : Settings) (m : List ℕ) (whole : Findin
   pub nodes : All (λ y. isNode S y ≡ true) (chain S m n x)
 
 -- at its head, where the rule speaks of the list
-pub left-start : (rule : NodeRule) (S : Settings) (m : List ℕ) (l : ℕ) → Tidy S m → l < lists S → spared rule (l % row S) ≡ false
-    → Left (λ y. ruleTest rule S (l / row S) (l % row S) (packetAt S m y)) S m (listFound rule S m l) (get S m Count l) (get S m Head l)
+pub left-start : (rule : NodeRule) (S : Settings) (m : List ℕ) (l : ℕ) {r : ℕ} → r ≡ row S → Tidy S m → l < lists S → spared rule (l % r) ≡ false
+    → Left (λ y. ruleTest rule S (l / r) (l % r) (packetAt S m y)) S m (listFound rule S m l) (get S m Count l) (get S m Head l)
 unfolding nodesOf
-left-start rule S m l tidy h e = record {
-  rest = ap (λ (b : Bool). firstBad (λ y. b || ruleTest rule S (l / row S) (l % row S) (packetAt S m y)) (nodesOf S m l)) (sym e);
+left-start rule S m l is tidy h e = record {
+  rest =
+      rw is (ap (λ (b : Bool). firstBad (λ y. b || ruleTest rule S (l / row S) (l % row S) (packetAt S m y)) (nodesOf S m l)) (sym (rw is at e)));
   nodes = members S m tidy l h;
 }
 

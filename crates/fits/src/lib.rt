@@ -2,12 +2,12 @@
 // first node that fails one of them.
 use layout::Shape;
 use layout::Table;
+use ledger::EntryId;
 use ledger::Finding;
 ghost use mathlib.Core.Path.{_≡_};
 ghost use Prim.Native.Nat.{_^_, _≤_, _<_};
 ghost use lib.Dec.{eqb};
 ghost use Rattle.ledger.specs.Header.{price as priceOf};
-ghost use Rattle.ledger.specs.Ledger.{owner};
 ghost use Rattle.layout.specs.Tables.{settingsOf, Laid};
 ghost use Rattle.layout.specs.Picture.{packetAt};
 ghost use Rattle.fits.specs.Fits.{spared, queueAt, rangeTest, fieldsTest, properTest, ruleTest, listFound, fitsFound};
@@ -29,14 +29,6 @@ fn spares(rule: NodeRule, column: usize) -> bool
         NodeRule::OwnQueue => column < 2,
         NodeRule::Record => column == 0,
     }
-}
-
-// (d): a node in a free or an ingress list is its port's.
-pub fn own_port(port: usize, x: u16) -> bool
-    ensures { λ r. ⌜ r ≡ eqb (owner x) port ⌝ }
-{
-    let owner = (x / 2048) as usize;
-    owner == port
 }
 
 // (e): a node in an egress or a prefetch list has the list's queue.
@@ -124,20 +116,20 @@ pub fn note_proper(s: Shape, n: Note) -> bool
 }
 
 // The same of what the memory has.
-fn proper(m: &[u8], s: Shape, x: u16) -> bool
-    requires { ⌜ NodeOf s x (now m) ⌝ }
-    ensures { λ r. ⌜ r ≡ properTest (settingsOf s) (packetAt (settingsOf s) (now (m .entry)) x) ⌝ }
+fn proper(m: &[u8], s: Shape, x: EntryId) -> bool
+    requires { ⌜ NodeOf s (x .0) (now m) ⌝ }
+    ensures { λ r. ⌜ r ≡ properTest (settingsOf s) (packetAt (settingsOf s) (now (m .entry)) (x .0)) ⌝ }
 {
     note_proper(s, noted(m, s, layout::slot_of(s, x)))
 }
 
 // The rule's test of one node in a list that it speaks of.
-fn node_fits(m: &[u8], s: Shape, rule: NodeRule, port: usize, column: usize, x: u16) -> bool
-    requires { ⌜ Spoken rule column s x (now m) ⌝ }
-    ensures { λ r. ⌜ r ≡ ruleTest rule (settingsOf s) port column (packetAt (settingsOf s) (now (m .entry)) x) ⌝ }
+fn node_fits(m: &[u8], s: Shape, rule: NodeRule, port: usize, column: usize, x: EntryId) -> bool
+    requires { ⌜ Spoken rule column s (x .0) (now m) ⌝ }
+    ensures { λ r. ⌜ r ≡ ruleTest rule (settingsOf s) port column (packetAt (settingsOf s) (now (m .entry)) (x .0)) ⌝ }
 {
     match rule {
-        NodeRule::OwnPort => own_port(port, x),
+        NodeRule::OwnPort => x.port() as usize == port,
         NodeRule::OwnQueue => {
             let queue = layout::get1(m, s, Table::Queue, layout::slot_of(s, x));
             own_queue(s, column, queue as usize)
@@ -151,7 +143,7 @@ fn list_fits(m: &[u8], s: Shape, rule: NodeRule, l: usize) -> Finding
     requires { ⌜ ListOf s l (now m) ⌝ }
     ensures { λ r. ⌜ r ≡ listFound rule (settingsOf s) (now (m .entry)) l ⌝ }
 {
-    let row = 2 + 2 * s.queues;
+    let row = s.row;
     let port = l / row;
     let column = l % row;
     if spares(rule, column) {
@@ -160,10 +152,11 @@ fn list_fits(m: &[u8], s: Shape, rule: NodeRule, l: usize) -> Finding
     let mut left = layout::get4(m, s, Table::Count, l);
     let mut x = layout::get2(m, s, Table::Head, l);
     while 0 < left {
-        if !node_fits(m, s, rule, port, column, x) {
+        let id = EntryId(x);
+        if !node_fits(m, s, rule, port, column, id) {
             return Finding::At(x as usize);
         }
-        x = layout::get2(m, s, Table::Next, layout::slot_of(s, x));
+        x = layout::get2(m, s, Table::Next, layout::slot_of(s, id));
         left -= 1;
     }
     Finding::Whole

@@ -1,5 +1,6 @@
 // What the one walk asks of each node that it meets: that it is new, rule (d), (e) or (f) by its list's column, and its price for rule (g).
 use layout::Shape;
+use ledger::EntryId;
 ghost use mathlib.Core.Path.{_≡_};
 ghost use mathlib.Core.Bool.{_||_};
 ghost use lib.Dec.{eqb, ltb, leb};
@@ -9,13 +10,13 @@ ghost use Rattle.fits.specs.Fits.{queueAt};
 ghost use Rattle.nodes.specs.Passes.{PacketLent, PacketPassed, NodeLent, NodePassed};
 
 // (d), which spares the lists of queues: the node is the port's.
-fn port_fits(port: usize, column: usize, x: u16) -> bool
-    ensures { λ r. ⌜ r ≡ (leb 2 column || eqb (owner x) port) ⌝ }
+fn port_fits(port: usize, column: usize, x: EntryId) -> bool
+    ensures { λ r. ⌜ r ≡ (leb 2 column || eqb (owner (x .0)) port) ⌝ }
 {
     if 2 <= column {
         return true;
     }
-    fits::own_port(port, x)
+    x.port() as usize == port
 }
 
 // (e), which spares the free and the ingress list: the node has the list's queue.
@@ -29,9 +30,9 @@ fn queue_fits(s: Shape, column: usize, queue: usize) -> bool
 }
 
 // (e) and (f) of a node that is not free, whose record is read once; its price is added.
-fn packet_passes(m: &[u8], s: Shape, column: usize, x: u16, at: usize, sums: &mut [u64]) -> bool
-    requires { ⌜ PacketLent s (now m) (now sums) x at ⌝ }
-    ensures { λ r. ⌜ PacketPassed (settingsOf s) (now (m .entry)) column x (now (sums .entry)) (now (sums .exit)) r ⌝ }
+fn packet_passes(m: &[u8], s: Shape, column: usize, x: EntryId, at: usize, sums: &mut [u64]) -> bool
+    requires { ⌜ PacketLent s (now m) (now sums) (x .0) at ⌝ }
+    ensures { λ r. ⌜ PacketPassed (settingsOf s) (now (m .entry)) column (x .0) (now (sums .entry)) (now (sums .exit)) r ⌝ }
 {
     let n = fits::noted(m, s, at);
     if !queue_fits(s, column, n.queue as usize) {
@@ -50,13 +51,13 @@ pub fn node_passes(
     s: Shape,
     port: usize,
     column: usize,
-    x: u16,
+    x: EntryId,
     at: usize,
     marks: &mut [u8],
     sums: &mut [u64],
 ) -> bool
-    requires { ⌜ NodeLent s (now m) (now marks) (now sums) x at ⌝ }
-    ensures { λ r. ⌜ NodePassed (settingsOf s) (now (m .entry)) port column x (now (marks .entry)) (now (sums .entry))
+    requires { ⌜ NodeLent s (now m) (now marks) (now sums) (x .0) at ⌝ }
+    ensures { λ r. ⌜ NodePassed (settingsOf s) (now (m .entry)) port column (x .0) (now (marks .entry)) (now (sums .entry))
         (now (marks .exit)) (now (sums .exit)) r ⌝ }
 {
     if !once::fresh(at, marks) {

@@ -2,26 +2,14 @@
 // it meets, in marks that the caller lends, and stops at the first id that is no node or is marked already; so it ends, whatever the counts say.
 use layout::Shape;
 use layout::Table;
+use ledger::EntryId;
 use ledger::Finding;
 ghost use mathlib.Core.Path.{_≡_};
 ghost use Prim.Native.Nat.{_+_, _<_, _^_};
 ghost use lib.ListN.{length};
-ghost use Rattle.ledger.specs.Ledger.{isNode};
 ghost use Rattle.layout.specs.Tables.{settingsOf};
 ghost use Rattle.once.specs.Once.{unmarked, onceFound};
 ghost use Rattle.once.specs.Walks.{Marks, Walkable, Blank, Fresh, Met, Walked};
-
-// Whether x is a node's id.
-pub fn is_node(s: Shape, x: u16) -> bool
-    ensures { λ r. ⌜ r ≡ isNode (settingsOf s) x ⌝ }
-{
-    let id = x as usize;
-    if id / 2048 < s.ports {
-        id % 2048 < s.nodes
-    } else {
-        false
-    }
-}
 
 // Sets the mark of an element, where it is not set yet, and answers whether it was not.
 pub fn fresh(at: usize, marks: &mut [u8]) -> bool
@@ -36,11 +24,11 @@ pub fn fresh(at: usize, marks: &mut [u8]) -> bool
 }
 
 // Marks x, where it is a node that is not marked yet, and answers whether it is.
-fn meet(s: Shape, x: u16, marks: &mut [u8]) -> bool
+fn meet(s: Shape, x: EntryId, marks: &mut [u8]) -> bool
     requires { ⌜ Marks s (now marks) ⌝ }
-    ensures { λ r. ⌜ Met s (now (marks .entry)) x (now (marks .exit)) r ⌝ }
+    ensures { λ r. ⌜ Met s (now (marks .entry)) (x .0) (now (marks .exit)) r ⌝ }
 {
-    if is_node(s, x) {
+    if layout::is_node(s, x) {
         return fresh(layout::slot_of(s, x), marks);
     }
     false
@@ -56,11 +44,12 @@ fn walk_list(m: &[u8], s: Shape, l: usize, marks: &mut [u8]) -> bool
     let mut x = layout::get2(m, s, Table::Head, l);
     let mut last = tail;
     while 0 < left {
-        if !meet(s, x, marks) {
+        let id = EntryId(x);
+        if !meet(s, id, marks) {
             return false;
         }
         last = x;
-        x = layout::get2(m, s, Table::Next, layout::slot_of(s, x));
+        x = layout::get2(m, s, Table::Next, layout::slot_of(s, id));
         left -= 1;
     }
     last == tail

@@ -30,12 +30,6 @@ listMost = 16711680
 
 -- ---- a node
 
-pub record InQueue (s : Shape) (x queue : ℕ) : Type 0 where
-  pub laid : Laid s
-  pub home : owner x < s .ports
-  pub some : 0 < queue
-  pub inside : queue < s .queues
-
 pub record AddsPrice (s : Shape) (sums : List ℕ) (x queue price : ℕ) : Type 0 where
   pub laid : Laid s
   pub home : owner x < s .ports

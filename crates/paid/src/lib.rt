@@ -2,47 +2,36 @@
 // spent on, is K.
 use layout::Shape;
 use layout::Table;
+use ledger::EntryId;
 use ledger::Finding;
 ghost use mathlib.Core.Path.{_≡_};
-ghost use Prim.Native.Nat.{_-_, _<_};
-ghost use Rattle.ledger.specs.Ledger.{owner, cell};
 ghost use Rattle.layout.specs.Tables.{settingsOf};
 ghost use Rattle.paid.specs.Paid.{addPrice, addList, sumsOf, settledAt, dueFound, paidFound};
-ghost use Rattle.paid.specs.Passes.{InQueue, AddsPrice, Adds, Added, AddsList, Pays, Settles, SettlesAt};
-
-// The credit cell of node x, which is of this queue and not of queue 0.
-fn cell_of(s: Shape, x: u16, queue: usize) -> usize
-    requires { ⌜ InQueue s x queue ⌝ }
-    ensures { λ r. ⌜ r ≡ cell (settingsOf s) (owner x) (queue - 1) ⌝ }
-{
-    let queues = s.queues;
-    let port = (x / 2048) as usize;
-    port * (queues - 1) + (queue - 1)
-}
+ghost use Rattle.paid.specs.Passes.{AddsPrice, Adds, Added, AddsList, Pays, Settles, SettlesAt};
 
 // Adds a price to the sum of node x's port and of a queue; queue 0 has none.
-pub fn add_price(s: Shape, sums: &mut [u64], x: u16, queue: usize, price: u64)
-    requires { ⌜ AddsPrice s (now sums) x queue price ⌝ }
-    ensures { λ _. ⌜ now (sums .exit) ≡ addPrice (settingsOf s) (now (sums .entry)) x queue price ⌝ }
+pub fn add_price(s: Shape, sums: &mut [u64], x: EntryId, queue: usize, price: u64)
+    requires { ⌜ AddsPrice s (now sums) (x .0) queue price ⌝ }
+    ensures { λ _. ⌜ now (sums .exit) ≡ addPrice (settingsOf s) (now (sums .entry)) (x .0) queue price ⌝ }
 {
     if queue == 0 {
         return;
     }
-    let c = cell_of(s, x, queue);
+    let c = layout::cell_of(s, x.port() as usize, queue);
     sums[c] = sums[c] + price;
 }
 
 // Adds the price of node x to the sum of its cell, and answers the node after x.
-fn add_node(m: &[u8], s: Shape, sums: &mut [u64], x: u16) -> u16
-    requires { ⌜ Adds s (now m) (now sums) x ⌝ }
-    ensures { λ r. ⌜ Added (settingsOf s) (now (m .entry)) (now (sums .entry)) x (now (sums .exit)) r ⌝ }
+fn add_node(m: &[u8], s: Shape, sums: &mut [u64], x: EntryId) -> EntryId
+    requires { ⌜ Adds s (now m) (now sums) (x .0) ⌝ }
+    ensures { λ r. ⌜ Added (settingsOf s) (now (m .entry)) (now (sums .entry)) (x .0) (now (sums .exit)) (r .0) ⌝ }
 {
     let at = layout::slot_of(s, x);
     let next = layout::get2(m, s, Table::Next, at);
     let queue = layout::get1(m, s, Table::Queue, at) as usize;
     let price = layout::get1(m, s, Table::Price, at) as u64;
     add_price(s, sums, x, queue, price);
-    next
+    EntryId(next)
 }
 
 // Adds the prices of the nodes of list l, unless it is a free list.
@@ -50,12 +39,12 @@ fn add_list(m: &[u8], s: Shape, sums: &mut [u64], l: usize)
     requires { ⌜ AddsList s (now m) (now sums) l ⌝ }
     ensures { λ _. ⌜ now (sums .exit) ≡ addList (settingsOf s) (now (m .entry)) (now (sums .entry)) l ⌝ }
 {
-    let row = 2 + 2 * s.queues;
+    let row = s.row;
     if l % row == 0 {
         return;
     }
     let n = layout::get4(m, s, Table::Count, l);
-    let mut x = layout::get2(m, s, Table::Head, l);
+    let mut x = EntryId(layout::get2(m, s, Table::Head, l));
     let mut i: u32 = 0;
     while i < n {
         x = add_node(m, s, sums, x);

@@ -54,7 +54,8 @@ module _ (S : Settings) (m : List ℕ) where
   -- ---- rule (b)
 
   -- a column's number, where the columns before it and after it are these
-  fits-number : (cs ds : List Column) (c : Column) (i : ℕ) → i < tall S c → fitsIn S m (cs ++ (c ∷ ds)) (sum (tall S) cs + i) ≡ ltb (get S m (tableOf c) i) (bound S c)
+  fits-number : (cs ds : List Column) (c : Column) (i : ℕ) → i < tall S c
+      → fitsIn S m (cs ++ (c ∷ ds)) (sum (tall S) cs + i) ≡ ltb (get S m (tableOf c) i) (bound S c)
   fits-number [] ds c i h = rw (zero-add i, ltb-is i (tall S c) h)
   fits-number (b ∷ cs) ds c i h =
       let past : tall S b ≤ tall S b + sum (tall S) cs + i = omega arith in

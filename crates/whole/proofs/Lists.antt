@@ -46,17 +46,17 @@ lists-start {s} {m} {ms} {sums} a e =
       held = sums-more S sums _ (countMost * 0) (omega arith) (w .held);
     })
 
--- ---- the place of a list, which is port p's column c
+-- ---- the place of a list, which is port p's column c, where a port has r lists
 
-module _ (S : Settings) (p c : ℕ) (hc : c < row S) where
-  pub list-in : p < S .ports → p * row S + c < lists S
-  list-in hp = row-lt (row S) (S .ports) p c hp hc
+module _ (S : Settings) (p c : ℕ) {r : ℕ} (is : r ≡ row S) (hc : c < r) where
+  pub list-in : p < S .ports → p * r + c < lists S
+  list-in hp = rw (← is) (row-lt r (S .ports) p c hp hc)
 
-  pub port-is : p ≡ (p * row S + c) / row S
-  port-is = sym (row-div (row S) p c hc)
+  pub port-is : p ≡ (p * r + c) / row S
+  port-is = rw (← is) (sym (row-div r p c hc))
 
-  pub column-is : c ≡ (p * row S + c) % row S
-  column-is = sym (row-mod (row S) p c hc)
+  pub column-is : c ≡ (p * r + c) % row S
+  column-is = rw (← is) (sym (row-mod r p c hc))
 
 module _ {S : Settings} {m ms sums : List ℕ} {l n : ℕ} (W : AtList S m ms sums l n) where
   module _ (some : l < lists S) where

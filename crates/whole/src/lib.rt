@@ -3,6 +3,7 @@
 // has a table of what is tested where.
 use layout::Shape;
 use layout::Table;
+use ledger::EntryId;
 use ledger::Finding;
 ghost use Rattle.layout.specs.Tables.{settingsOf};
 ghost use Rattle.whole.specs.Whole.{Says, Kept};
@@ -29,12 +30,13 @@ fn list_passes(
     let mut x = layout::get2(m, s, Table::Head, l);
     let mut last = tail;
     while 0 < left {
-        if !once::is_node(s, x) {
+        let id = EntryId(x);
+        if !layout::is_node(s, id) {
             return false;
         }
-        let at = layout::slot_of(s, x);
+        let at = layout::slot_of(s, id);
         let next = layout::get2(m, s, Table::Next, at);
-        if !nodes::node_passes(m, s, port, column, x, at, marks, sums) {
+        if !nodes::node_passes(m, s, port, column, id, at, marks, sums) {
             return false;
         }
         last = x;
@@ -56,7 +58,7 @@ fn port_passes(
     requires { ⌜ PortLent s (now m) (now marks) (now sums) port (now met) ⌝ }
     ensures { λ r. ⌜ PortPassed (settingsOf s) (now (m .entry)) port (now (marks .exit)) (now (sums .exit)) (now (met .exit)) r ⌝ }
 {
-    let row = 2 + 2 * s.queues;
+    let row = s.row;
     let first = port * row;
     let mut column: usize = 0;
     while column < row {

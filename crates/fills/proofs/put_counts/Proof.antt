@@ -1,9 +1,8 @@
 -- `fills::put_counts` meets its contract. The loop's invariant: the ports passed have their counts. The measure is how many are left. Assumes nothing.
 use mathlib.Core.Path.{refl}
-use Prim.Native.Nat.{_-_, _*_}
+use Prim.Native.Nat.{_-_, _*_, _<_}
 use native.Mathlib.Omega.{arith}
-use Rattle.ledger.specs.Settings.{row}
-use Rattle.layout.specs.Tables.{settingsOf}
+use Rattle.layout.specs.Tables.{lists, settingsOf}
 use Rattle.layout.specs.declared.Table.the-variants.{Count}
 use Rattle.layout.proofs.Shapes.{few}
 use Rattle.memory.specs.Image.{fill}
@@ -13,16 +12,10 @@ use Rattle.fills.proofs.put_counts.Tie as tie
 
 abbrev Inv-loop : tie.InvT-loop
 Inv-loop m₀ s ports r nodes p₀ m p =
-    Partly (λ k. fill (settingsOf s) Count (λ i. i * row (settingsOf s)) (λ i. s .nodes) k m₀) ports m₀ p m
+    Partly (λ k. fill (settingsOf s) Count (λ i. i * s .row) (λ i. s .nodes) k m₀) ports m₀ p m
 
 abbrev μ-loop : tie.MeasureT-loop
 μ-loop m₀ s ports r nodes p₀ m p = ports - p
-
-mul-row : tie.Need-mul-row Inv-loop μ-loop
-mul-row c = omega arith
-
-add-row : tie.Need-add-row Inv-loop μ-loop
-add-row c = omega arith
 
 cast-nodes : tie.Need-cast-nodes Inv-loop μ-loop
 cast-nodes c = omega arith
@@ -31,24 +24,18 @@ loop-holds : tie.Need-loop-holds Inv-loop μ-loop
 loop-holds c = fill-none _ _ _ _
 
 abbrev start : tie.At-loop Inv-loop μ-loop → tie.Start Inv-loop μ-loop
-start c = c .before .before .before .before
+start c = c .before .before .before
+
+-- the place of this turn is an element of the table
+inside : (c : tie.In-loop Inv-loop μ-loop) → let a = start (c .before) .args in c .before .loop .p * a .s .row < lists (settingsOf (a .s))
+inside c = free-in _ (start (c .before) .pre .laid .row-is) _ (c .loop-test .taken)
 
 mul-put4 : tie.Need-mul-put4 Inv-loop μ-loop
-unfolding row
-mul-put4 c =
-    let at = c .before .before in
-    omega (arith, few _ (start at .pre .laid .roomy), free-in (settingsOf (start at .args .s)) (at .loop .p) (omega arith))
+mul-put4 c = omega (arith, few _ (start (c .before .before) .pre .laid .roomy), inside (c .before))
 
 put4-requires : tie.Need-put4-requires Inv-loop μ-loop
-unfolding row
 put4-requires c κs =
-    let at = c .before .before in
-    record {
-      laid = start at .pre .laid;
-      long = omega arith;
-      wide = refl;
-      inside = free-in (settingsOf (start at .args .s)) (at .loop .p) (omega arith);
-    }
+    record { laid = start (c .before .before) .pre .laid; long = omega arith; wide = refl; inside = inside (c .before) }
 
 add-p : tie.Need-add-p Inv-loop μ-loop
 add-p c = omega arith
@@ -57,7 +44,6 @@ loop-less : tie.Need-loop-less Inv-loop μ-loop
 loop-less c = omega arith
 
 loop-again : tie.Need-loop-again Inv-loop μ-loop
-unfolding row
 loop-again c =
     let back = c .before in
     let done = back .before in
@@ -68,7 +54,7 @@ same-length : tie.Need-same-length Inv-loop μ-loop
 same-length c = c .before .loop .inv .same-length
 
 returns : tie.Need-returns Inv-loop μ-loop
-returns c = partly-all (c .before .loop .inv) (c .loop-test .left)
+returns c = rw (← start (c .before) .pre .laid .row-is) (partly-all (c .before .loop .inv) (c .loop-test .left))
 
 pub put-counts-spec : {M : Type 1} → statement M
 put-counts-spec =
@@ -76,8 +62,6 @@ put-counts-spec =
     (tie.spec
     Inv-loop
     μ-loop
-    mul-row
-    add-row
     cast-nodes
     loop-holds
     mul-put4

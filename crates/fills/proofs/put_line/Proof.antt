@@ -1,5 +1,4 @@
 -- `fills::put_line` meets its contract. The loop's invariant: the memory is the fill of the places passed. The measure is how many are left. Assumes nothing.
-use mathlib.Core.Path.{_∙_}
 use Prim.Native.Nat.{_-_}
 use native.Mathlib.Omega.{arith}
 use Rattle.layout.specs.Access.{Reads}
@@ -68,7 +67,7 @@ loop-again c =
     let placed = valued .before in
     let inside = placed .before .before in
     fill-next _ _ _ _ (inside .before .loop .inv) (inside .loop-test .taken) (back .m .given)
-    (done .put2 .ensures ∙ rw (placed .at .ensures, valued .at2 .ensures))
+    (rw (placed .at .ensures, valued .at2 .ensures) at (done .put2 .ensures))
 
 same-length : tie.Need-same-length Inv-loop μ-loop
 same-length c = c .before .loop .inv .same-length

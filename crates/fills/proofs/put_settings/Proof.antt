@@ -1,5 +1,4 @@
 -- `fills::put_settings` meets its contract. The loop's invariant: the settings passed are put. The measure is how many are left. Assumes nothing.
-use mathlib.Core.Path.{_∙_}
 use Prim.Native.Nat.{_-_}
 use native.Mathlib.Omega.{arith}
 use borrow.Author.Needs.{needs}
@@ -40,7 +39,7 @@ loop-again c =
     let done = back .before in
     let read = done .before in
     let inside = read .before .before in
-    fill-next _ _ _ _ (inside .before .loop .inv) (inside .loop-test .taken) (back .m .given) (done .put2 .ensures ∙ rw (read .setting-at .ensures))
+    fill-next _ _ _ _ (inside .before .loop .inv) (inside .loop-test .taken) (back .m .given) (rw (read .setting-at .ensures) at (done .put2 .ensures))
 
 same-length : tie.Need-same-length Inv-loop μ-loop
 same-length c = c .before .loop .inv .same-length

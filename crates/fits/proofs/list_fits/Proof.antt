@@ -1,11 +1,11 @@
 -- `fits::list_fits` meets its contract. The loop's invariant: what is left of the list says what the whole says, and holds nodes alone.
 -- The measure is the count of what is left. Assumes nothing.
 use Prim.Native.Nat.{_%_}
+use Rattle.layout.proofs.Places.{some}
 use mathlib.Core.Path.{refl}
 use native.Mathlib.Omega.{arith}
 use borrow.Author.Needs.{needs}
 use borrow.Author.Tests.{not-true, not-false}
-use Rattle.ledger.specs.Settings.{row}
 use Rattle.layout.specs.Tables.{settingsOf}
 use Rattle.layout.specs.Picture.{packetAt}
 use Rattle.memory.proofs.Chains.{node-lt, slot-lt}
@@ -25,15 +25,14 @@ abbrev μ-loop : tie.MeasureT-loop
 -- ---- the moments, each reached from the next
 
 abbrev start : tie.Else1 Inv-loop μ-loop → tie.Start Inv-loop μ-loop
-start c = c .before .before .before .before
+start c = c .before .before .before
 
 abbrev tested : tie.In-loop Inv-loop μ-loop → tie.Else1 Inv-loop μ-loop
 tested c = c .before .before .before .before
 
 -- where the walk stands: at a node of a list that the rule speaks of
 here : (c : tie.In-loop Inv-loop μ-loop)
-    → let a = start (tested c) .args in Spoken (a .rule) (a .l % row (settingsOf (a .s))) (a .s) (c .before .loop .x) (a .m .now)
-unfolding row
+    → let a = start (tested c) .args in Spoken (a .rule) (a .l % a .s .row) (a .s) (c .before .loop .x) (a .m .now)
 here c =
     let w = start (tested c) .pre .walkable in
     record {
@@ -41,26 +40,20 @@ here c =
       spoken = rw (tested c .before .spares .ensures) at (tested c .if1 .left);
     }
 
-mul-row : tie.Need-mul-row Inv-loop μ-loop
-mul-row c = omega (arith, c .before .before .pre .walkable .laid .roomy)
-
-add-row : tie.Need-add-row Inv-loop μ-loop
-add-row c = omega (arith, c .before .before .pre .walkable .laid .roomy)
-
 div-port : tie.Need-div-port Inv-loop μ-loop
-div-port c = omega arith
+div-port c = some _ (c .before .args .l) (c .before .pre .walkable .laid .row-is)
 
 rem-column : tie.Need-rem-column Inv-loop μ-loop
-rem-column c = omega arith
+rem-column c = some _ (c .before .args .l) (c .before .pre .walkable .laid .row-is)
 
 spares-requires : tie.Need-spares-requires Inv-loop μ-loop
 spares-requires c κs = search needs
 
 returns : tie.Need-returns Inv-loop μ-loop
-unfolding row
 returns c =
-    let a = c .before .before .before .before .args in
-    spared-whole (a .rule) (settingsOf (a .s)) (a .m .now) (a .l) (rw (c .before .spares .ensures) at (c .if1 .taken))
+    let b = c .before .before .before in
+    let a = b .args in
+    spared-whole (a .rule) (settingsOf (a .s)) (a .m .now) (a .l) (b .pre .walkable .laid .row-is) (rw (c .before .spares .ensures) at (c .if1 .taken))
 
 get4-requires : tie.Need-get4-requires Inv-loop μ-loop
 get4-requires c κs = search needs
@@ -69,15 +62,13 @@ get2-requires : tie.Need-get2-requires Inv-loop μ-loop
 get2-requires c κs = search needs
 
 loop-holds : tie.Need-loop-holds Inv-loop μ-loop
-unfolding row
 loop-holds c =
     let spoken = c .before .before in
     let p = start spoken .pre in
     rw (c .before .get4 .ensures, c .get2 .ensures)
-    (left-start (start spoken .args .rule) _ _ _ (p .walkable .tidy) (p .inside) (rw (spoken .before .spares .ensures) at (spoken .if1 .left)))
+    (left-start (start spoken .args .rule) _ _ _ (p .walkable .laid .row-is) (p .walkable .tidy) (p .inside) (rw (spoken .before .spares .ensures) at (spoken .if1 .left)))
 
 node-fits-requires : tie.Need-node-fits-requires Inv-loop μ-loop
-unfolding row
 node-fits-requires c κs = here c
 
 cast-t15 : tie.Need-cast-t15 Inv-loop μ-loop
@@ -121,8 +112,6 @@ list-fits-spec =
     (tie.spec
     Inv-loop
     μ-loop
-    mul-row
-    add-row
     div-port
     rem-column
     spares-requires

@@ -11,8 +11,11 @@ use Rattle.fits.proofs.node_fits.Tie as tie
 enum-told : tie.Need-enum-told
 enum-told c = search needs
 
-own-port-requires : tie.Need-own-port-requires
-own-port-requires c κs = search needs
+port-requires : tie.Need-port-requires
+port-requires c κs = search needs
+
+cast-result : tie.Need-cast-result
+cast-result c = search needs
 
 enum-told-2 : tie.Need-enum-told-2
 enum-told-2 c = search needs
@@ -42,7 +45,7 @@ proper-requires c κs = search needs
 
 returns : tie.Need-returns
 unfolding ruleTest packetAt
-returns c = rw (c .before .enum-told .given .1) (c .own-port .ensures)
+returns c = rw (c .before .enum-told .given .1, c .port .ensures)
 
 returns-2 : tie.Need-returns-2
 unfolding ruleTest packetAt
@@ -59,7 +62,8 @@ node-fits-spec =
     tie.close
     (tie.spec
     enum-told
-    own-port-requires
+    port-requires
+    cast-result
     enum-told-2
     slot-of-requires
     get1-requires

@@ -31,14 +31,14 @@ new-node c = c .before .before
 met : (c : tie.After-slice-known3)
     → let a = start c .args in
     let f = at-fresh c .fresh in
-    (f .result ≡ isNew (settingsOf (a .s)) (a .marks .now) (a .x))
-    × (f .result ≡ true → f .last .1 .0 ≡ mark (settingsOf (a .s)) (a .marks .now) (a .x))
+    (f .result ≡ isNew (settingsOf (a .s)) (a .marks .now) (a .x .0))
+    × (f .result ≡ true → f .last .1 .0 ≡ mark (settingsOf (a .s)) (a .marks .now) (a .x .0))
 met c = let p = start c .pre in fresh-new _ _ (p .node) (p .at-is) (at-fresh c .fresh .ensures)
 
-is-new : (c : tie.Else1) → let a = start (c .before) .args in isNew (settingsOf (a .s)) (a .marks .now) (a .x) ≡ true
+is-new : (c : tie.Else1) → let a = start (c .before) .args in isNew (settingsOf (a .s)) (a .marks .now) (a .x .0) ≡ true
 is-new c = sym (met (c .before) .0) ∙ not-false _ (c .if1 .left)
 
-ported : (c : tie.Else2) → let a = start (new-node c .before) .args in (leb 2 (a .column) || eqb (owner (a .x)) (a .port)) ≡ true
+ported : (c : tie.Else2) → let a = start (new-node c .before) .args in (leb 2 (a .column) || eqb (owner (a .x .0)) (a .port)) ≡ true
 ported c = sym (c .before .port-fits .ensures) ∙ not-false _ (c .if2 .left)
 
 fresh-requires : tie.Need-fresh-requires

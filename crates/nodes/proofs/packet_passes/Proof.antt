@@ -30,12 +30,12 @@ asked c = c .before .before .before
 -- ---- what is known at each
 
 -- what was read of its record
-read : (c : tie.After-noted) → let a = start c .args in NoteOf (settingsOf (a .s)) (a .m .now) (slot (settingsOf (a .s)) (a .x)) (c .noted .result)
+read : (c : tie.After-noted) → let a = start c .args in NoteOf (settingsOf (a .s)) (a .m .now) (slot (settingsOf (a .s)) (a .x .0)) (c .noted .result)
 read c = rw (start c .pre .at-is) at (c .noted .ensures)
 
 -- the packet fits
 fitted : (c : tie.Else2)
-    → let a = start (noted-at (asked c)) .args in packetFits (settingsOf (a .s)) (a .m .now) (a .column) (a .x) ≡ true
+    → let a = start (noted-at (asked c)) .args in packetFits (settingsOf (a .s)) (a .m .now) (a .column) (a .x .0) ≡ true
 fitted c =
     let w = asked c in
     let queue = sym (w .queue-fits .ensures) ∙ not-false _ (c .before .before .if1 .left) in
@@ -82,9 +82,9 @@ add-price-requires c κs =
     let b = start n in
     record {
       laid = b .pre .laid;
-      home = node-from _ (b .args .x) (b .pre .node) .home;
+      home = node-from _ (b .args .x .0) (b .pre .node) .home;
       inside = omega (arith, read n .queue-is, fits-queue _ _ _ _ (fitted passed));
-      cheap = omega (arith, read n .price-is, get-lt (settingsOf (b .args .s)) (b .args .m .now) Price (slot (settingsOf (b .args .s)) (b .args .x)));
+      cheap = omega (arith, read n .price-is, get-lt (settingsOf (b .args .s)) (b .args .m .now) Price (slot (settingsOf (b .args .s)) (b .args .x .0)));
       held = b .pre .held;
     }
 
@@ -101,7 +101,7 @@ returns-3 c =
     record {
       answer = sym (fitted passed);
       added = λ e.
-          added .add-price .ensures ∙ ap₂ (addPrice (settingsOf (a .s)) (a .sums .now) (a .x)) (read n .queue-is) (read n .price-is);
+          added .add-price .ensures ∙ ap₂ (addPrice (settingsOf (a .s)) (a .sums .now) (a .x .0)) (read n .queue-is) (read n .price-is);
     }
 
 pub packet-passes-spec : {M : Type 1} → statement M

@@ -7,11 +7,14 @@ use Rattle.nodes.proofs.port_fits.Tie as tie
 returns : tie.Need-returns
 returns c = rw (leb-is 2 _ (c .if1 .taken))
 
-own-port-requires : tie.Need-own-port-requires
-own-port-requires c κs = search needs
+port-requires : tie.Need-port-requires
+port-requires c κs = search needs
+
+cast-result : tie.Need-cast-result
+cast-result c = search needs
 
 returns-2 : tie.Need-returns-2
-returns-2 c = rw (leb-not 2 _ (c .before .if1 .left)) (c .own-port .ensures)
+returns-2 c = rw (leb-not 2 _ (c .before .if1 .left), c .port .ensures)
 
 pub port-fits-spec : {M : Type 1} → statement M
-port-fits-spec = tie.close (tie.spec returns own-port-requires returns-2)
+port-fits-spec = tie.close (tie.spec returns port-requires cast-result returns-2)

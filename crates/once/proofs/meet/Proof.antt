@@ -16,7 +16,7 @@ is-node-requires c κs = search needs
 abbrev start : tie.Then1 → tie.Start
 start c = c .before .before .before
 
-node : (c : tie.Then1) → let a = start c .args in isNode (settingsOf (a .s)) (a .x) ≡ true
+node : (c : tie.Then1) → let a = start c .args in isNode (settingsOf (a .s)) (a .x .0) ≡ true
 node c = sym (c .before .is-node .ensures) ∙ c .if1 .taken
 
 slot-of-requires : tie.Need-slot-of-requires

@@ -6,13 +6,14 @@ use native.Mathlib.Omega.{arith}
 use Rattle.ledger.specs.Settings.{row}
 use Rattle.layout.specs.declared.Table.the-variants.{Head, Count}
 use Rattle.layout.specs.Tables.{settingsOf}
+use Rattle.layout.proofs.Places.{some}
 use Rattle.paid.proofs.Adding.{free-list}
 use Rattle.paid.proofs.Passing.{list-reads, Walking, walk-start, walk-counted, walk-held, walk-next, walk-end}
 use Rattle.paid.proofs.add_list.Statement.{statement}
 use Rattle.paid.proofs.add_list.Tie as tie
 
 abbrev Inv-loop : tie.InvT-loop
-Inv-loop m s sums₀ l row n x₀ i₀ sums x i = Walking (settingsOf s) m sums₀ l n sums x i
+Inv-loop m s sums₀ l row n x₀ i₀ sums x i = Walking (settingsOf s) m sums₀ l n sums (x .0) i
 
 abbrev μ-loop : tie.MeasureT-loop
 μ-loop m s sums₀ l row n x₀ i₀ sums x i = n - i
@@ -20,27 +21,19 @@ abbrev μ-loop : tie.MeasureT-loop
 -- ---- the moments, each reached from the next
 
 abbrev start : tie.Else1 Inv-loop μ-loop → tie.Start Inv-loop μ-loop
-start c = c .before .before .before .before
+start c = c .before .before .before
 
 abbrev not-free : tie.At-loop Inv-loop μ-loop → tie.Else1 Inv-loop μ-loop
 not-free c = c .before .before .before
 
 used : (c : tie.Else1 Inv-loop μ-loop) → let a = start c .args in a .l % row (settingsOf (a .s)) ≢ 0
-unfolding row
-used c = c .if1 .left
-
-mul-row : tie.Need-mul-row Inv-loop μ-loop
-mul-row c = omega arith
-
-add-row : tie.Need-add-row Inv-loop μ-loop
-add-row c = omega arith
+used c = rw (start c .pre .laid .row-is) at (c .if1 .left)
 
 rem-if1 : tie.Need-rem-if1 Inv-loop μ-loop
-rem-if1 c = omega arith
+rem-if1 c = let b = c .before .before in some _ (b .args .l) (b .pre .laid .row-is)
 
 returns : tie.Need-returns Inv-loop μ-loop
-unfolding row
-returns c = sym (free-list _ _ _ _ (c .if1 .taken))
+returns c = sym (free-list _ _ _ _ (rw (c .before .before .before .pre .laid .row-is) at (c .if1 .taken)))
 
 get4-requires : tie.Need-get4-requires Inv-loop μ-loop
 get4-requires c κs = list-reads (start c .pre) Count refl refl
@@ -88,8 +81,6 @@ add-list-spec =
     (tie.spec
     Inv-loop
     μ-loop
-    mul-row
-    add-row
     rem-if1
     returns
     get4-requires

@@ -18,7 +18,7 @@ abbrev start : tie.After-slot-of → tie.Start
 start c = c .before .before .before
 
 abbrev field : tie.Start → Table → ℕ
-field b t = get (settingsOf (b .args .s)) (b .args .m .now) t (slot (settingsOf (b .args .s)) (b .args .x))
+field b t = get (settingsOf (b .args .s)) (b .args .m .now) t (slot (settingsOf (b .args .s)) (b .args .x .0))
 
 was-read : (c : tie.After-slot-of) (t : Table) (r : ℕ)
     → r ≡ get (settingsOf (start c .args .s)) (start c .args .m .now) t (c .slot-of .result) → r ≡ field (start c) t
@@ -60,7 +60,7 @@ add-price-requires c κs =
       laid = b .pre .laid;
       home = node-home (b .pre);
       inside = omega (arith, queue-is r, b .pre .counted .queue-in);
-      cheap = omega (arith, price-is r, get-lt (settingsOf (b .args .s)) (b .args .m .now) Price (slot (settingsOf (b .args .s)) (b .args .x)));
+      cheap = omega (arith, price-is r, get-lt (settingsOf (b .args .s)) (b .args .m .now) Price (slot (settingsOf (b .args .s)) (b .args .x .0)));
       held = b .pre .held;
     }
 
@@ -74,7 +74,7 @@ returns c =
     let r = w .before .before in
     let a = start (at-slot r) .args in
     record {
-      sums-are = w .add-price .ensures ∙ ap₂ (addPrice (settingsOf (a .s)) (a .sums .now) (a .x)) (queue-is r) (price-is r);
+      sums-are = w .add-price .ensures ∙ ap₂ (addPrice (settingsOf (a .s)) (a .sums .now) (a .x .0)) (queue-is r) (price-is r);
       next-is = was-read (at-slot r) Next _ (r .before .before .get2 .ensures);
     }
 

@@ -1,5 +1,5 @@
 -- `whole::port_passes` meets its contract. The loop's invariant: the walk stands at the list of the port's column. Assumes nothing.
-use mathlib.Core.Path.{_≡_, refl, sym, ap₂, _∙_}
+use mathlib.Core.Path.{_≡_, refl, sym, ap, ap₂, _∙_}
 use mathlib.Core.List.{List}
 use mathlib.Core.Bool.{false≢true}
 use Prim.Native.Nat.{ℕ, _+_, _-_, _*_, _/_, _%_, _≤_, _<_}
@@ -27,7 +27,7 @@ abbrev μ-loop : tie.MeasureT-loop
 -- ---- the moments, each reached from the next
 
 abbrev begun : tie.At-loop Inv-loop μ-loop → tie.Start Inv-loop μ-loop
-begun c = c .before .before .before .before .before
+begun c = c .before .before .before .before
 
 abbrev at-loop : tie.After-get4 Inv-loop μ-loop → tie.At-loop Inv-loop μ-loop
 at-loop c = c .before .before
@@ -58,52 +58,38 @@ kept c =
 inside : (c : tie.In-loop Inv-loop μ-loop)
     → let b = begun (c .before) in
     let S = settingsOf (b .args .s) in
-    let l = b .args .port * row S + c .before .loop .column in
+    let l = b .args .port * b .args .s .row + c .before .loop .column in
     (l < lists S) × (b .args .port ≡ l / row S) × (c .before .loop .column ≡ l % row S)
-unfolding row
 inside c =
     let b = begun (c .before) in
-    let S = settingsOf (b .args .s) in
+    let is = b .pre .laid .row-is in
     let low = c .loop-test .taken in
-    (list-in S _ _ low (b .pre .inside), port-is S (b .args .port) _ low, column-is S (b .args .port) _ low)
+    (list-in _ _ _ is low (b .pre .inside), port-is _ (b .args .port) _ is low, column-is _ (b .args .port) _ is low)
 
 -- what was answered of its count
 answered : (c : tie.After-few-enough Inv-loop μ-loop)
     → let at = at-loop (c .before) in
     let a = begun at .args in
-    let S = settingsOf (a .s) in
-    let l = a .port * row S + at .loop .column in
-    c .few-enough .result ≡ fewIn S (a .m .now) l
-unfolding row
+    c .few-enough .result ≡ fewIn (settingsOf (a .s)) (a .m .now) (a .port * a .s .row + at .loop .column)
 answered c =
     let S = settingsOf (begun (at-loop (c .before)) .args .s) in
     c .few-enough .ensures ∙ ap₂ (fewAt S) (inside (c .before .before) .2) (c .before .get4 .ensures)
 
-mul-row : tie.Need-mul-row Inv-loop μ-loop
-mul-row c = omega (arith, c .before .before .before .before .pre .laid .roomy)
-
-add-row : tie.Need-add-row Inv-loop μ-loop
-add-row c = omega (arith, c .before .before .before .before .pre .laid .roomy)
-
 mul-first : tie.Need-mul-first Inv-loop μ-loop
-unfolding row
 mul-first c =
-    let b = c .before .before .before .before in
-    omega (arith, b .pre .stands .scan .most, few _ (b .pre .laid .roomy))
+    let b = c .before .before .before in
+    omega (arith, ap (λ (r : ℕ). b .args .port * r) (b .pre .laid .row-is), b .pre .stands .scan .most, few _ (b .pre .laid .roomy))
 
 loop-holds : tie.Need-loop-holds Inv-loop μ-loop
-unfolding row
 loop-holds c =
-    let b = c .before .before .before .before in
-    let at : b .args .port * (2 + 2 * b .args .s .queues) ≡ b .args .port * (2 + 2 * b .args .s .queues) + 0 = omega arith in
-    (omega arith, rw (← at) (b .pre .stands))
+    let b = c .before .before .before in
+    let at : b .args .port * b .args .s .row + 0 ≡ b .args .port * b .args .s .row = omega arith in
+    (omega arith, rw (at, b .pre .laid .row-is) (b .pre .stands))
 
 add-l : tie.Need-add-l Inv-loop μ-loop
-unfolding row
 add-l c = omega (arith, inside c .0, few _ (begun (c .before) .pre .laid .roomy))
 
 get4-requires : tie.Need-get4-requires Inv-loop μ-loop
-unfolding row
 get4-requires c κs =
     let p = begun (c .before) .pre in
     record { laid = p .laid; long = p .long; wide = refl; inside = inside c .0 }
@@ -118,7 +104,6 @@ same-length-2 : tie.Need-same-length-2 Inv-loop μ-loop
 same-length-2 c = kept (at-loop (c .before .before)) .1
 
 returns : tie.Need-returns Inv-loop μ-loop
-unfolding row
 returns c =
     let w = c .before in
     record {
@@ -127,7 +112,6 @@ returns c =
     }
 
 list-passes-requires : tie.Need-list-passes-requires Inv-loop μ-loop
-unfolding row
 list-passes-requires c κs =
     let few = c .before .before in
     let read = few .before .before in
@@ -153,7 +137,6 @@ same-length-4 c =
     w .list-passes .kept .1 .1 .1 .1 .1 .1 .1 .0 ∙ kept (at-loop (counted w .before .before)) .1
 
 returns-2 : tie.Need-returns-2 Inv-loop μ-loop
-unfolding row
 returns-2 c =
     let w = walked (c .before) in
     let read = counted w .before .before in
@@ -169,8 +152,7 @@ went : (c : tie.Else2 Inv-loop μ-loop)
     let at = at-loop read in
     let a = begun at .args in
     AtList (settingsOf (a .s)) (a .m .now) (marks-after w) (sums-after w)
-    (a .port * row (settingsOf (a .s)) + (at .loop .column + 1)) (at .loop .met + read .get4 .result)
-unfolding row
+    (a .port * a .s .row + (at .loop .column + 1)) (at .loop .met + read .get4 .result)
 went c =
     let w = walked (c .before) in
     let short = counted w in
@@ -192,13 +174,14 @@ add-met c =
     )
 
 add-column : tie.Need-add-column Inv-loop μ-loop
-add-column c = omega (arith, begun (at-loop (counted (walked (c .before .before)) .before .before)) .pre .laid .roomy)
+add-column c =
+    let read = counted (walked (c .before .before)) .before .before in
+    omega (arith, inside (read .before) .0, few _ (begun (at-loop read) .pre .laid .roomy))
 
 loop-less : tie.Need-loop-less Inv-loop μ-loop
 loop-less c = omega arith
 
 loop-again : tie.Need-loop-again Inv-loop μ-loop
-unfolding row
 loop-again c = (omega arith, went (c .before))
 
 same-length-5 : tie.Need-same-length-5 Inv-loop μ-loop
@@ -208,12 +191,11 @@ same-length-6 : tie.Need-same-length-6 Inv-loop μ-loop
 same-length-6 c = kept (c .before) .1
 
 returns-3 : tie.Need-returns-3 Inv-loop μ-loop
-unfolding row
 returns-3 c =
     let at = c .before in
-    let a = begun at .args in
-    let end : (a .port + 1) * (2 + 2 * a .s .queues) ≡ a .port * (2 + 2 * a .s .queues) + at .loop .column = omega (arith, at .loop .inv .0) in
-    record { yes = λ e. rw end (at .loop .inv .1); no = λ e. absurd (true≢false e) }
+    let b = begun at in
+    let end : (b .args .port + 1) * b .args .s .row ≡ b .args .port * b .args .s .row + at .loop .column = omega (arith, at .loop .inv .0) in
+    record { yes = λ e. rw (← b .pre .laid .row-is, end) (at .loop .inv .1); no = λ e. absurd (true≢false e) }
 
 pub port-passes-spec : {M : Type 1} → statement M
 port-passes-spec =
@@ -221,8 +203,6 @@ port-passes-spec =
     (tie.spec
     Inv-loop
     μ-loop
-    mul-row
-    add-row
     mul-first
     loop-holds
     add-l
