@@ -1,0 +1,51 @@
+-- `acts::shape` meets its contract: a state is opened with its own shape. Assumes nothing.
+use mathlib.Core.Path.{sym, _∙_, subst}
+use borrow.Author.Needs.{needs}
+use Rattle.ledger.specs.Settings.{Settings}
+use Rattle.layout.specs.Picture.{StateOf}
+use Rattle.ranges.proofs.Opening.{opened-fine, opened-wrong}
+use Rattle.acts.proofs.shape.Statement.{statement}
+use Rattle.acts.proofs.shape.Tie as tie
+
+-- a state is never opened as none
+never : {A : Type 0} → tie.After-enum-told → A
+never c =
+    let start = c .before .before .before .before in
+    absurd (opened-wrong (start .args .m .now) (sym (c .before .before .open .ensures) ∙ c .enum-told .given .1) (start .pre .sound .rows) (start .pre .long))
+
+open-requires : tie.Need-open-requires
+open-requires c κs = search needs
+
+enum-known-s : tie.Need-enum-known-s
+enum-known-s c = search needs
+
+enum-told : tie.Need-enum-told
+enum-told c = search needs
+
+this-build-requires : tie.Need-this-build-requires
+this-build-requires c κs = search needs
+
+shape-of-requires : tie.Need-shape-of-requires
+shape-of-requires c κs = never (c .before)
+
+returns : tie.Need-returns
+returns c =
+    let opened = c .before .before .before in
+    let start = opened .before .before in
+    let o = opened-fine (start .args .m .now) _ (sym (opened .open .ensures) ∙ c .before .s .given .1) in
+    record { laid = o .laid; settings-are = o .settings-are; state = subst (λ (S : Settings). StateOf S (start .args .m .now)) (sym (o .settings-are)) (start .pre) }
+
+returns-2 : tie.Need-returns-2
+returns-2 c = never (c .before .before)
+
+pub shape-spec : {M : Type 1} → statement M
+shape-spec =
+    tie.close
+    (tie.spec
+    open-requires
+    enum-known-s
+    enum-told
+    this-build-requires
+    shape-of-requires
+    returns
+    returns-2)
