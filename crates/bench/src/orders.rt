@@ -4,7 +4,6 @@ use ledger::Entry;
 use ledger::Plain;
 use ledger::Stitched;
 use ledger::Turned;
-use setup::Settings;
 ghost use mathlib.Core.Path.{_≡_};
 ghost use mathlib.Core.List.{List};
 ghost use Prim.Native.Nat.{ℕ, _+_, _≤_};
@@ -95,12 +94,7 @@ pub fn carry_out(m: &mut [u8], order: Order, header: &[u8]) -> Said
             slots,
             credit,
         } => {
-            let told = Settings {
-                nodes: nodes as u32,
-                beat: beat as u32,
-                slots: slots as u32,
-                credit: credit as u32,
-            };
+            let told = settings::this_build(nodes as u32, beat as u32, slots as u32, credit as u32);
             plain(switch::set_up(m, told))
         }
         Order::Arrive { port, at: _ } => entry(switch::arrive(m, port as u32, header)),

@@ -1,17 +1,16 @@
 -- Which ids are no nodes, and the size; with no code. Assumes nothing.
-use mathlib.Core.Path.{_≡_, refl, sym, _∙_}
-use mathlib.Core.Logic.{inl}
+use mathlib.Core.Path.{_≡_, refl, sym, ap, _∙_}
 use mathlib.Core.Bool.{Bool, true, false, cond}
 use mathlib.Core.List.{List}
-use Prim.Native.Nat.{ℕ, _+_, _*_, _≤_, _<_}
+use Prim.Native.Nat.{ℕ, _≤_, _<_}
 use native.Mathlib.Omega.{arith}
 use lib.Dec.{ltb}
-use Rattle.ledger.specs.Settings.{Settings, settings, inRows}
+use Rattle.ledger.specs.Settings.{Settings, settings, inRows, size}
 use Rattle.ledger.specs.Ledger.{owner, isNode}
 use Rattle.ledger.specs.Calls.{refused, whereIs}
 use Rattle.ledger.specs.Desk.{act}
 use Rattle.ledger.proofs.Tests.{ltb-yes, ltb-not}
-use Rattle.ledger.proofs.Rows.{Rows, rows-beat, rows-not, this-build, size-is, beat-is}
+use Rattle.ledger.proofs.Rows.{this-build}
 use Rattle.layout.specs.Picture.{settingsIn, State}
 use Rattle.memory.specs.Memory.{state-dec, acted, tested, M}
 use Rattle.memory.proofs.Demands.{off-state}
@@ -51,12 +50,12 @@ asked-same m old y = go (ltb 65535 y) refl
 
 -- ---- the size
 
-pub size-none : (n : ℕ) → (Rows (settings n 64 1 0) → ⊥) → 0 ≡ sizeFor n
-unfolding sizeFor
-size-none n h = rw (rows-not (settings n 64 1 0) h)
+-- S are the least settings of n nodes
+module _ (n : ℕ) {S : Settings} (least : S ≡ settings n 64 1 0) where
+  pub size-none : inRows S ≡ false → 0 ≡ sizeFor n
+  unfolding sizeFor
+  size-none e = rw (ap inRows (sym least) ∙ e)
 
-pub size-some : (n : ℕ) → 1 ≤ n → n ≤ 2048 → 1988 + 52 * n ≡ sizeFor n
-unfolding sizeFor
-size-some n h k =
-    let e : inRows (settings n 64 1 0) ≡ true = rows-beat (settings n 64 1 0) refl refl h k (omega arith) (omega arith) (omega arith) ∙ beat-is 64 (inl refl) in
-    rw e (sym (size-is (settings n 64 1 0) e))
+  pub size-some : inRows S ≡ true → size S ≡ sizeFor n
+  unfolding sizeFor
+  size-some e = rw (ap inRows (sym least) ∙ e) (ap size least)

@@ -1,7 +1,6 @@
 // The C interface (include/ventorupo.h): each call answers 0 or the number of a refusal, and writes its answer into lent room. What it
 // answers and leaves, for any memory and any numbers, is read off the reply of M by the definitions of the crate rooms.
 use ledger::EntryId;
-use setup::Settings;
 ghost use mathlib.Core.Path.{_≡_};
 ghost use mathlib.Core.Bool.{cond};
 ghost use mathlib.Core.List.{List};
@@ -19,25 +18,18 @@ ghost use Rattle.capi.specs.Size.{sizeFor};
 pub extern "C" fn vr_size(nodes: u32) -> u64
     ensures { λ r. ⌜ r ≡ sizeFor nodes ⌝ }
 {
-    if nodes < 1 {
+    let least = settings::this_build(nodes, 64, 1, 0);
+    if !settings::in_rows(least) {
         return 0;
     }
-    if 2048 < nodes {
-        return 0;
-    }
-    1988 + 52 * (nodes as u64)
+    layout::size_of(layout::shape_of(least)) as u64
 }
 
 #[no_mangle]
 pub extern "C" fn vr_setup(mem: &mut [u8], nodes: u32, beat: u32, slots: u32, credit: u32) -> u32
     ensures { λ r. ⌜ _≡_ {A = ℕ × List ℕ} (r, now (mem .exit)) (told (M (setup (settings nodes beat slots credit)) (now (mem .entry)))) ⌝ }
 {
-    let asked = Settings {
-        nodes,
-        beat,
-        slots,
-        credit,
-    };
+    let asked = settings::this_build(nodes, beat, slots, credit);
     rooms::plain(switch::set_up(mem, asked))
 }
 

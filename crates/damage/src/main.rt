@@ -1,7 +1,6 @@
 // The calls and the test of the seven rules against an independent model: for eight settings, 300 steps of traffic, a line for the memory
 // that they leave, then a line for each of 400 damages of one byte. The model, tools/damage_model.py, wrote this program's stdout. A
 // damage's line where the test for a state and the first broken rule disagree would have a "?" more.
-use setup::Settings;
 use sound::Broken;
 use sound::Tested;
 ghost use Prim.Native.Nat.{_<_, _≤_};
@@ -252,7 +251,7 @@ fn size_for(nodes: u32) -> usize
     requires { ⌜ (1 ≤ nodes) × (nodes ≤ 2048) ⌝ }
     ensures { λ r. ⌜ (0 < r) × (r ≤ 131072) ⌝ }
 {
-    layout::size_of(layout::shape_of(4, 24, nodes as usize, 64, 1, 0))
+    layout::size_of(layout::shape_of(settings::this_build(nodes, 64, 1, 0)))
 }
 
 // What one setting gives; start is the congruence's.
@@ -269,15 +268,7 @@ fn run(
     ensures { λ r. ⌜ r ≤ 4096 ⌝ }
 {
     let mut m = [165u8; 131072];
-    switch::set_up(
-        &mut m,
-        Settings {
-            nodes: nodes,
-            beat: beat,
-            slots: slots,
-            credit: credit,
-        },
-    );
+    switch::set_up(&mut m, settings::this_build(nodes, beat, slots, credit));
     let d = traffic(&mut m, Draws { x: start });
     let size = size_for(nodes);
     let second = part(out, first, nodes as u64, b' ');

@@ -1,11 +1,7 @@
--- What setup is told, as the paper's settings and call. Assumes nothing.
-use Rattle.ledger.specs.Settings as ledger
+-- What setup is told, as the paper's call. Assumes nothing.
 use Rattle.ledger.specs.Desk as desk
-use Rattle.setup.specs.declared.Settings.{Settings}
-
--- the switch that is asked for
-abbrev pub switchOf : Settings → ledger.Settings
-switchOf t = ledger.settings (t .nodes) (t .beat) (t .slots) (t .credit)
+use Rattle.settings.specs.declared.Settings.{Settings}
+use Rattle.settings.specs.Told.{toldSettings}
 
 abbrev pub callOf : Settings → desk.Call
-callOf t = desk.setup (switchOf t)
+callOf t = desk.setup (toldSettings t)

@@ -9,7 +9,7 @@ use ledger::Refusal;
 use ledger::Stitched;
 use ledger::Turned;
 use ledger::Whereabouts;
-use setup::Settings;
+use settings::Settings;
 use sound::Tested;
 ghost use mathlib.Core.Path.{_≡_};
 ghost use mathlib.Core.List.{List};

@@ -1,8 +1,15 @@
 -- `capi::vr_setup` meets its contract: the answer follows the reply of the call. Assumes nothing.
+use mathlib.Core.Path.{ap, _∙_}
 use borrow.Author.Needs.{needs}
+use Rattle.ledger.specs.Settings.{Settings}
+use Rattle.ledger.specs.Desk.{setup}
+use Rattle.memory.specs.Memory.{M}
 use Rattle.rooms.proofs.Laws.{tells}
 use Rattle.capi.proofs.vr_setup.Statement.{statement}
 use Rattle.capi.proofs.vr_setup.Tie as tie
+
+this-build-requires : tie.Need-this-build-requires
+this-build-requires c κs = search needs
 
 set-up-requires : tie.Need-set-up-requires
 set-up-requires c κs = search needs
@@ -14,7 +21,10 @@ same-length : tie.Need-same-length
 same-length c = search needs
 
 returns : tie.Need-returns
-returns c = tells _ _ _ _ (c .before .before .before .set-up .ensures) (c .plain .ensures)
+returns c =
+    let done = c .before .before .before in
+    let start = done .before .before .before in
+    tells _ _ _ _ (done .set-up .ensures ∙ ap (λ (S : Settings). M (setup S) (start .args .mem .now)) (done .before .before .this-build .ensures)) (c .plain .ensures)
 
 pub vr-setup-spec : {M : Type 1} → statement M
-vr-setup-spec = tie.close (tie.spec set-up-requires plain-requires same-length returns)
+vr-setup-spec = tie.close (tie.spec this-build-requires set-up-requires plain-requires same-length returns)

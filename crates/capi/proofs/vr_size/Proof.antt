@@ -1,24 +1,37 @@
--- `capi::vr_size` meets its contract: by the rows that the nodes are tested for. Assumes nothing.
-use native.Mathlib.Omega.{arith}
+-- `capi::vr_size` meets its contract: the least settings, where they are in their rows. Assumes nothing.
+use mathlib.Core.Path.{sym, ap, _∙_}
 use borrow.Author.Needs.{needs}
+use borrow.Author.Tests.{not-true, not-false}
+use Rattle.ledger.specs.Settings.{size}
+use Rattle.ledger.proofs.Rows.{roomy}
 use Rattle.capi.proofs.Laws.{size-none, size-some}
 use Rattle.capi.proofs.vr_size.Statement.{statement}
 use Rattle.capi.proofs.vr_size.Tie as tie
 
+this-build-requires : tie.Need-this-build-requires
+this-build-requires c κs = search needs
+
+in-rows-requires : tie.Need-in-rows-requires
+in-rows-requires c κs = search needs
+
 returns : tie.Need-returns
-returns c = size-none _ (λ r. omega arith)
+returns c = size-none _ (c .before .before .this-build .ensures) (sym (c .before .in-rows .ensures) ∙ not-true _ (c .if1 .taken))
+
+shape-of-requires : tie.Need-shape-of-requires
+shape-of-requires c κs = roomy _ (sym (c .before .in-rows .ensures) ∙ not-false _ (c .if1 .left))
+
+size-of-requires : tie.Need-size-of-requires
+size-of-requires c κs = search needs
+
+cast-result : tie.Need-cast-result
+cast-result c = search needs
 
 returns-2 : tie.Need-returns-2
-returns-2 c = size-none _ (λ r. omega arith)
-
-mul-result : tie.Need-mul-result
-mul-result c = search needs
-
-add-result : tie.Need-add-result
-add-result c = search needs
-
-returns-3 : tie.Need-returns-3
-returns-3 c = size-some _ (omega arith) (omega arith)
+returns-2 c =
+    let passed = c .before .before in
+    c .size-of .ensures ∙ ap size (c .before .shape-of .ensures .settings-are)
+    ∙ size-some _ (passed .before .before .this-build .ensures) (sym (passed .before .in-rows .ensures) ∙ not-false _ (passed .if1 .left))
 
 pub vr-size-spec : {M : Type 1} → statement M
-vr-size-spec = tie.close (tie.spec returns returns-2 mul-result add-result returns-3)
+vr-size-spec =
+    tie.close (tie.spec this-build-requires in-rows-requires returns shape-of-requires size-of-requires cast-result returns-2)

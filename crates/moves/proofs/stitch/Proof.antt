@@ -169,7 +169,8 @@ returns-2 c =
     let to = place# (S st) (egress (mp .mapped .result) (read mp .packet .result .queue)) in
     let memory : sh .shift .last .0 ≡ pushMem (S st) to (oldest st) (popMem (S st) from (m st)) =
     sh .shift .ensures .memory
-    ∙ ap₂ (λ (a b : ℕ). pushMem (S st) b (get (S st) (m st) Head a) (popMem (S st) a (m st))) (l .ingress-list .ensures) (sh .before .before .egress-list .ensures) in
+    ∙ ap₂ (λ (a b : ℕ). pushMem (S st) b (get (S st) (m st) Head a) (popMem (S st) a (m st)))
+    (l .ingress-list .ensures) (sh .before .before .egress-list .ensures) in
     (rw (c .record-of .ensures, memory) (sym (g .outcome)), c .record-of .ensures ∙ sym (ap (λ (out : Reply × List ℕ). recordIn (out .0)) (g .outcome)))
 
 pub stitch-spec : {M : Type 1} → statement M

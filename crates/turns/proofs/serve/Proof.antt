@@ -188,7 +188,7 @@ returns c =
       memory =
           serve-mem (S st) (m st) (st .pre .works .state) (st .args .p) (st .args .q) (st .pre .port) (st .pre .queue) (st .pre .some)
           (l .prefetch-list .ensures) (sh .before .free-list .ensures) (home-is h)
-          (ap₂ _+_ (arrival-is ar) (price-is pk)) (ap₂ _-_ (o .outward .ensures) (price-is pk))
+          (ap₂ _+_ (arrival-is ar) (price-is pk)) (ap₂ (λ (x y : ℕ). x - y) (o .outward .ensures) (price-is pk))
           (sh .shift .ensures .memory) (se .settle .ensures);
     }
 
