@@ -27,7 +27,8 @@ fn shape(m: &[u8]) -> Shape
 #[no_mangle]
 pub extern "C" fn act_arrive(mem: &mut [u8], port: u32, header: &[u8], entry: &mut u16) -> u32
     requires { ⌜ State (now mem) ⌝ }
-    ensures { λ r. ⌜ _≡_ {A = ℕ × List ℕ × ℕ} (r, now (mem .exit), now (entry .exit)) (toldIn entryRoom (now (entry .entry)) (M (act (arrive port (now (header .entry)))) (now (mem .entry)))) ⌝ }
+    ensures { λ r. ⌜ _≡_ {A = ℕ × List ℕ × ℕ} (r, now (mem .exit), now (entry .exit))
+        (toldIn entryRoom (now (entry .entry)) (M (act (arrive port (now (header .entry)))) (now (mem .entry)))) ⌝ }
 {
     let s = shape(mem);
     rooms::put_entry(arrivals::arrive(mem, s, port, header), entry)
@@ -36,7 +37,8 @@ pub extern "C" fn act_arrive(mem: &mut [u8], port: u32, header: &[u8], entry: &m
 #[no_mangle]
 pub extern "C" fn act_stitch(mem: &mut [u8], port: u32, room: &mut [u8; 10]) -> u32
     requires { ⌜ State (now mem) ⌝ }
-    ensures { λ r. ⌜ _≡_ {A = ℕ × List ℕ × List ℕ} (r, now (mem .exit), now (room .exit)) (toldIn recordRoom (now (room .entry)) (M (act (stitch port)) (now (mem .entry)))) ⌝ }
+    ensures { λ r. ⌜ _≡_ {A = ℕ × List ℕ × List ℕ} (r, now (mem .exit), now (room .exit))
+        (toldIn recordRoom (now (room .entry)) (M (act (stitch port)) (now (mem .entry)))) ⌝ }
 {
     let s = shape(mem);
     let out = moves::stitch(mem, s, port);
@@ -48,7 +50,8 @@ pub extern "C" fn act_stitch(mem: &mut [u8], port: u32, room: &mut [u8; 10]) -> 
 #[no_mangle]
 pub extern "C" fn act_prefetch(mem: &mut [u8], port: u32, queue: u32, entry: &mut u16) -> u32
     requires { ⌜ State (now mem) ⌝ }
-    ensures { λ r. ⌜ _≡_ {A = ℕ × List ℕ × ℕ} (r, now (mem .exit), now (entry .exit)) (toldIn entryRoom (now (entry .entry)) (M (act (prefetch port queue)) (now (mem .entry)))) ⌝ }
+    ensures { λ r. ⌜ _≡_ {A = ℕ × List ℕ × ℕ} (r, now (mem .exit), now (entry .exit))
+        (toldIn entryRoom (now (entry .entry)) (M (act (prefetch port queue)) (now (mem .entry)))) ⌝ }
 {
     let s = shape(mem);
     rooms::put_entry(moves::prefetch(mem, s, port, queue), entry)
@@ -66,7 +69,8 @@ pub extern "C" fn act_credit(mem: &mut [u8], port: u32, queue: u32, amount: u32)
 #[no_mangle]
 pub extern "C" fn act_turn(mem: &mut [u8], port: u32, sent: &mut [u8; 16]) -> u32
     requires { ⌜ State (now mem) ⌝ }
-    ensures { λ r. ⌜ _≡_ {A = ℕ × List ℕ × List ℕ} (r, now (mem .exit), now (sent .exit)) (toldIn sentRoom (now (sent .entry)) (M (act (turn port)) (now (mem .entry)))) ⌝ }
+    ensures { λ r. ⌜ _≡_ {A = ℕ × List ℕ × List ℕ} (r, now (mem .exit), now (sent .exit))
+        (toldIn sentRoom (now (sent .entry)) (M (act (turn port)) (now (mem .entry)))) ⌝ }
 {
     let s = shape(mem);
     rooms::put_sent(turns::turn(mem, s, port), sent)

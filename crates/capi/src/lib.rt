@@ -35,14 +35,16 @@ pub extern "C" fn vr_setup(mem: &mut [u8], nodes: u32, beat: u32, slots: u32, cr
 
 #[no_mangle]
 pub extern "C" fn vr_arrive(mem: &mut [u8], port: u32, header: &[u8], entry: &mut u16) -> u32
-    ensures { λ r. ⌜ _≡_ {A = ℕ × List ℕ × ℕ} (r, now (mem .exit), now (entry .exit)) (toldIn entryRoom (now (entry .entry)) (M (act (arrive port (now (header .entry)))) (now (mem .entry)))) ⌝ }
+    ensures { λ r. ⌜ _≡_ {A = ℕ × List ℕ × ℕ} (r, now (mem .exit), now (entry .exit))
+        (toldIn entryRoom (now (entry .entry)) (M (act (arrive port (now (header .entry)))) (now (mem .entry)))) ⌝ }
 {
     rooms::put_entry(switch::arrive(mem, port, header), entry)
 }
 
 #[no_mangle]
 pub extern "C" fn vr_stitch(mem: &mut [u8], port: u32, room: &mut [u8; 10]) -> u32
-    ensures { λ r. ⌜ _≡_ {A = ℕ × List ℕ × List ℕ} (r, now (mem .exit), now (room .exit)) (toldIn recordRoom (now (room .entry)) (M (act (stitch port)) (now (mem .entry)))) ⌝ }
+    ensures { λ r. ⌜ _≡_ {A = ℕ × List ℕ × List ℕ} (r, now (mem .exit), now (room .exit))
+        (toldIn recordRoom (now (room .entry)) (M (act (stitch port)) (now (mem .entry)))) ⌝ }
 {
     let out = switch::stitch(mem, port);
     let answer = out.answer;
@@ -52,7 +54,8 @@ pub extern "C" fn vr_stitch(mem: &mut [u8], port: u32, room: &mut [u8; 10]) -> u
 
 #[no_mangle]
 pub extern "C" fn vr_prefetch(mem: &mut [u8], port: u32, queue: u32, entry: &mut u16) -> u32
-    ensures { λ r. ⌜ _≡_ {A = ℕ × List ℕ × ℕ} (r, now (mem .exit), now (entry .exit)) (toldIn entryRoom (now (entry .entry)) (M (act (prefetch port queue)) (now (mem .entry)))) ⌝ }
+    ensures { λ r. ⌜ _≡_ {A = ℕ × List ℕ × ℕ} (r, now (mem .exit), now (entry .exit))
+        (toldIn entryRoom (now (entry .entry)) (M (act (prefetch port queue)) (now (mem .entry)))) ⌝ }
 {
     rooms::put_entry(switch::prefetch(mem, port, queue), entry)
 }
@@ -73,14 +76,16 @@ pub extern "C" fn vr_map(mem: &mut [u8], id: u32, port: u32) -> u32
 
 #[no_mangle]
 pub extern "C" fn vr_turn(mem: &mut [u8], port: u32, sent: &mut [u8; 16]) -> u32
-    ensures { λ r. ⌜ _≡_ {A = ℕ × List ℕ × List ℕ} (r, now (mem .exit), now (sent .exit)) (toldIn sentRoom (now (sent .entry)) (M (act (turn port)) (now (mem .entry)))) ⌝ }
+    ensures { λ r. ⌜ _≡_ {A = ℕ × List ℕ × List ℕ} (r, now (mem .exit), now (sent .exit))
+        (toldIn sentRoom (now (sent .entry)) (M (act (turn port)) (now (mem .entry)))) ⌝ }
 {
     rooms::put_sent(switch::turn(mem, port), sent)
 }
 
 #[no_mangle]
 pub extern "C" fn vr_ready(mem: &[u8], port: u32, word: &mut u64, count: &mut u32) -> u32
-    ensures { λ r. ⌜ _≡_ {A = ℕ × (ℕ × ℕ)} (r, (now (word .exit), now (count .exit))) (shown readyRoom (now (word .entry), now (count .entry)) (M (act (ready port)) (now (mem .entry)) .0)) ⌝ }
+    ensures { λ r. ⌜ _≡_ {A = ℕ × (ℕ × ℕ)} (r, (now (word .exit), now (count .exit)))
+        (shown readyRoom (now (word .entry), now (count .entry)) (M (act (ready port)) (now (mem .entry)) .0)) ⌝ }
 {
     rooms::put_ready(switch::ready(mem, port), word, count)
 }
@@ -97,7 +102,8 @@ fn asked(entry: u32) -> EntryId
 
 #[no_mangle]
 pub extern "C" fn vr_where(mem: &[u8], entry: u32, place: &mut [u8; 8]) -> u32
-    ensures { λ r. ⌜ _≡_ {A = ℕ × List ℕ} (r, now (place .exit)) (shown (placeRoom entry) (now (place .entry)) (M (act (whereIs entry)) (now (mem .entry)) .0)) ⌝ }
+    ensures { λ r. ⌜ _≡_ {A = ℕ × List ℕ} (r, now (place .exit))
+        (shown (placeRoom entry) (now (place .entry)) (M (act (whereIs entry)) (now (mem .entry)) .0)) ⌝ }
 {
     let x = asked(entry);
     rooms::put_place(switch::where_is(mem, x), x, place)

@@ -1,21 +1,18 @@
--- What the judges and the acts of credit and map come to, with no code. Assumes nothing.
+-- What the judge and the act of credit come to, with no code. Assumes nothing.
 use mathlib.Core.Path.{_≡_, sym}
 use mathlib.Core.List.{List}
 use Prim.Native.Nat.{ℕ, _+_, _≤_, _<_}
 use lib.Dec.{eqb, leb}
-use Rattle.ledger.specs.Settings.{Settings, ids}
+use Rattle.ledger.specs.Settings.{Settings}
 use Rattle.ledger.specs.Ledger.{Ledger, outwardOf}
-use Rattle.ledger.specs.Calls.{done, credit, mapTo}
+use Rattle.ledger.specs.Calls.{done, credit}
 use Rattle.ledger.proofs.Tests.{leb-is, leb-not, leb-no, ltb-is, ltb-not, ltb-no, eqb-is, eqb-not, or-left}
-use Rattle.layout.specs.declared.Table.the-variants.{Mapped, Outward}
-use Rattle.layout.specs.Tables.{put}
+use Rattle.layout.specs.declared.Table.the-variants.{Outward}
 use Rattle.layout.specs.Picture.{ledgerIn}
 use Rattle.memory.specs.Writes.{creditMem}
 use Rattle.memory.specs.Judged.{good, bad, judged}
 use Rattle.memory.specs.Memory.{acted}
 use Rattle.memory.proofs.Judged.{judged-clear, acted-good}
-
--- ---- credit
 
 module _ (S : Settings) (L : Ledger) (p q n : ℕ) where
   pub no-port : S .ports ≤ p → bad 4 ≡ judged S L (credit p q n)
@@ -56,35 +53,4 @@ gone-on S m p q n e =
       queue = leb-no (S .queues) q (or-left (leb (S .queues) q) (eqb q 0) (c .1 .0));
       sum-in = ltb-no 65535 (outwardOf S (ledgerIn S m) p q + n) (c .1 .1 .0);
       outcome = acted-good S m (credit p q n) (sym e);
-    }
-
--- ---- map
-
-module _ (S : Settings) (L : Ledger) (d p : ℕ) where
-  pub no-id : ids ≤ d → bad 15 ≡ judged S L (mapTo d p)
-  unfolding judged
-  no-id h = rw (leb-is ids d h)
-
-  module _ (hd : d < ids) where
-    pub map-no-port : S .ports ≤ p → bad 4 ≡ judged S L (mapTo d p)
-    unfolding judged
-    map-no-port h = rw (leb-not ids d hd, leb-is (S .ports) p h)
-
-    pub map-goes : p < S .ports → good ≡ judged S L (mapTo d p)
-    unfolding judged
-    map-goes h = rw (leb-not ids d hd, leb-not (S .ports) p h)
-
--- what is known once the judge let a map go
-pub record Maps (S : Settings) (m : List ℕ) (d p : ℕ) : Type 0 where
-  pub id : d < ids
-  pub port : p < S .ports
-  pub outcome : acted S m (mapTo d p) ≡ (done, put S Mapped d p m)
-
-pub mapped-on : (S : Settings) (m : List ℕ) (d p : ℕ) → good ≡ judged S (ledgerIn S m) (mapTo d p) → Maps S m d p
-mapped-on S m d p e =
-    let c = judged-clear S (ledgerIn S m) (mapTo d p) (sym e) in
-    record {
-      id = leb-no ids d (c .0);
-      port = leb-no (S .ports) p (c .1 .0);
-      outcome = acted-good S m (mapTo d p) (sym e);
     }

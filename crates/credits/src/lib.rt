@@ -1,4 +1,4 @@
-// Credit and map, on a memory that is a switch state: judged first, then a single number is written.
+// Credit, on a memory that is a switch state: judged first, then a single number is written.
 use layout::Shape;
 use ledger::Plain;
 use ledger::Refusal;
@@ -7,7 +7,7 @@ ghost use mathlib.Core.Path.{_≡_};
 ghost use mathlib.Core.List.{List};
 ghost use Prim.Native.Nat.{ℕ};
 ghost use Rattle.ledger.specs.Answers.{plainReply};
-ghost use Rattle.ledger.specs.Calls.{Reply, credit, mapTo};
+ghost use Rattle.ledger.specs.Calls.{Reply, credit};
 ghost use Rattle.layout.specs.Tables.{settingsOf};
 ghost use Rattle.layout.specs.Picture.{ledgerIn};
 ghost use Rattle.memory.specs.Judged.{Works, judgementOf, judged};
@@ -51,37 +51,6 @@ pub fn credit(m: &mut [u8], s: Shape, port: u32, queue: u32, amount: u32) -> Pla
             let q = queue as usize;
             let held = parts::outward(m, s, p, q);
             parts::set_outward(m, s, p, q, held + amount as u16);
-            Plain::Done
-        }
-    }
-}
-
-// The first refusal of a map that applies.
-pub fn judge_map(m: &[u8], s: Shape, id: u32, port: u32) -> Verdict
-    requires { ⌜ Works s (now m) ⌝ }
-    ensures { λ r. ⌜ judgementOf r ≡ judged (settingsOf s) (ledgerIn (settingsOf s) (now (m .entry))) (mapTo id port) ⌝ }
-{
-    let p = port as usize;
-    let ports = s.ports;
-    if 4 <= id {
-        return Verdict::No(Refusal::NoSuchId);
-    }
-    if ports <= p {
-        return Verdict::No(Refusal::NoPort);
-    }
-    Verdict::Go
-}
-
-// The port of a destination id, set.
-pub fn map_to(m: &mut [u8], s: Shape, id: u32, port: u32) -> Plain
-    requires { ⌜ Works s (now m) ⌝ }
-    ensures { λ r. ⌜ _≡_ {A = Reply × List ℕ} (plainReply r, now (m .exit)) (acted (settingsOf s) (now (m .entry)) (mapTo id port)) ⌝ }
-{
-    let verdict = judge_map(m, s, id, port);
-    match verdict {
-        Verdict::No(r) => Plain::No(r),
-        Verdict::Go => {
-            parts::set_mapped(m, s, id as usize, port as u8);
             Plain::Done
         }
     }

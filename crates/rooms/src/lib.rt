@@ -112,7 +112,8 @@ pub fn put_sent(answer: Turned, room: &mut [u8; 16]) -> u32
 }
 
 pub fn put_ready(answer: Readiness, word: &mut u64, count: &mut u32) -> u32
-    ensures { λ r. ⌜ (r ≡ numberIn (readyReply answer)) × (_≡_ {A = ℕ × ℕ} (now (word .exit), now (count .exit)) (readyRoom (readyReply answer) (now (word .entry), now (count .entry)))) ⌝ }
+    ensures { λ r. ⌜ (r ≡ numberIn (readyReply answer)) ×
+        (_≡_ {A = ℕ × ℕ} (now (word .exit), now (count .exit)) (readyRoom (readyReply answer) (now (word .entry), now (count .entry)))) ⌝ }
 {
     match answer {
         Readiness::Word(w, n) => {

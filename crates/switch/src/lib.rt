@@ -83,7 +83,7 @@ pub fn map_to(m: &mut [u8], id: u32, port: u32) -> Plain
 {
     let tested = sound::test(m);
     match tested {
-        Tested::State(s) => credits::map_to(m, s, id, port),
+        Tested::State(s) => maps::map_to(m, s, id, port),
         Tested::NoState => Plain::No(Refusal::NoState),
     }
 }

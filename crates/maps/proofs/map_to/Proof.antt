@@ -1,4 +1,4 @@
--- `credits::map_to` meets its contract: the judge decides, and where it lets the call go the entry is written. Assumes nothing.
+-- `maps::map_to` meets its contract: the judge decides, and where it lets the call go the entry is written. Assumes nothing.
 use mathlib.Core.Path.{sym, ap, _∙_}
 use native.Mathlib.Omega.{arith}
 use borrow.Author.Needs.{needs}
@@ -6,9 +6,9 @@ use Rattle.ledger.specs.Calls.{mapTo}
 use Rattle.layout.specs.Tables.{settingsOf}
 use Rattle.memory.specs.Judged.{judgementOf}
 use Rattle.memory.proofs.Judged.{acted-bad}
-use Rattle.credits.proofs.Laws.{Maps, mapped-on}
-use Rattle.credits.proofs.map_to.Statement.{statement}
-use Rattle.credits.proofs.map_to.Tie as tie
+use Rattle.maps.proofs.Laws.{Maps, mapped-on}
+use Rattle.maps.proofs.map_to.Statement.{statement}
+use Rattle.maps.proofs.map_to.Tie as tie
 
 judge-map-requires : tie.Need-judge-map-requires
 judge-map-requires c κs = search needs

@@ -1,7 +1,7 @@
--- `credits::judge_map` meets its contract: each return is a law of what the judgement is there. Assumes nothing.
-use Rattle.credits.proofs.Laws as laws
-use Rattle.credits.proofs.judge_map.Statement.{statement}
-use Rattle.credits.proofs.judge_map.Tie as tie
+-- `maps::judge_map` meets its contract: each return is a law of what the judgement is there. Assumes nothing.
+use Rattle.maps.proofs.Laws as laws
+use Rattle.maps.proofs.judge_map.Statement.{statement}
+use Rattle.maps.proofs.judge_map.Tie as tie
 
 returns : tie.Need-returns
 returns c = laws.no-id _ _ _ _ (c .if1 .taken)
