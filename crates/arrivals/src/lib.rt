@@ -49,7 +49,7 @@ fn admit(m: &[u8], s: Shape, p: usize, f: HeaderFields) -> Admitted
     requires { ⌜ CanAdmit s p (headerOf f) (now m) ⌝ }
     ensures { λ r. ⌜ admittedOf r ≡ judgedFields (settingsOf s) (now (m .entry)) p (headerOf f) ⌝ }
 {
-    let free = layout::free_list(s, p);
+    let free = geometry::free_list(s, p);
     let k = packet_of(s, lists::first(m, s, free), f);
     let price = k.price as u16;
     let credit = parts::arrival(m, s, p, k.queue as usize);
@@ -88,8 +88,8 @@ fn take_in(m: &mut [u8], s: Shape, p: usize, k: Sent)
     let q = k.queue as usize;
     let price = k.price as u16;
     let credit = parts::arrival(m, s, p, q);
-    let from = layout::free_list(s, p);
-    let to = layout::ingress_list(s, p);
+    let from = geometry::free_list(s, p);
+    let to = geometry::ingress_list(s, p);
     let x = lists::pop(m, s, from);
     parts::record(m, s, k);
     lists::push(m, s, to, x);

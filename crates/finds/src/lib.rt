@@ -32,7 +32,7 @@ fn next(m: &[u8], s: Shape, x: EntryId) -> EntryId
     requires { ⌜ InRecords s (x .0) (now m) ⌝ }
     ensures { λ r. ⌜ r .0 ≡ get (settingsOf s) (now (m .entry)) Next (slot (settingsOf s) (x .0)) ⌝ }
 {
-    EntryId(layout::get2(m, s, Table::Next, layout::slot_of(s, x)))
+    EntryId(layout::get2(m, s, Table::Next, geometry::slot_of(s, x)))
 }
 
 // Where node x stands in list l.
@@ -74,12 +74,12 @@ pub fn where_is(m: &[u8], s: Shape, id: EntryId) -> Whereabouts
     requires { ⌜ Works s (now m) ⌝ }
     ensures { λ r. ⌜ whereReply r ≡ acted (settingsOf s) (now (m .entry)) (whereIs (id .0)) .0 ⌝ }
 {
-    if !layout::is_node(s, id) {
+    if !geometry::is_node(s, id) {
         return Whereabouts::No(Refusal::NoSuchId);
     }
     let spot = search(m, s, id);
     match spot {
-        Spot::In(l, i) => Whereabouts::Found(layout::kind_of(s, l), i),
+        Spot::In(l, i) => Whereabouts::Found(geometry::kind_of(s, l), i),
         // Never so: in a switch state each node stands somewhere.
         Spot::Nowhere => Whereabouts::No(Refusal::NoSuchId),
     }

@@ -120,7 +120,7 @@ fn proper(m: &[u8], s: Shape, x: EntryId) -> bool
     requires { ⌜ NodeOf s (x .0) (now m) ⌝ }
     ensures { λ r. ⌜ r ≡ properTest (settingsOf s) (packetAt (settingsOf s) (now (m .entry)) (x .0)) ⌝ }
 {
-    note_proper(s, noted(m, s, layout::slot_of(s, x)))
+    note_proper(s, noted(m, s, geometry::slot_of(s, x)))
 }
 
 // The rule's test of one node in a list that it speaks of.
@@ -131,7 +131,7 @@ fn node_fits(m: &[u8], s: Shape, rule: NodeRule, port: usize, column: usize, x: 
     match rule {
         NodeRule::OwnPort => x.port() as usize == port,
         NodeRule::OwnQueue => {
-            let queue = layout::get1(m, s, Table::Queue, layout::slot_of(s, x));
+            let queue = layout::get1(m, s, Table::Queue, geometry::slot_of(s, x));
             own_queue(s, column, queue as usize)
         }
         NodeRule::Record => proper(m, s, x),
@@ -156,7 +156,7 @@ fn list_fits(m: &[u8], s: Shape, rule: NodeRule, l: usize) -> Finding
         if !node_fits(m, s, rule, port, column, id) {
             return Finding::At(x as usize);
         }
-        x = layout::get2(m, s, Table::Next, layout::slot_of(s, id));
+        x = layout::get2(m, s, Table::Next, geometry::slot_of(s, id));
         left -= 1;
     }
     Finding::Whole

@@ -1,3 +1,2 @@
 pub mod Tables
 pub mod Shapes
-pub mod Places

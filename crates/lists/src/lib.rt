@@ -31,7 +31,7 @@ pub fn pop(m: &mut [u8], s: Shape, a: usize) -> EntryId
 {
     let n = count(m, s, a);
     let x = first(m, s, a);
-    let at = layout::slot_of(s, x);
+    let at = geometry::slot_of(s, x);
     let second = layout::get2(m, s, Table::Next, at);
     layout::put2(m, s, Table::Head, a, second);
     layout::put4(m, s, Table::Count, a, n - 1);
@@ -46,7 +46,7 @@ fn link(m: &mut [u8], s: Shape, b: usize, x: EntryId, n: u32)
     if n == 0 {
         layout::put2(m, s, Table::Head, b, x.0);
     } else {
-        let at = layout::slot_of(s, EntryId(layout::get2(m, s, Table::Tail, b)));
+        let at = geometry::slot_of(s, EntryId(layout::get2(m, s, Table::Tail, b)));
         layout::put2(m, s, Table::Next, at, x.0);
     }
 }

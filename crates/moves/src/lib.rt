@@ -33,11 +33,11 @@ pub fn judge_prefetch(m: &[u8], s: Shape, port: u32, queue: u32) -> Verdict
     if queues <= q {
         return Verdict::No(Refusal::NoQueue);
     }
-    let waiting = lists::count(m, s, layout::egress_list(s, p, q));
+    let waiting = lists::count(m, s, geometry::egress_list(s, p, q));
     if waiting == 0 {
         return Verdict::No(Refusal::NothingThere);
     }
-    let used = lists::count(m, s, layout::prefetch_list(s, p, q));
+    let used = lists::count(m, s, geometry::prefetch_list(s, p, q));
     if slots <= used as usize {
         return Verdict::No(Refusal::SlotsInUse);
     }
@@ -55,8 +55,8 @@ pub fn prefetch(m: &mut [u8], s: Shape, port: u32, queue: u32) -> Entry
         Verdict::Go => {
             let p = port as usize;
             let q = queue as usize;
-            let from = layout::egress_list(s, p, q);
-            let to = layout::prefetch_list(s, p, q);
+            let from = geometry::egress_list(s, p, q);
+            let to = geometry::prefetch_list(s, p, q);
             let x = lists::shift(m, s, from, to);
             Entry::Node(x)
         }
@@ -73,7 +73,7 @@ pub fn judge_stitch(m: &[u8], s: Shape, port: u32) -> Verdict
     if ports <= p {
         return Verdict::No(Refusal::NoPort);
     }
-    let waiting = lists::count(m, s, layout::ingress_list(s, p));
+    let waiting = lists::count(m, s, geometry::ingress_list(s, p));
     if waiting == 0 {
         return Verdict::No(Refusal::NothingThere);
     }
@@ -103,10 +103,10 @@ pub fn stitch(m: &mut [u8], s: Shape, port: u32) -> Stitched
             record: [0u8; 10],
         },
         Verdict::Go => {
-            let from = layout::ingress_list(s, port as usize);
+            let from = geometry::ingress_list(s, port as usize);
             let k = parts::packet(m, s, lists::first(m, s, from));
             let to = parts::mapped(m, s, k.destination as usize);
-            let at = layout::egress_list(s, to as usize, k.queue as usize);
+            let at = geometry::egress_list(s, to as usize, k.queue as usize);
             lists::shift(m, s, from, at);
             Stitched {
                 answer: Plain::Done,

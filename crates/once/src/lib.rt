@@ -28,8 +28,8 @@ fn meet(s: Shape, x: EntryId, marks: &mut [u8]) -> bool
     requires { ⌜ Marks s (now marks) ⌝ }
     ensures { λ r. ⌜ Met s (now (marks .entry)) (x .0) (now (marks .exit)) r ⌝ }
 {
-    if layout::is_node(s, x) {
-        return fresh(layout::slot_of(s, x), marks);
+    if geometry::is_node(s, x) {
+        return fresh(geometry::slot_of(s, x), marks);
     }
     false
 }
@@ -49,7 +49,7 @@ fn walk_list(m: &[u8], s: Shape, l: usize, marks: &mut [u8]) -> bool
             return false;
         }
         last = x;
-        x = layout::get2(m, s, Table::Next, layout::slot_of(s, id));
+        x = layout::get2(m, s, Table::Next, geometry::slot_of(s, id));
         left -= 1;
     }
     last == tail

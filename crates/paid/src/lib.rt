@@ -17,7 +17,7 @@ pub fn add_price(s: Shape, sums: &mut [u64], x: EntryId, queue: usize, price: u6
     if queue == 0 {
         return;
     }
-    let c = layout::cell_of(s, x.port() as usize, queue);
+    let c = geometry::cell_of(s, x.port() as usize, queue);
     sums[c] = sums[c] + price;
 }
 
@@ -26,7 +26,7 @@ fn add_node(m: &[u8], s: Shape, sums: &mut [u64], x: EntryId) -> EntryId
     requires { ⌜ Adds s (now m) (now sums) (x .0) ⌝ }
     ensures { λ r. ⌜ Added (settingsOf s) (now (m .entry)) (now (sums .entry)) (x .0) (now (sums .exit)) (r .0) ⌝ }
 {
-    let at = layout::slot_of(s, x);
+    let at = geometry::slot_of(s, x);
     let next = layout::get2(m, s, Table::Next, at);
     let queue = layout::get1(m, s, Table::Queue, at) as usize;
     let price = layout::get1(m, s, Table::Price, at) as u64;

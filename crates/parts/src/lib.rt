@@ -21,7 +21,7 @@ fn credit(m: &[u8], s: Shape, t: Table, p: usize, q: usize) -> u16
     if q == 0 {
         return 0;
     }
-    layout::get2(m, s, t, layout::cell_of(s, p, q))
+    layout::get2(m, s, t, geometry::cell_of(s, p, q))
 }
 
 // Queue 0 has no credit to write.
@@ -32,7 +32,7 @@ fn set_credit(m: &mut [u8], s: Shape, t: Table, p: usize, q: usize, v: u16)
     if q == 0 {
         return;
     }
-    layout::put2(m, s, t, layout::cell_of(s, p, q), v);
+    layout::put2(m, s, t, geometry::cell_of(s, p, q), v);
 }
 
 pub fn arrival(m: &[u8], s: Shape, p: usize, q: usize) -> u16
@@ -101,7 +101,7 @@ pub fn price(m: &[u8], s: Shape, x: EntryId) -> u8
     requires { ⌜ InRecords s (x .0) (now m) ⌝ }
     ensures { λ r. ⌜ r ≡ packetAt (settingsOf s) (now (m .entry)) (x .0) .price ⌝ }
 {
-    layout::get1(m, s, Table::Price, layout::slot_of(s, x))
+    layout::get1(m, s, Table::Price, geometry::slot_of(s, x))
 }
 
 // All that is recorded for node x.
@@ -109,7 +109,7 @@ pub fn packet(m: &[u8], s: Shape, x: EntryId) -> Sent
     requires { ⌜ InRecords s (x .0) (now m) ⌝ }
     ensures { λ r. ⌜ sentOf r ≡ packetAt (settingsOf s) (now (m .entry)) (x .0) ⌝ }
 {
-    let at = layout::slot_of(s, x);
+    let at = geometry::slot_of(s, x);
     let length = layout::get2(m, s, Table::Length, at);
     let timestamp = layout::get4(m, s, Table::Stamp, at);
     let queue = layout::get1(m, s, Table::Queue, at);
@@ -162,7 +162,7 @@ pub fn record(m: &mut [u8], s: Shape, k: Sent)
     ensures { λ _. ⌜ now (m .exit) ≡ recordMem (settingsOf s) (sentOf k) (now (m .entry)) ⌝ }
 {
     let x = k.entry;
-    let at = layout::slot_of(s, x);
+    let at = geometry::slot_of(s, x);
     record_wide(m, s, at, k.length, k.timestamp);
     record_way(m, s, at, k.queue, k.destination, k.poisoned);
     record_rest(m, s, at, k.transaction, k.price);

@@ -60,7 +60,7 @@ fn prefetch_list(s: Shape, j: usize) -> usize
     ensures { λ r. ⌜ r ≡ prefetchAt (settingsOf s) j ⌝ }
 {
     let queues = s.queues;
-    layout::prefetch_list(s, j / queues, j % queues)
+    geometry::prefetch_list(s, j / queues, j % queues)
 }
 
 // Whether item i is in range.

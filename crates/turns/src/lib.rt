@@ -24,7 +24,7 @@ fn readiness(m: &[u8], s: Shape, p: usize, q: usize) -> u64
     requires { ⌜ AtQueue s p q (now m) ⌝ }
     ensures { λ r. ⌜ r ≡ bit (isReady (settingsOf s) (ledgerIn (settingsOf s) (now (m .entry))) p q) ⌝ }
 {
-    let at = layout::prefetch_list(s, p, q);
+    let at = geometry::prefetch_list(s, p, q);
     if lists::count(m, s, at) == 0 {
         return 0;
     }
@@ -92,14 +92,14 @@ fn serve(m: &mut [u8], s: Shape, p: usize, q: usize) -> Sent
     requires { ⌜ CanServe s p q (now m) ⌝ }
     ensures { λ r. ⌜ Served s p q (now (m .entry)) (now (m .exit)) r ⌝ }
 {
-    let from = layout::prefetch_list(s, p, q);
+    let from = geometry::prefetch_list(s, p, q);
     let x = lists::first(m, s, from);
     let k = parts::packet(m, s, x);
     let home = x.port() as usize;
     let cost = k.price as u16;
     let given = parts::arrival(m, s, home, q) + cost;
     let left = parts::outward(m, s, p, q) - cost;
-    lists::shift(m, s, from, layout::free_list(s, home));
+    lists::shift(m, s, from, geometry::free_list(s, home));
     settle(m, s, p, q, home, given, left);
     k
 }

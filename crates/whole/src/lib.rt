@@ -31,10 +31,10 @@ fn list_passes(
     let mut last = tail;
     while 0 < left {
         let id = EntryId(x);
-        if !layout::is_node(s, id) {
+        if !geometry::is_node(s, id) {
             return false;
         }
-        let at = layout::slot_of(s, id);
+        let at = geometry::slot_of(s, id);
         let next = layout::get2(m, s, Table::Next, at);
         if !nodes::node_passes(m, s, port, column, id, at, marks, sums) {
             return false;

@@ -1,7 +1,7 @@
 -- `fits::list_fits` meets its contract. The loop's invariant: what is left of the list says what the whole says, and holds nodes alone.
 -- The measure is the count of what is left. Assumes nothing.
 use Prim.Native.Nat.{_%_}
-use Rattle.layout.proofs.Places.{some}
+use Rattle.geometry.proofs.Places.{some}
 use mathlib.Core.Path.{refl}
 use native.Mathlib.Omega.{arith}
 use borrow.Author.Needs.{needs}

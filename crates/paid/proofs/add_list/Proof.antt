@@ -6,7 +6,7 @@ use native.Mathlib.Omega.{arith}
 use Rattle.ledger.specs.Settings.{row}
 use Rattle.layout.specs.declared.Table.the-variants.{Head, Count}
 use Rattle.layout.specs.Tables.{settingsOf}
-use Rattle.layout.proofs.Places.{some}
+use Rattle.geometry.proofs.Places.{some}
 use Rattle.paid.proofs.Adding.{free-list}
 use Rattle.paid.proofs.Passing.{list-reads, Walking, walk-start, walk-counted, walk-held, walk-next, walk-end}
 use Rattle.paid.proofs.add_list.Statement.{statement}

@@ -1,9 +1,9 @@
--- `layout::egress_list` meets its contract. Assumes nothing.
+-- `geometry::egress_list` meets its contract. Assumes nothing.
 use borrow.Author.Needs.{needs}
 use Rattle.ledger.specs.Settings.{row}
 use Rattle.ledger.specs.Ledger.{place#}
-use Rattle.layout.proofs.egress_list.Statement.{statement}
-use Rattle.layout.proofs.egress_list.Tie as tie
+use Rattle.geometry.proofs.egress_list.Statement.{statement}
+use Rattle.geometry.proofs.egress_list.Tie as tie
 
 add-number : tie.Need-add-number
 add-number c = search needs

@@ -1,12 +1,12 @@
--- `layout::slot_of` meets its contract. Assumes nothing.
+-- `geometry::slot_of` meets its contract. Assumes nothing.
 use Prim.Native.Nat.{_*_, _≤_}
 use native.Mathlib.Omega.{arith}
 use borrow.Author.Needs.{needs}
 use Rattle.layout.specs.Tables.{settingsOf}
 use Rattle.layout.specs.Picture.{slot}
 use Rattle.layout.proofs.Shapes.{owner-row}
-use Rattle.layout.proofs.slot_of.Statement.{statement}
-use Rattle.layout.proofs.slot_of.Tie as tie
+use Rattle.geometry.proofs.slot_of.Statement.{statement}
+use Rattle.geometry.proofs.slot_of.Tie as tie
 
 port-requires : tie.Need-port-requires
 port-requires c κs = search needs

@@ -1,9 +1,9 @@
--- `layout::free_list` meets its contract. Assumes nothing.
+-- `geometry::free_list` meets its contract. Assumes nothing.
 use borrow.Author.Needs.{needs}
 use Rattle.ledger.specs.Settings.{row}
 use Rattle.ledger.specs.Ledger.{place#}
-use Rattle.layout.proofs.free_list.Statement.{statement}
-use Rattle.layout.proofs.free_list.Tie as tie
+use Rattle.geometry.proofs.free_list.Statement.{statement}
+use Rattle.geometry.proofs.free_list.Tie as tie
 
 number-requires : tie.Need-number-requires
 unfolding row

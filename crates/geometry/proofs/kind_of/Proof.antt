@@ -1,9 +1,9 @@
--- `layout::kind_of` meets its contract: each return is a law of the place there. Assumes nothing.
+-- `geometry::kind_of` meets its contract: each return is a law of the place there. Assumes nothing.
 use native.Mathlib.Omega.{arith}
 use borrow.Author.Needs.{needs}
-use Rattle.layout.proofs.Places as places
-use Rattle.layout.proofs.kind_of.Statement.{statement}
-use Rattle.layout.proofs.kind_of.Tie as tie
+use Rattle.geometry.proofs.Places as places
+use Rattle.geometry.proofs.kind_of.Statement.{statement}
+use Rattle.geometry.proofs.kind_of.Tie as tie
 
 div-port : tie.Need-div-port
 div-port c = omega (arith, places.some _ (c .args .l) (c .pre .laid .row-is))

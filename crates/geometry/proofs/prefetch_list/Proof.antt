@@ -1,9 +1,9 @@
--- `layout::prefetch_list` meets its contract. Assumes nothing.
+-- `geometry::prefetch_list` meets its contract. Assumes nothing.
 use borrow.Author.Needs.{needs}
 use Rattle.ledger.specs.Settings.{row}
 use Rattle.ledger.specs.Ledger.{place#}
-use Rattle.layout.proofs.prefetch_list.Statement.{statement}
-use Rattle.layout.proofs.prefetch_list.Tie as tie
+use Rattle.geometry.proofs.prefetch_list.Statement.{statement}
+use Rattle.geometry.proofs.prefetch_list.Tie as tie
 
 add-number : tie.Need-add-number
 add-number c = search needs

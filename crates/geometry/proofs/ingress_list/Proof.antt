@@ -1,9 +1,9 @@
--- `layout::ingress_list` meets its contract. Assumes nothing.
+-- `geometry::ingress_list` meets its contract. Assumes nothing.
 use borrow.Author.Needs.{needs}
 use Rattle.ledger.specs.Settings.{row}
 use Rattle.ledger.specs.Ledger.{place#}
-use Rattle.layout.proofs.ingress_list.Statement.{statement}
-use Rattle.layout.proofs.ingress_list.Tie as tie
+use Rattle.geometry.proofs.ingress_list.Statement.{statement}
+use Rattle.geometry.proofs.ingress_list.Tie as tie
 
 number-requires : tie.Need-number-requires
 unfolding row

@@ -1,14 +1,14 @@
--- `layout::cell_of` meets its contract: no cell is far. Assumes nothing.
+-- `geometry::cell_of` meets its contract: no cell is far. Assumes nothing.
 use mathlib.Core.Path.{refl}
 use Prim.Native.Nat.{_+_, _-_, _*_, _<_}
 use native.Mathlib.Omega.{arith}
 use borrow.Author.Needs.{needs}
 use Rattle.ledger.specs.Ledger.{cell}
 use Rattle.ledger.proofs.Places.{row-lt}
 use Rattle.layout.specs.Tables.{cells, settingsOf}
 use Rattle.layout.proofs.Shapes.{few}
-use Rattle.layout.proofs.cell_of.Statement.{statement}
-use Rattle.layout.proofs.cell_of.Tie as tie
+use Rattle.geometry.proofs.cell_of.Statement.{statement}
+use Rattle.geometry.proofs.cell_of.Tie as tie
 
 below : (c : tie.Start) → c .args .p * (c .args .s .queues - 1) + (c .args .q - 1) < cells (settingsOf (c .args .s))
 below c = row-lt (c .args .s .queues - 1) (c .args .s .ports) (c .args .p) (c .args .q - 1) (c .pre .port) (omega arith)

@@ -1,9 +1,9 @@
--- `layout::is_node` meets its contract. Assumes nothing.
+-- `geometry::is_node` meets its contract. Assumes nothing.
 use borrow.Author.Needs.{needs}
 use borrow.Author.Tests.{lt-ltb, le-ltb}
 use Rattle.ledger.specs.Ledger.{isNode}
-use Rattle.layout.proofs.is_node.Statement.{statement}
-use Rattle.layout.proofs.is_node.Tie as tie
+use Rattle.geometry.proofs.is_node.Statement.{statement}
+use Rattle.geometry.proofs.is_node.Tie as tie
 
 port-requires : tie.Need-port-requires
 port-requires c κs = search needs
