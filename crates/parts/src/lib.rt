@@ -140,8 +140,8 @@ fn record_wide(m: &mut [u8], s: Shape, at: usize, length: u16, stamp: u32)
 
 fn record_way(m: &mut [u8], s: Shape, at: usize, queue: u8, dest: u8, poisoned: u8)
     requires { ⌜ InSlots s at (now m) ⌝ }
-    ensures { λ _. ⌜ now (m .exit) ≡ put (settingsOf s) Poisoned at poisoned
-        (put (settingsOf s) Dest at dest (put (settingsOf s) Queue at queue (now (m .entry)))) ⌝ }
+    ensures { λ _. ⌜ now (m .exit)
+        ≡ put (settingsOf s) Poisoned at poisoned (put (settingsOf s) Dest at dest (put (settingsOf s) Queue at queue (now (m .entry)))) ⌝ }
 {
     layout::put1(m, s, Table::Queue, at, queue);
     layout::put1(m, s, Table::Dest, at, dest);

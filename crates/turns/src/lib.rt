@@ -79,8 +79,8 @@ fn exit_of(q: u32) -> Exit
 // The credits and the mark after a packet of queue q left port p for home.
 fn settle(m: &mut [u8], s: Shape, p: usize, q: usize, home: usize, given: u16, left: u16)
     requires { ⌜ CanSettle s p q home (now m) ⌝ }
-    ensures { λ _. ⌜ now (m .exit) ≡ put (settingsOf s) Last p q
-        (creditMem (settingsOf s) Outward p q left (creditMem (settingsOf s) Arrival home q given (now (m .entry)))) ⌝ }
+    ensures { λ _. ⌜ now (m .exit)
+        ≡ put (settingsOf s) Last p q (creditMem (settingsOf s) Outward p q left (creditMem (settingsOf s) Arrival home q given (now (m .entry)))) ⌝ }
 {
     parts::set_arrival(m, s, home, q, given);
     parts::set_outward(m, s, p, q, left);

@@ -24,8 +24,8 @@ returns : tie.Need-returns
 returns c =
     let done = c .before .before .before in
     let start = done .before .before .before in
-    tells _ _ _ _ (done .set-up .ensures ∙ ap (λ (S : Settings). M (setup S) (start .args .mem .now)) (done .before .before .this-build .ensures))
-    (c .plain .ensures)
+    let as-asked = ap (λ (S : Settings). M (setup S) (start .args .mem .now)) (done .before .before .this-build .ensures) in
+    tells _ _ _ _ (done .set-up .ensures ∙ as-asked) (c .plain .ensures)
 
 pub vr-setup-spec : {M : Type 1} → statement M
 vr-setup-spec = tie.close (tie.spec this-build-requires set-up-requires plain-requires same-length returns)
