@@ -12,7 +12,9 @@ use Rattle.ledger.specs.Desk.{act}
 use Rattle.ledger.proofs.Tests.{ltb-yes, ltb-not}
 use Rattle.ledger.proofs.Rows.{this-build}
 use Rattle.layout.specs.Picture.{settingsIn, State}
-use Rattle.memory.specs.Memory.{state-dec, acted, tested, M}
+use Rattle.memory.specs.Memory.{state-dec, tested, M}
+use Rattle.memory.specs.Judged.{judged}
+use Rattle.memory.proofs.Judged.{acted-bad}
 use Rattle.memory.proofs.Demands.{off-state}
 use Rattle.rooms.specs.Rooms.{shown, placeRoom}
 use Rattle.capi.specs.Size.{sizeFor}
@@ -25,11 +27,11 @@ no-node S h y k = let b = this-build S h in rw (ltb-not (owner y) (S .ports) (om
 
 -- from 65535 on where is refused: 15, but 3 first
 pub beyond : (m : List ℕ) (y : ℕ) → 65535 ≤ y → (State m → M (act (whereIs y)) m ≡ (refused 15, m)) × ((State m → ⊥) → M (act (whereIs y)) m ≡ (refused 3, m))
-unfolding M acted
+unfolding M
 beyond m y k = (λ s. go s (state-dec m), λ n. off-state m n (whereIs y))
   where
     go : State m → (d : Dec (State m)) → tested m d (whereIs y) ≡ (refused 15, m)
-    go s (yes t) = rw (no-node (settingsIn m) (t .sound .rows) y k)
+    go s (yes t) = acted-bad (settingsIn m) m (whereIs y) 15 (unfold judged in rw (no-node (settingsIn m) (t .sound .rows) y k))
     go s (no n) = absurd (n s)
 
 -- so an entry above 65535 may be asked as 65535

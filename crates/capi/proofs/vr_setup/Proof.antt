@@ -23,7 +23,7 @@ same-length c = search needs
 returns : tie.Need-returns
 returns c =
     let done = c .before .before .before in
-    let start = done .before .before .before in
+    let start = done .before .before .before .before in
     let as-asked = ap (λ (S : Settings). M (setup S) (start .args .mem .now)) (done .before .before .this-build .ensures) in
     tells _ _ _ _ (done .set-up .ensures ∙ as-asked) (c .plain .ensures)
 

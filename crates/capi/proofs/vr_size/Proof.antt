@@ -23,9 +23,6 @@ shape-of-requires c κs = roomy _ (sym (c .before .in-rows .ensures) ∙ not-fal
 size-of-requires : tie.Need-size-of-requires
 size-of-requires c κs = search needs
 
-cast-result : tie.Need-cast-result
-cast-result c = search needs
-
 returns-2 : tie.Need-returns-2
 returns-2 c =
     let passed = c .before .before in
@@ -34,4 +31,4 @@ returns-2 c =
 
 pub vr-size-spec : {M : Type 1} → statement M
 vr-size-spec =
-    tie.close (tie.spec this-build-requires in-rows-requires returns shape-of-requires size-of-requires cast-result returns-2)
+    tie.close (tie.spec this-build-requires in-rows-requires returns shape-of-requires size-of-requires returns-2)

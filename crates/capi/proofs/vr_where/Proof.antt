@@ -24,7 +24,7 @@ returns : tie.Need-returns
 returns c =
     let a = c .before .before .before .before .before .args in
     let w = c .put-place .ensures in
-    shows (placeRoom (c .before .before .before .asked .result)) _ _ _ _ _ (c .before .before .where-is .ensures) (w .0) (w .1)
+    shows (placeRoom (c .before .before .before .asked .result .0)) _ _ _ _ _ (c .before .before .where-is .ensures) (w .0) (w .1)
     ∙ ap (λ (y : ℕ). shown (placeRoom y) (a .place .now) (M (act (whereIs y)) (a .mem .now) .0)) (c .before .before .before .asked .ensures)
     ∙ asked-same (a .mem .now) (a .place .now) (a .entry)
 
