@@ -44,8 +44,8 @@ returns c =
     let headed = tailed .before .before .before .before in
     let start = begun headed in
     rw (linked .put-all-links .ensures, counted .put-counts .ensures, tailed .put-line2 .ensures, headed .put-line .ensures)
-    (freed-along (settingsOf (start .args .s)) _ _ _ (λ p. omega (arith, ap (λ (r : ℕ). p * r) (start .pre .laid .row-is))) (λ p. omega arith) (λ p. omega arith)
-    (start .args .m .now))
+    (freed-along (settingsOf (start .args .s)) _ _ _ (λ p. omega (arith, ap (λ (r : ℕ). p * r) (start .pre .laid .row-is)))
+    (λ p. omega arith) (λ p. omega arith) (start .args .m .now))
 
 pub put-free-lists-spec : {M : Type 1} → statement M
 put-free-lists-spec =

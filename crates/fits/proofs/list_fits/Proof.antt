@@ -65,8 +65,9 @@ loop-holds : tie.Need-loop-holds Inv-loop μ-loop
 loop-holds c =
     let spoken = c .before .before in
     let p = start spoken .pre in
+    let w = p .walkable in
     rw (c .before .get4 .ensures, c .get2 .ensures)
-    (left-start (start spoken .args .rule) _ _ _ (p .walkable .laid .row-is) (p .walkable .tidy) (p .inside) (rw (spoken .before .spares .ensures) at (spoken .if1 .left)))
+    (left-start (start spoken .args .rule) _ _ _ (w .laid .row-is) (w .tidy) (p .inside) (rw (spoken .before .spares .ensures) at (spoken .if1 .left)))
 
 node-fits-requires : tie.Need-node-fits-requires Inv-loop μ-loop
 node-fits-requires c κs = here c
