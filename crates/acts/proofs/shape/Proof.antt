@@ -33,7 +33,8 @@ returns c =
     let opened = c .before .before .before in
     let start = opened .before .before in
     let o = opened-fine (start .args .m .now) _ (sym (opened .open .ensures) ∙ c .before .s .given .1) in
-    record { laid = o .laid; settings-are = o .settings-are; state = subst (λ (S : Settings). StateOf S (start .args .m .now)) (sym (o .settings-are)) (start .pre) }
+    let state = subst (λ (S : Settings). StateOf S (start .args .m .now)) (sym (o .settings-are)) (start .pre) in
+    record { laid = o .laid; settings-are = o .settings-are; state = state }
 
 returns-2 : tie.Need-returns-2
 returns-2 c = never (c .before .before)
