@@ -1,4 +1,4 @@
--- What a call's line says and leaves, and what is read of the input; with no code. Assumes nothing.
+-- What a field's line says and leaves, and what is read of the input; with no code. Assumes nothing.
 use mathlib.Core.Logic.{inl, inr}
 use mathlib.Core.Path.{_≡_, refl, sym, ap, _∙_}
 use mathlib.Core.Bool.{true, false}
@@ -8,37 +8,19 @@ use native.Mathlib.Numerals.{add-one}
 use native.Mathlib.Omega.{arith}
 use lib.ListN.{length, getD, take, drop, set, length-set, length-drop}
 use lib.Seq.{take-suc, take-suc-set, take-take, drop-drop, drop-set-lt, getD-drop}
-use Rattle.ledger.specs.Calls.{Reply}
 use Rattle.memory.specs.Memory.{M}
 use Rattle.output.specs.Buffer.{decimal, queued}
 use Rattle.fields.specs.declared.Order.{Order}
-use Rattle.fields.specs.declared.Order.the-variants.{Setup, Arrive, Stitch, Prefetch, Turn, Credit, Map}
 use Rattle.fields.specs.declared.Read.{Read}
 use Rattle.fields.specs.declared.Read.the-variants as reads
 use Rattle.bench.specs.Inputs.{unread, Kept}
-use Rattle.bench.specs.Orders.{headerIn, callIn, saidOf, carried}
+use Rattle.orders.specs.Orders.{headerIn, callIn, carried}
 use Rattle.bench.specs.Lines.{answerText, lineText, lastText}
 use Rattle.bench.specs.Steps.{answered}
-use Rattle.bench.specs.declared.orders.Said.{Said}
-use Rattle.bench.specs.declared.orders.Said.the-variants.{Node}
+use Rattle.orders.specs.declared.Said.{Said}
+use Rattle.orders.specs.declared.Said.the-variants.{Node}
 
--- ---- orders
-
-pub no-header : (s : List ℕ) (order : Order) → ((port at : ℕ) → order ≡ Arrive port at → ⊥) → [] ≡ headerIn s order
-no-header s (Setup nodes beat slots credit) other = refl
-no-header s (Arrive port at) other = absurd (other port at refl)
-no-header s (Stitch port) other = refl
-no-header s (Prefetch port queue) other = refl
-no-header s (Turn port) other = refl
-no-header s (Credit port queue amount) other = refl
-no-header s (Map id port) other = refl
-
--- an order that is told to be o is carried out by the call of o
-
-pub carries :
-    (h m : List ℕ) {order o : Order} {x : Reply} {m′ : List ℕ} {said : Said}
-    → order ≡ o → (x, m′) ≡ M (callIn o h) m → said ≡ saidOf x → (said, m′) ≡ carried (M (callIn order h) m)
-carries h m e call line = rw (line, e) (ap carried call)
+-- ---- fields
 
 -- what is no call ends the run
 abbrev pub NoCall : Read → Type 0

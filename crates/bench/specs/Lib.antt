@@ -1,4 +1,3 @@
 pub mod Inputs
-pub mod Orders
 pub mod Lines
 pub mod Steps

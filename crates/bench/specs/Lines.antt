@@ -4,8 +4,8 @@ use Prim.Native.Nat.{ℕ}
 use Rattle.output.specs.Buffer.{decimal}
 use Rattle.fields.specs.declared.Read.{Read}
 use Rattle.fields.specs.declared.Read.the-variants as read
-use Rattle.bench.specs.declared.orders.Said.{Said}
-use Rattle.bench.specs.declared.orders.Said.the-variants.{Done, Node, Idle, No, Bad}
+use Rattle.orders.specs.declared.Said.{Said}
+use Rattle.orders.specs.declared.Said.the-variants.{Done, Node, Idle, No, Bad}
 
 -- what stands after a line's number: `0`, `0 ` and an entry id, `0 idle`, a refusal's number, `bad`
 unfoldable pub answerText : Said → List ℕ

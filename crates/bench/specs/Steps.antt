@@ -10,7 +10,7 @@ use Rattle.fields.specs.Calls.{orderAt}
 use Rattle.fields.specs.declared.Read.{Read}
 use Rattle.fields.specs.declared.Read.the-variants.{Call, Bad, End}
 use Rattle.bench.specs.Inputs.{Kept}
-use Rattle.bench.specs.Orders.{headerIn, callIn, carried}
+use Rattle.orders.specs.Orders.{headerIn, callIn, carried}
 use Rattle.bench.specs.Lines.{lineText, lastText}
 use Rattle.bench.specs.declared.Progress.{Progress}
 

@@ -1,5 +1,5 @@
 // The text of a line, by way of the output's buffer.
-use crate::orders::Said;
+use orders::Said;
 ghost use mathlib.Core.Path.{_≡_};
 ghost use Prim.Native.Nat.{_≤_};
 ghost use lib.ListN.{take};

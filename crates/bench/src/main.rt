@@ -1,7 +1,6 @@
 // The bench: reads tagged fields from standard input, carries each out on a memory of its own, and writes a line for each.
 mod input;
 mod lines;
-mod orders;
 
 use fields::Read;
 use input::Input;

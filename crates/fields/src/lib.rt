@@ -2,6 +2,7 @@
 ghost use mathlib.Core.Path.{_≡_};
 ghost use Prim.Native.Nat.{_+_, _≤_};
 ghost use lib.ListN.{length};
+ghost use Rattle.numbers.specs.Bytes.{number};
 ghost use Rattle.fields.specs.Field.{fieldAt};
 ghost use Rattle.fields.specs.Calls.{setupAt, creditAt, sizeOf, callOf, orderAt};
 
@@ -23,33 +24,33 @@ pub enum Field {
 // A call with its arguments. An arrival's header is the ten bytes from at on.
 pub enum Order {
     Setup {
-        nodes: u16,
-        beat: u16,
-        slots: u8,
-        credit: u16,
+        nodes: u32,
+        beat: u32,
+        slots: u32,
+        credit: u32,
     },
     Arrive {
-        port: u8,
+        port: u32,
         at: usize,
     },
     Stitch {
-        port: u8,
+        port: u32,
     },
     Prefetch {
-        port: u8,
-        queue: u8,
+        port: u32,
+        queue: u32,
     },
     Turn {
-        port: u8,
+        port: u32,
     },
     Credit {
-        port: u8,
-        queue: u8,
-        amount: u16,
+        port: u32,
+        queue: u32,
+        amount: u32,
     },
     Map {
-        id: u8,
-        port: u8,
+        id: u32,
+        port: u32,
     },
 }
 
@@ -100,6 +101,21 @@ fn size_of(tag: u8) -> usize
     }
 }
 
+// A number of one byte, and of two, as a call takes it.
+fn read1(s: &[u8], at: usize) -> u32
+    requires { ⌜ at + 1 ≤ length (now s) ⌝ }
+    ensures { λ r. ⌜ r ≡ number 1 (now (s .entry)) at ⌝ }
+{
+    numbers::read1(s, at) as u32
+}
+
+fn read2(s: &[u8], at: usize) -> u32
+    requires { ⌜ at + 2 ≤ length (now s) ⌝ }
+    ensures { λ r. ⌜ r ≡ number 2 (now (s .entry)) at ⌝ }
+{
+    numbers::read2(s, at) as u32
+}
+
 // As a function, so that an arm of call_of is short.
 fn call(order: Order, next: usize) -> Read
     ensures { λ r. ⌜ r ≡ Read.Call order next ⌝ }
@@ -112,10 +128,10 @@ fn setup(s: &[u8], v: usize) -> Order
     requires { ⌜ v + 7 ≤ length (now s) ⌝ }
     ensures { λ r. ⌜ r ≡ setupAt (now (s .entry)) v ⌝ }
 {
-    let nodes = numbers::read2(s, v);
-    let beat = numbers::read2(s, v + 2);
-    let slots = numbers::read1(s, v + 4);
-    let credit = numbers::read2(s, v + 5);
+    let nodes = read2(s, v);
+    let beat = read2(s, v + 2);
+    let slots = read1(s, v + 4);
+    let credit = read2(s, v + 5);
     Order::Setup {
         nodes,
         beat,
@@ -129,9 +145,9 @@ fn credit(s: &[u8], v: usize) -> Order
     requires { ⌜ v + 4 ≤ length (now s) ⌝ }
     ensures { λ r. ⌜ r ≡ creditAt (now (s .entry)) v ⌝ }
 {
-    let port = numbers::read1(s, v);
-    let queue = numbers::read1(s, v + 1);
-    let amount = numbers::read2(s, v + 2);
+    let port = read1(s, v);
+    let queue = read1(s, v + 1);
+    let amount = read2(s, v + 2);
     Order::Credit {
         port,
         queue,
@@ -147,26 +163,26 @@ fn call_of(s: &[u8], tag: u8, v: usize, next: usize) -> Read
     match tag {
         1 => call(setup(s, v), next),
         2 => {
-            let port = numbers::read1(s, v);
+            let port = read1(s, v);
             call(Order::Arrive { port, at: v + 1 }, next)
         }
         3 => {
-            let port = numbers::read1(s, v);
+            let port = read1(s, v);
             call(Order::Stitch { port }, next)
         }
         4 => {
-            let port = numbers::read1(s, v);
-            let queue = numbers::read1(s, v + 1);
+            let port = read1(s, v);
+            let queue = read1(s, v + 1);
             call(Order::Prefetch { port, queue }, next)
         }
         5 => {
-            let port = numbers::read1(s, v);
+            let port = read1(s, v);
             call(Order::Turn { port }, next)
         }
         6 => call(credit(s, v), next),
         7 => {
-            let id = numbers::read1(s, v);
-            let port = numbers::read1(s, v + 1);
+            let id = read1(s, v);
+            let port = read1(s, v + 1);
             call(Order::Map { id, port }, next)
         }
         _ => Read::Bad,

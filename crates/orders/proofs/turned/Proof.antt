@@ -1,7 +1,7 @@
--- `bench::orders::turned` meets its contract: by the answer's cases. Assumes nothing.
+-- `orders::turned` meets its contract: by the answer's cases. Assumes nothing.
 use borrow.Author.Needs.{needs}
-use Rattle.bench.proofs.orders.turned.Statement.{statement}
-use Rattle.bench.proofs.orders.turned.Tie as tie
+use Rattle.orders.proofs.turned.Statement.{statement}
+use Rattle.orders.proofs.turned.Tie as tie
 
 enum-told : tie.Need-enum-told
 enum-told c = search needs

@@ -11,7 +11,7 @@ ghost use lib.ListN.{length};
 ghost use Rattle.numbers.specs.Bytes.{number};
 ghost use Rattle.ledger.specs.Answers.{plainReply, stitchReply, entryReply, turnReply};
 ghost use Rattle.memory.specs.Memory.{M};
-ghost use Rattle.bench.specs.Orders.{headerIn, callIn, saidOf, carried};
+ghost use Rattle.orders.specs.Orders.{headerIn, callIn, saidOf, carried};
 
 // What a line says after its number.
 pub enum Said {
@@ -94,18 +94,18 @@ pub fn carry_out(m: &mut [u8], order: Order, header: &[u8]) -> Said
             slots,
             credit,
         } => {
-            let told = settings::this_build(nodes as u32, beat as u32, slots as u32, credit as u32);
+            let told = settings::this_build(nodes, beat, slots, credit);
             plain(switch::set_up(m, told))
         }
-        Order::Arrive { port, at: _ } => entry(switch::arrive(m, port as u32, header)),
-        Order::Stitch { port } => stitched(switch::stitch(m, port as u32)),
-        Order::Prefetch { port, queue } => entry(switch::prefetch(m, port as u32, queue as u32)),
-        Order::Turn { port } => turned(switch::turn(m, port as u32)),
+        Order::Arrive { port, at: _ } => entry(switch::arrive(m, port, header)),
+        Order::Stitch { port } => stitched(switch::stitch(m, port)),
+        Order::Prefetch { port, queue } => entry(switch::prefetch(m, port, queue)),
+        Order::Turn { port } => turned(switch::turn(m, port)),
         Order::Credit {
             port,
             queue,
             amount,
-        } => plain(switch::credit(m, port as u32, queue as u32, amount as u32)),
-        Order::Map { id, port } => plain(switch::map_to(m, id as u32, port as u32)),
+        } => plain(switch::credit(m, port, queue, amount)),
+        Order::Map { id, port } => plain(switch::map_to(m, id, port)),
     }
 }

@@ -1,23 +1,14 @@
--- `bench::orders::carry_out` meets its contract: each order by its call, and what is said follows the reply. Assumes nothing.
-use Rattle.bench.proofs.Laws.{carries}
+-- `orders::carry_out` meets its contract: each order by its call, and what is said follows the reply. Assumes nothing.
+use Rattle.orders.proofs.Laws.{carries}
 use borrow.Author.Needs.{needs}
-use Rattle.bench.proofs.orders.carry_out.Statement.{statement}
-use Rattle.bench.proofs.orders.carry_out.Tie as tie
+use Rattle.orders.proofs.carry_out.Statement.{statement}
+use Rattle.orders.proofs.carry_out.Tie as tie
 
 enum-known-order : tie.Need-enum-known-order
 enum-known-order c = search needs
 
-cast-t20 : tie.Need-cast-t20
-cast-t20 c = search needs
-
-cast-t21 : tie.Need-cast-t21
-cast-t21 c = search needs
-
-cast-t22 : tie.Need-cast-t22
-cast-t22 c = search needs
-
-cast-t23 : tie.Need-cast-t23
-cast-t23 c = search needs
+this-build-requires : tie.Need-this-build-requires
+this-build-requires c κs = search needs
 
 set-up-requires : tie.Need-set-up-requires
 set-up-requires c κs = search needs
@@ -28,9 +19,6 @@ plain-requires c κs = search needs
 enum-known-order-2 : tie.Need-enum-known-order-2
 enum-known-order-2 c = search needs
 
-cast-arrive : tie.Need-cast-arrive
-cast-arrive c = search needs
-
 arrive-requires : tie.Need-arrive-requires
 arrive-requires c κs = search needs
 
@@ -39,9 +27,6 @@ entry-requires c κs = search needs
 
 enum-known-order-3 : tie.Need-enum-known-order-3
 enum-known-order-3 c = search needs
-
-cast-stitch : tie.Need-cast-stitch
-cast-stitch c = search needs
 
 stitch-requires : tie.Need-stitch-requires
 stitch-requires c κs = search needs
@@ -52,12 +37,6 @@ stitched-requires c κs = search needs
 enum-known-order-4 : tie.Need-enum-known-order-4
 enum-known-order-4 c = search needs
 
-cast-prefetch : tie.Need-cast-prefetch
-cast-prefetch c = search needs
-
-cast-prefetch-2 : tie.Need-cast-prefetch-2
-cast-prefetch-2 c = search needs
-
 prefetch-requires : tie.Need-prefetch-requires
 prefetch-requires c κs = search needs
 
@@ -66,9 +45,6 @@ entry-requires-2 c κs = search needs
 
 enum-known-order-5 : tie.Need-enum-known-order-5
 enum-known-order-5 c = search needs
-
-cast-turn : tie.Need-cast-turn
-cast-turn c = search needs
 
 turn-requires : tie.Need-turn-requires
 turn-requires c κs = search needs
@@ -79,15 +55,6 @@ turned-requires c κs = search needs
 enum-known-order-6 : tie.Need-enum-known-order-6
 enum-known-order-6 c = search needs
 
-cast-credit : tie.Need-cast-credit
-cast-credit c = search needs
-
-cast-credit-2 : tie.Need-cast-credit-2
-cast-credit-2 c = search needs
-
-cast-credit-3 : tie.Need-cast-credit-3
-cast-credit-3 c = search needs
-
 credit-requires : tie.Need-credit-requires
 credit-requires c κs = search needs
 
@@ -96,12 +63,6 @@ plain-requires-2 c κs = search needs
 
 enum-known-order-7 : tie.Need-enum-known-order-7
 enum-known-order-7 c = search needs
-
-cast-map-to : tie.Need-cast-map-to
-cast-map-to c = search needs
-
-cast-map-to-2 : tie.Need-cast-map-to-2
-cast-map-to-2 c = search needs
 
 map-to-requires : tie.Need-map-to-requires
 map-to-requires c κs = search needs
@@ -115,7 +76,8 @@ same-length c = search needs
 returns : tie.Need-returns
 returns c =
     let call = c .before .before .before in
-    carries _ _ (call .before .before .before .order .given .1) (call .set-up .ensures) (c .plain .ensures)
+    let built = call .before .before in
+    carries _ _ (built .before .before .order .given .1) (rw (built .this-build .ensures) at (call .set-up .ensures)) (c .plain .ensures)
 
 same-length-2 : tie.Need-same-length-2
 same-length-2 c = search needs
@@ -170,38 +132,25 @@ carry-out-spec =
     tie.close
     (tie.spec
     enum-known-order
-    cast-t20
-    cast-t21
-    cast-t22
-    cast-t23
+    this-build-requires
     set-up-requires
     plain-requires
     enum-known-order-2
-    cast-arrive
     arrive-requires
     entry-requires
     enum-known-order-3
-    cast-stitch
     stitch-requires
     stitched-requires
     enum-known-order-4
-    cast-prefetch
-    cast-prefetch-2
     prefetch-requires
     entry-requires-2
     enum-known-order-5
-    cast-turn
     turn-requires
     turned-requires
     enum-known-order-6
-    cast-credit
-    cast-credit-2
-    cast-credit-3
     credit-requires
     plain-requires-2
     enum-known-order-7
-    cast-map-to
-    cast-map-to-2
     map-to-requires
     plain-requires-3
     same-length

@@ -1,7 +1,7 @@
--- `bench::orders::entry` meets its contract: by the answer's cases. Assumes nothing.
+-- `orders::entry` meets its contract: by the answer's cases. Assumes nothing.
 use borrow.Author.Needs.{needs}
-use Rattle.bench.proofs.orders.entry.Statement.{statement}
-use Rattle.bench.proofs.orders.entry.Tie as tie
+use Rattle.orders.proofs.entry.Statement.{statement}
+use Rattle.orders.proofs.entry.Tie as tie
 
 enum-known-e : tie.Need-enum-known-e
 enum-known-e c = search needs

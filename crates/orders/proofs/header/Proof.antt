@@ -1,13 +1,13 @@
--- `bench::orders::header` meets its contract: by whether the order is an arrival, of which what it requires speaks. Assumes nothing.
+-- `orders::header` meets its contract: by whether the order is an arrival, of which what it requires speaks. Assumes nothing.
 use mathlib.Core.Path.{_≡_}
 use mathlib.Core.List.{[], _∷_}
 use Prim.Native.Nat.{_+_, _-_}
 use native.Mathlib.Omega.{arith}
 use types.Run.{miss}
 use borrow.Author.Needs.{needs}
-use Rattle.bench.proofs.Laws.{no-header}
-use Rattle.bench.proofs.orders.header.Statement.{statement}
-use Rattle.bench.proofs.orders.header.Tie as tie
+use Rattle.orders.proofs.Laws.{no-header}
+use Rattle.orders.proofs.header.Statement.{statement}
+use Rattle.orders.proofs.header.Tie as tie
 
 enum-known-order : tie.Need-enum-known-order
 enum-known-order c = search needs

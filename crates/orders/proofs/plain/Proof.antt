@@ -1,7 +1,7 @@
--- `bench::orders::plain` meets its contract: by the answer's cases. Assumes nothing.
+-- `orders::plain` meets its contract: by the answer's cases. Assumes nothing.
 use borrow.Author.Needs.{needs}
-use Rattle.bench.proofs.orders.plain.Statement.{statement}
-use Rattle.bench.proofs.orders.plain.Tie as tie
+use Rattle.orders.proofs.plain.Statement.{statement}
+use Rattle.orders.proofs.plain.Tie as tie
 
 enum-told : tie.Need-enum-told
 enum-told c = search needs

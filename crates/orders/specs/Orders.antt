@@ -9,8 +9,8 @@ use Rattle.ledger.specs.Calls.{Reply, refused, done, entry, stitched, idle, lea
 use Rattle.ledger.specs.Desk as desk
 use Rattle.fields.specs.declared.Order.{Order}
 use Rattle.fields.specs.declared.Order.the-variants.{Setup, Arrive, Stitch, Prefetch, Turn, Credit, Map}
-use Rattle.bench.specs.declared.orders.Said.{Said}
-use Rattle.bench.specs.declared.orders.Said.the-variants.{Done, Node, Idle, No}
+use Rattle.orders.specs.declared.Said.{Said}
+use Rattle.orders.specs.declared.Said.the-variants.{Done, Node, Idle, No}
 
 -- the header that an order's call is handed, from the bytes that the order was read in: an arrival has one
 abbrev pub headerIn : List ℕ → Order → List ℕ

@@ -1,7 +1,7 @@
--- `bench::orders::stitched` meets its contract: by the answer's cases. Assumes nothing.
+-- `orders::stitched` meets its contract: by the answer's cases. Assumes nothing.
 use borrow.Author.Needs.{needs}
-use Rattle.bench.proofs.orders.stitched.Statement.{statement}
-use Rattle.bench.proofs.orders.stitched.Tie as tie
+use Rattle.orders.proofs.stitched.Statement.{statement}
+use Rattle.orders.proofs.stitched.Tie as tie
 
 enum-told : tie.Need-enum-told
 enum-told c = search needs
