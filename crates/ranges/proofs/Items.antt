@@ -37,9 +37,20 @@ module _ (S : Settings) (m : List ℕ) where
   unfolding fitsAt
   fits-mapped i h k = rw (ltb-not i (S .ports) h, ltb-is (i - S .ports) ids k)
 
-  pub fits-count : (i : ℕ) → S .ports ≤ i → ids ≤ i - S .ports → fitsAt S m i ≡ leb (get S m Count (prefetchAt S (i - S .ports - ids))) (S .slots)
+  -- past a column's numbers the others count from 0
+  beyond : (c : Column) (cs : List Column) (i j : ℕ) → i ≡ tall S c + j → fitsIn S m (c ∷ cs) i ≡ fitsIn S m cs j
+  beyond c cs i j e =
+      let past : tall S c ≤ i = omega arith in
+      let back : i - tall S c ≡ j = omega arith in
+      rw (ltb-not i (tall S c) past, back)
+
+  past-all : (cs : List Column) (j : ℕ) → fitsIn S m cs (sum (tall S) cs + j) ≡ leb (get S m Count (prefetchAt S j)) (S .slots)
+  past-all [] j = rw (zero-add j)
+  past-all (c ∷ cs) j = beyond c cs _ (sum (tall S) cs + j) (omega arith) ∙ past-all cs j
+
+  pub fits-list : (k j : ℕ) → k ≡ low S + j → fitsAt S m k ≡ leb (get S m Count (prefetchAt S j)) (S .slots)
   unfolding fitsAt
-  fits-count i h k = rw (ltb-not i (S .ports) h, ltb-not (i - S .ports) ids k)
+  fits-list k j e = ap (fitsIn S m narrow) e ∙ past-all narrow j
 
   -- ---- the prefetch lists
 
@@ -57,10 +68,7 @@ module _ (S : Settings) (m : List ℕ) where
   fits-number : (cs ds : List Column) (c : Column) (i : ℕ) → i < tall S c
       → fitsIn S m (cs ++ (c ∷ ds)) (sum (tall S) cs + i) ≡ ltb (get S m (tableOf c) i) (bound S c)
   fits-number [] ds c i h = rw (zero-add i, ltb-is i (tall S c) h)
-  fits-number (b ∷ cs) ds c i h =
-      let past : tall S b ≤ tall S b + sum (tall S) cs + i = omega arith in
-      let back : tall S b + sum (tall S) cs + i - tall S b ≡ sum (tall S) cs + i = omega arith in
-      rw (ltb-not (tall S b + sum (tall S) cs + i) (tall S b) past, back) (fits-number cs ds c i h)
+  fits-number (b ∷ cs) ds c i h = beyond b (cs ++ (c ∷ ds)) _ (sum (tall S) cs + i) (omega arith) ∙ fits-number cs ds c i h
 
   shown : (c : Column) (i : ℕ) → i < tall S c → getD (ledgerIn S m .numbers c) i 0 ≡ get S m (tableOf c) i
   unfolding ledgerIn
@@ -74,11 +82,7 @@ module _ (S : Settings) (m : List ℕ) where
       slots-in = λ p q hp hq.
           let j = p * S .queues + q in
           let h : j < S .ports * S .queues = row-lt (S .queues) (S .ports) p q hp hq in
-          let past : S .ports ≤ low S + j = omega arith in
-          let far : ids ≤ low S + j - S .ports = omega arith in
-          let back : low S + j - S .ports - ids ≡ j = omega arith in
-          let t : leb (get S m Count (prefetchAt S j)) (S .slots) ≡ true =
-          rw back at (sym (fits-count (low S + j) past far) ∙ ok (low S + j) (omega arith)) in
+          let t : leb (get S m Count (prefetchAt S j)) (S .slots) ≡ true = sym (fits-list (low S + j) j refl) ∙ ok (low S + j) (omega arith) in
           omega (
             arith,
             leb-yes (get S m Count (prefetchAt S j)) (S .slots) t,

@@ -8,7 +8,7 @@ use native.Mathlib.Decide.{decLt}
 use native.Mathlib.Omega.{arith}
 use lib.Dec.{ltb, leb}
 use Rattle.ledger.specs.declared.Finding.the-variants.{Whole}
-use Rattle.ledger.specs.Settings.{Settings, ids, row}
+use Rattle.ledger.specs.Settings.{Settings, row}
 use Rattle.ledger.specs.Ledger.{place#}
 use Rattle.ledger.specs.Sound.{Roomy}
 use Rattle.ledger.proofs.Tests.{ltb-no, ltb-not}
@@ -16,14 +16,14 @@ use Rattle.ledger.proofs.Places.{row-lt, row-mod}
 use Rattle.layout.specs.declared.Table.the-variants.{Count}
 use Rattle.layout.specs.Tables.{lists, get}
 use Rattle.ranges.specs.First.{first}
-use Rattle.ranges.specs.Ranges.{prefetchAt, items, fitsAt, fewAt, fewIn, rangesFound}
+use Rattle.ranges.specs.Ranges.{prefetchAt, low, items, fitsAt, fewAt, fewIn, rangesFound}
 use Rattle.ranges.proofs.First.{first-all}
-use Rattle.ranges.proofs.Items.{fits-count, prefetch-lt, prefetch-is}
+use Rattle.ranges.proofs.Items.{fits-list, prefetch-lt, prefetch-is}
 
 module _ (S : Settings) (m : List ℕ) (R : Roomy S) where
   -- the marks and the map are in range
   abbrev pub Low : Type 0
-  Low = first (fitsAt S m) (S .ports + ids) ≡ Whole
+  Low = first (fitsAt S m) (low S) ≡ Whole
 
   -- and no prefetch list is longer than there are slots
   abbrev pub Few : Type 0
@@ -43,15 +43,15 @@ module _ (S : Settings) (m : List ℕ) (R : Roomy S) where
 
   pub low-ranges : Low → Few → rangesFound S m ≡ Whole
   unfolding rangesFound
-  low-ranges e f = first-all (fitsAt S m) (items S) .1 (λ k h. go k h (decLt k (S .ports + ids)))
+  low-ranges e f = first-all (fitsAt S m) (items S) .1 (λ k h. go k h (decLt k (low S)))
     where
-      go : (k : ℕ) → k < items S → Dec (k < S .ports + ids) → fitsAt S m k ≡ true
-      go k h (yes a) = first-all (fitsAt S m) (S .ports + ids) .0 e k a
-      go k h (no a) = fits-count S m k (omega arith) (omega arith) ∙ few-item f (k - S .ports - ids) (omega arith)
+      go : (k : ℕ) → k < items S → Dec (k < low S) → fitsAt S m k ≡ true
+      go k h (yes a) = first-all (fitsAt S m) (low S) .0 e k a
+      go k h (no a) = fits-list S m k (k - low S) (omega arith) ∙ few-item f (k - low S) (omega arith)
 
   pub ranges-low : rangesFound S m ≡ Whole → Low
   unfolding rangesFound
-  ranges-low e = first-all (fitsAt S m) (S .ports + ids) .1 (λ k h. first-all (fitsAt S m) (items S) .0 e k (omega arith))
+  ranges-low e = first-all (fitsAt S m) (low S) .1 (λ k h. first-all (fitsAt S m) (items S) .0 e k (omega arith))
 
   -- each list in such a column is one of them
   prefetch-of : (l : ℕ) → l < lists S → 2 + S .queues ≤ l % row S → (j : ℕ) × (j < S .ports * S .queues) × (prefetchAt S j ≡ l)
@@ -71,9 +71,7 @@ module _ (S : Settings) (m : List ℕ) (R : Roomy S) where
   item-few : rangesFound S m ≡ Whole → (j : ℕ) → j < S .ports * S .queues → leb (get S m Count (prefetchAt S j)) (S .slots) ≡ true
   unfolding rangesFound
   item-few e j h =
-      let k : ℕ = S .ports + ids + j in
-      let back : S .ports + ids + j - S .ports - ids ≡ j = omega arith in
-      rw back at (sym (fits-count S m k (omega arith) (omega arith)) ∙ first-all (fitsAt S m) (items S) .0 e k (omega arith))
+      sym (fits-list S m (low S + j) j refl) ∙ first-all (fitsAt S m) (items S) .0 e (low S + j) (omega arith)
 
   pub ranges-few : rangesFound S m ≡ Whole → Few
   unfolding fewAt

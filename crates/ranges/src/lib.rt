@@ -12,7 +12,7 @@ ghost use Rattle.layout.specs.Tables.{settingsOf, Laid};
 ghost use Rattle.layout.specs.Picture.{settingsIn};
 ghost use Rattle.ranges.specs.First.{first};
 ghost use Rattle.ranges.specs.Opening.{opened};
-ghost use Rattle.ranges.specs.Ranges.{items, fitsAt, prefetchAt, fewAt, rangesFound, Held, Item};
+ghost use Rattle.ranges.specs.Ranges.{low, items, fitsAt, prefetchAt, fewAt, rangesFound, Held, Item};
 
 // What a memory is opened as: rule (a) holds, and the state has this shape; or it doesn't hold.
 pub enum Opened {
@@ -96,6 +96,14 @@ pub fn few_enough(s: Shape, column: usize, count: u32) -> bool
     held <= s.slots
 }
 
+// How many items are numbers: the ports' marks, and the map's entries.
+pub fn numbers(s: Shape) -> usize
+    requires { ⌜ Laid s ⌝ }
+    ensures { λ r. ⌜ r ≡ low (settingsOf s) ⌝ }
+{
+    s.ports + 4
+}
+
 // The first of the first n items that is out of range: the marks and the map come first, so they can be tested by themselves.
 pub fn first_outside(m: &[u8], s: Shape, n: usize) -> Finding
     requires { ⌜ Held s (now m) × (n ≤ items (settingsOf s)) ⌝ }
@@ -116,7 +124,6 @@ pub fn ranges(m: &[u8], s: Shape) -> Finding
     requires { ⌜ Held s (now m) ⌝ }
     ensures { λ r. ⌜ r ≡ rangesFound (settingsOf s) (now (m .entry)) ⌝ }
 {
-    let ports = s.ports;
-    let n = ports + 4 + ports * s.queues;
+    let n = numbers(s) + s.ports * s.queues;
     first_outside(m, s, n)
 }

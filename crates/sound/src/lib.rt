@@ -145,8 +145,7 @@ fn whole_in(m: &[u8], s: Shape) -> bool
     requires { ⌜ Open (now m) s ⌝ }
     ensures { λ r. ⌜ Says (Clean (settingsOf s) (now (m .entry))) r ⌝ }
 {
-    let items = s.ports + 4;
-    if let Finding::At(_) = ranges::first_outside(m, s, items) {
+    if let Finding::At(_) = ranges::first_outside(m, s, ranges::numbers(s)) {
         return false;
     }
     let all = s.all;

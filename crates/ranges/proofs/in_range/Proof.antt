@@ -7,7 +7,7 @@ use lib.Dec.{ltb, leb}
 use Rattle.ledger.specs.Settings.{ids}
 use Rattle.layout.specs.declared.Table.the-variants.{Count}
 use Rattle.layout.specs.Tables.{get, settingsOf}
-use Rattle.ranges.proofs.Items.{fits-last, fits-mapped, fits-count, prefetch-lt}
+use Rattle.ranges.proofs.Items.{fits-last, fits-mapped, fits-list, prefetch-lt}
 use Rattle.ranges.proofs.in_range.Statement.{statement}
 use Rattle.ranges.proofs.in_range.Tie as tie
 
@@ -55,7 +55,7 @@ returns-3 : tie.Need-returns-3
 returns-3 c =
     let a = c .before .before .before .before .before .args in
     let read = c .get4 .ensures ∙ ap (get (settingsOf (a .s)) (a .m .now) Count) (c .before .prefetch-list .ensures) in
-    ap (λ (v : ℕ). leb v (a .s .slots)) read ∙ sym (fits-count (settingsOf (a .s)) (a .m .now) (a .i) (omega arith) (omega arith))
+    ap (λ (v : ℕ). leb v (a .s .slots)) read ∙ sym (fits-list (settingsOf (a .s)) (a .m .now) (a .i) (a .i - a .s .ports - ids) (omega arith))
 
 pub in-range-spec : {M : Type 1} → statement M
 in-range-spec =
