@@ -53,6 +53,9 @@ pub fn shape_of(told: Settings) -> Shape
     let ports = told.ports as usize;
     let queues = told.queues as usize;
     let nodes = told.nodes as usize;
+    let beat = told.beat as usize;
+    let slots = told.slots as usize;
+    let credit = told.credit as usize;
     let row = 2 + 2 * queues;
     let cells = ports * (queues - 1);
     let lists = ports * row;
@@ -64,9 +67,9 @@ pub fn shape_of(told: Settings) -> Shape
         ports,
         queues,
         nodes,
-        beat: told.beat as usize,
-        slots: told.slots as usize,
-        credit: told.credit as usize,
+        beat,
+        slots,
+        credit,
         row,
         cells,
         lists,

@@ -9,10 +9,10 @@ use Rattle.layout.proofs.Shapes.{Few, few}
 use Rattle.layout.proofs.shape_of.Statement.{statement}
 use Rattle.layout.proofs.shape_of.Tie as tie
 
-abbrev start : tie.After-struct-known3 → tie.Start
-start c = c .before .before .before
+abbrev start : tie.After-struct-known6 → tie.Start
+start c = c .before .before .before .before .before .before
 
-small : (c : tie.After-struct-known3) → Few (toldSettings (start c .args .told))
+small : (c : tie.After-struct-known6) → Few (toldSettings (start c .args .told))
 small c = few _ (start c .pre)
 
 cast-ports : tie.Need-cast-ports
@@ -23,6 +23,15 @@ cast-queues c = search needs
 
 cast-nodes : tie.Need-cast-nodes
 cast-nodes c = search needs
+
+cast-beat : tie.Need-cast-beat
+cast-beat c = search needs
+
+cast-slots : tie.Need-cast-slots
+cast-slots c = search needs
+
+cast-credit : tie.Need-cast-credit
+cast-credit c = search needs
 
 mul-row : tie.Need-mul-row
 mul-row c = search needs
@@ -64,20 +73,11 @@ add-next : tie.Need-add-next
 unfolding row
 add-next c = omega (arith, small c)
 
-cast-t12 : tie.Need-cast-t12
-cast-t12 c = search needs
-
-cast-t13 : tie.Need-cast-t13
-cast-t13 c = search needs
-
-cast-t14 : tie.Need-cast-t14
-cast-t14 c = search needs
-
 returns : tie.Need-returns
 unfolding row startOf
 returns c = record {
   laid = record {
-    roomy = start (c .before .before .before) .pre;
+    roomy = start c .pre;
     row-is = refl;
     cells-are = refl;
     lists-are = refl;
@@ -96,6 +96,9 @@ shape-of-spec =
     cast-ports
     cast-queues
     cast-nodes
+    cast-beat
+    cast-slots
+    cast-credit
     mul-row
     add-row
     sub-cells
@@ -107,7 +110,4 @@ shape-of-spec =
     add-head
     mul-next
     add-next
-    cast-t12
-    cast-t13
-    cast-t14
     returns)
