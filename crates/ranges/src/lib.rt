@@ -7,8 +7,10 @@ use settings::Settings;
 ghost use mathlib.Core.Path.{_≡_};
 ghost use Prim.Native.Nat.{_*_, _<_, _≤_};
 ghost use lib.ListN.{length};
+ghost use lib.Dec.{ltb};
 ghost use Rattle.settings.specs.Told.{toldSettings};
-ghost use Rattle.layout.specs.Tables.{settingsOf, Laid};
+ghost use Rattle.layout.specs.Tables.{get, settingsOf, Laid};
+ghost use Rattle.layout.specs.Access.{Reads};
 ghost use Rattle.layout.specs.Picture.{settingsIn};
 ghost use Rattle.ranges.specs.First.{first};
 ghost use Rattle.ranges.specs.Opening.{opened};
@@ -63,6 +65,15 @@ fn prefetch_list(s: Shape, j: usize) -> usize
     geometry::prefetch_list(s, j / queues, j % queues)
 }
 
+// Whether element i of a table of one byte each is below a bound.
+fn below(m: &[u8], s: Shape, t: Table, i: usize, bound: usize) -> bool
+    requires { ⌜ Reads 1 s t i (now m) ⌝ }
+    ensures { λ r. ⌜ r ≡ ltb (get (settingsOf s) (now (m .entry)) t i) bound ⌝ }
+{
+    let n = layout::get1(m, s, t, i) as usize;
+    n < bound
+}
+
 // Whether item i is in range.
 fn in_range(m: &[u8], s: Shape, i: usize) -> bool
     requires { ⌜ Item s (now m) i ⌝ }
@@ -70,14 +81,11 @@ fn in_range(m: &[u8], s: Shape, i: usize) -> bool
 {
     let ports = s.ports;
     if i < ports {
-        let queues = s.queues;
-        let last = layout::get1(m, s, Table::Last, i) as usize;
-        return last < queues;
+        return below(m, s, Table::Last, i, s.queues);
     }
     let d = i - ports;
     if d < 4 {
-        let mapped = layout::get1(m, s, Table::Mapped, d) as usize;
-        return mapped < ports;
+        return below(m, s, Table::Mapped, d, ports);
     }
     let slots = s.slots;
     let count = layout::get4(m, s, Table::Count, prefetch_list(s, d - 4)) as usize;

@@ -3,7 +3,7 @@ use mathlib.Core.Path.{refl, sym, ap, _∙_}
 use Prim.Native.Nat.{ℕ, _-_}
 use native.Mathlib.Omega.{arith}
 use borrow.Author.Needs.{needs}
-use lib.Dec.{ltb, leb}
+use lib.Dec.{leb}
 use Rattle.ledger.specs.Settings.{ids}
 use Rattle.layout.specs.declared.Table.the-variants.{Count}
 use Rattle.layout.specs.Tables.{get, settingsOf}
@@ -11,27 +11,21 @@ use Rattle.ranges.proofs.Items.{fits-last, fits-mapped, fits-list, pref
 use Rattle.ranges.proofs.in_range.Statement.{statement}
 use Rattle.ranges.proofs.in_range.Tie as tie
 
-get1-requires : tie.Need-get1-requires
-get1-requires c κs = search needs
-
-cast-last : tie.Need-cast-last
-cast-last c = search needs
+below-requires : tie.Need-below-requires
+below-requires c κs = search needs
 
 returns : tie.Need-returns
 returns c =
     let a = c .before .before .before .args in
-    ap (λ (v : ℕ). ltb v (a .s .queues)) (c .get1 .ensures) ∙ sym (fits-last (settingsOf (a .s)) (a .m .now) (a .i) (omega arith))
+    c .below .ensures ∙ sym (fits-last (settingsOf (a .s)) (a .m .now) (a .i) (omega arith))
 
-get1-requires-2 : tie.Need-get1-requires-2
-get1-requires-2 c κs = search needs
-
-cast-mapped : tie.Need-cast-mapped
-cast-mapped c = search needs
+below-requires-2 : tie.Need-below-requires-2
+below-requires-2 c κs = search needs
 
 returns-2 : tie.Need-returns-2
 returns-2 c =
     let a = c .before .before .before .before .args in
-    ap (λ (v : ℕ). ltb v (a .s .ports)) (c .get12 .ensures) ∙ sym (fits-mapped (settingsOf (a .s)) (a .m .now) (a .i) (omega arith) (omega arith))
+    c .below2 .ensures ∙ sym (fits-mapped (settingsOf (a .s)) (a .m .now) (a .i) (omega arith) (omega arith))
 
 prefetch-list-requires : tie.Need-prefetch-list-requires
 prefetch-list-requires c κs = search needs
@@ -59,15 +53,4 @@ returns-3 c =
 
 pub in-range-spec : {M : Type 1} → statement M
 in-range-spec =
-    tie.close
-    (tie.spec
-    get1-requires
-    cast-last
-    returns
-    get1-requires-2
-    cast-mapped
-    returns-2
-    prefetch-list-requires
-    get4-requires
-    cast-count
-    returns-3)
+    tie.close (tie.spec below-requires returns below-requires-2 returns-2 prefetch-list-requires get4-requires cast-count returns-3)
