@@ -1,35 +1,30 @@
 -- The ledger's columns: a law for all of them, and what changing one leaves. Assumes nothing.
 use mathlib.Core.Path.{_≡_, refl, sym, ap, _∙_, subst}
 use mathlib.Core.Logic.{_≢_}
-use mathlib.Core.List.{List}
-use Prim.Native.Nat.{ℕ, zero, suc, _<_}
+use mathlib.Core.List.{List, [], _∷_}
+use Prim.Native.Nat.{ℕ, _<_}
 use native.Mathlib.Omega.{arith}
 use native.Mathlib.Decide.{ℕ-discrete}
+use lib.ListN.{length, getD}
 use Rattle.ledger.specs.Ledger.{Column, arrival, outward, last, mapped, column#, Ledger, change}
 use Rattle.ledger.proofs.Tests.{eqb-is, eqb-not}
 
 -- ---- the columns by their numbers
 
+abbrev pub columns : List Column
+columns = arrival ∷ outward ∷ last ∷ mapped ∷ []
+
 abbrev pub columnAt : ℕ → Column
-columnAt zero = arrival
-columnAt (suc zero) = outward
-columnAt (suc (suc zero)) = last
-columnAt (suc (suc (suc n))) = mapped
+columnAt n = getD columns n arrival
 
-pub column-at : (c : Column) → columnAt (column# c) ≡ c
-column-at arrival = refl
-column-at outward = refl
-column-at last = refl
-column-at mapped = refl
-
-pub column-low : (c : Column) → column# c < suc (column# mapped)
-column-low arrival = omega arith
-column-low outward = omega arith
-column-low last = omega arith
-column-low mapped = omega arith
+pub column-at : (c : Column) → (column# c < length columns) × (columnAt (column# c) ≡ c)
+column-at arrival = (omega arith, refl)
+column-at outward = (omega arith, refl)
+column-at last = (omega arith, refl)
+column-at mapped = (omega arith, refl)
 
 pub column-inj : (c d : Column) → column# c ≡ column# d → c ≡ d
-column-inj c d e = sym (column-at c) ∙ ap columnAt e ∙ column-at d
+column-inj c d e = sym (column-at c .1) ∙ ap columnAt e ∙ column-at d .1
 
 -- ---- one column changed
 

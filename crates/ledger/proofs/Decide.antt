@@ -10,14 +10,14 @@ use lib.ListN.{length, getD}
 use Rattle.ledger.specs.Settings.{Settings, inRows, row}
 use Rattle.ledger.specs.Header.{leastLength, price}
 use Rattle.ledger.specs.Ledger.{owner, index, entryId, isNode, Packet, Place, free, ingress, egress, prefetched, placeOf, Ledger, listAt}
-use Rattle.ledger.specs.Ledger.{arrivalOf, mapped, Column, column#, tall, bound}
+use Rattle.ledger.specs.Ledger.{arrivalOf, Column, column#, tall, bound}
 use Rattle.ledger.specs.Ready.{bit}
 use Rattle.ledger.specs.Sound.{All, Everywhere, weigh, Shaped, InRange, one, Once, OwnPort, OwnQueue, Proper, WellRecorded, owed, Orderly, Sound, Roomy}
 use Rattle.ledger.proofs.Lists.{everywhere-map, counted}
 use Rattle.ledger.proofs.Places.{node-of, node-is}
 use Rattle.ledger.proofs.Rows.{roomy}
 use Rattle.ledger.proofs.Find.{once-by-test}
-use Rattle.ledger.proofs.Columns.{column-at, columnAt, column-low}
+use Rattle.ledger.proofs.Columns.{column-at, columnAt, columns}
 
 -- ---- decisions of parts
 
@@ -52,8 +52,8 @@ module _ (S : Settings) where
   -- for each column
   columns-dec : (P : Column → Type 0) → ((c : Column) → Dec (P c)) → Dec ((c : Column) → P c)
   columns-dec P d =
-      map-dec (λ f c. subst P (column-at c) (f (column# c) (column-low c))) (λ f i h. f (columnAt i))
-      (below-dec (λ i. P (columnAt i)) (suc (column# mapped)) (λ i. d (columnAt i)))
+      map-dec (λ f c. subst P (column-at c .1) (f (column# c) (column-at c .0))) (λ f i h. f (columnAt i))
+      (below-dec (λ i. P (columnAt i)) (length columns) (λ i. d (columnAt i)))
 
   shaped-dec : (L : Ledger) → Dec (Shaped S L)
   shaped-dec L =

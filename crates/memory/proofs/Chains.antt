@@ -23,15 +23,18 @@ use Rattle.layout.specs.declared.Table.the-variants.{Poisoned, Transaction, Pri
 use Rattle.layout.specs.Tables.{turnOf, lists, all, many, get, tableOf}
 use Rattle.layout.specs.Picture.{slot, chain, nodesOf, packetAt, nodeIn, tabulate, ledgerIn, lastD, StateOf}
 use Rattle.memory.specs.Ends.{Tidy, IsRecord, withLists, SameNumbers}
-use Rattle.ledger.proofs.Columns.{columnAt}
 
 -- ---- the table of a column: before the lists', as long as the column, and no other column's
+
+-- the column whose table has turn n
+abbrev columnIn : ℕ → Column
+columnIn n = getD (mapped ∷ mapped ∷ last ∷ arrival ∷ outward ∷ []) n mapped
 
 pub record ColumnTable (S : Settings) (c : Column) : Type 0 where
   pub low : turnOf (tableOf c) < turnOf Head
   pub above : 0 < turnOf (tableOf c)
   pub long : many S (tableOf c) ≡ tall S c
-  pub back : columnAt (getD (2 ∷ 3 ∷ 2 ∷ 0 ∷ 1 ∷ []) (turnOf (tableOf c)) 0) ≡ c
+  pub back : columnIn (turnOf (tableOf c)) ≡ c
 
 pub column-table : (S : Settings) (c : Column) → ColumnTable S c
 column-table S arrival = record { low = omega arith; above = omega arith; long = refl; back = refl }
@@ -40,7 +43,7 @@ column-table S last = record { low = omega arith; above = omega arith; long = re
 column-table S mapped = record { low = omega arith; above = omega arith; long = refl; back = refl }
 
 pub table-inj : (S : Settings) (c d : Column) → turnOf (tableOf c) ≡ turnOf (tableOf d) → c ≡ d
-table-inj S c d e = sym (column-table S c .back) ∙ ap (λ (n : ℕ). columnAt (getD (2 ∷ 3 ∷ 2 ∷ 0 ∷ 1 ∷ []) n 0)) e ∙ column-table S d .back
+table-inj S c d e = sym (column-table S c .back) ∙ ap columnIn e ∙ column-table S d .back
 
 -- ---- tables as lists
 

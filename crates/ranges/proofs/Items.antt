@@ -100,8 +100,8 @@ module _ (S : Settings) (m : List ℕ) where
         number : (c : Column) (i : ℕ) → i < tall S c → get S m (tableOf c) i < bound S c
         number arrival i h = get-lt S m Arrival i
         number outward i h = get-lt S m Outward i
-        number last i h = tested [] (mapped ∷ []) last refl i h (omega arith)
-        number mapped i h = tested (last ∷ []) [] mapped refl i h (omega arith)
+        number last i h = tested [] _ last refl i h (omega arith)
+        number mapped i h = tested (last ∷ []) _ mapped refl i h (omega arith)
 
     holds : InRange S (ledgerIn S m) → (k : ℕ) → k < items S → fitsAt S m k ≡ true
     unfolding fitsAt

@@ -65,6 +65,14 @@ fn prefetch_list(s: Shape, j: usize) -> usize
     geometry::prefetch_list(s, j / queues, j % queues)
 }
 
+// How many items are numbers: the ports' marks, and the map's entries.
+pub fn numbers(s: Shape) -> usize
+    requires { ⌜ Laid s ⌝ }
+    ensures { λ r. ⌜ r ≡ low (settingsOf s) ⌝ }
+{
+    s.ports + 4
+}
+
 // Whether element i of a table of one byte each is below a bound.
 fn below(m: &[u8], s: Shape, t: Table, i: usize, bound: usize) -> bool
     requires { ⌜ Reads 1 s t i (now m) ⌝ }
@@ -74,21 +82,29 @@ fn below(m: &[u8], s: Shape, t: Table, i: usize, bound: usize) -> bool
     n < bound
 }
 
-// Whether item i is in range.
-fn in_range(m: &[u8], s: Shape, i: usize) -> bool
-    requires { ⌜ Item s (now m) i ⌝ }
+// Whether item i, a number, is in range.
+fn number_in_range(m: &[u8], s: Shape, i: usize) -> bool
+    requires { ⌜ Held s (now m) × (i < low (settingsOf s)) ⌝ }
     ensures { λ r. ⌜ r ≡ fitsAt (settingsOf s) (now (m .entry)) i ⌝ }
 {
     let ports = s.ports;
     if i < ports {
         return below(m, s, Table::Last, i, s.queues);
     }
-    let d = i - ports;
-    if d < 4 {
-        return below(m, s, Table::Mapped, d, ports);
+    below(m, s, Table::Mapped, i - ports, ports)
+}
+
+// Whether item i is in range.
+fn in_range(m: &[u8], s: Shape, i: usize) -> bool
+    requires { ⌜ Item s (now m) i ⌝ }
+    ensures { λ r. ⌜ r ≡ fitsAt (settingsOf s) (now (m .entry)) i ⌝ }
+{
+    let n = numbers(s);
+    if i < n {
+        return number_in_range(m, s, i);
     }
     let slots = s.slots;
-    let count = layout::get4(m, s, Table::Count, prefetch_list(s, d - 4)) as usize;
+    let count = layout::get4(m, s, Table::Count, prefetch_list(s, i - n)) as usize;
     count <= slots
 }
 
@@ -102,14 +118,6 @@ pub fn few_enough(s: Shape, column: usize, count: u32) -> bool
     }
     let held = count as usize;
     held <= s.slots
-}
-
-// How many items are numbers: the ports' marks, and the map's entries.
-pub fn numbers(s: Shape) -> usize
-    requires { ⌜ Laid s ⌝ }
-    ensures { λ r. ⌜ r ≡ low (settingsOf s) ⌝ }
-{
-    s.ports + 4
 }
 
 // The first of the first n items that is out of range: the marks and the map come first, so they can be tested by themselves.
