@@ -10,12 +10,12 @@ use native.Mathlib.Omega.{arith}
 use lib.ListN.{length, getD}
 use lib.Dec.{ltb, leb}
 use Rattle.ledger.specs.declared.Finding.the-variants.{Whole}
-use Rattle.ledger.specs.Settings.{Settings, ids}
+use Rattle.ledger.specs.Settings.{Settings}
 use Rattle.ledger.specs.Ledger.{prefetched, place#, Column, arrival, outward, last, mapped, tall, bound, listAt}
 use Rattle.ledger.specs.Sound.{sum, InRange, Roomy}
 use Rattle.ledger.proofs.Tests.{ltb-yes, ltb-is, ltb-not, leb-yes, leb-is}
 use Rattle.ledger.proofs.Places.{row-lt, row-div, row-mod, place#-lt}
-use Rattle.layout.specs.declared.Table.the-variants.{Mapped, Last, Arrival, Outward, Count}
+use Rattle.layout.specs.declared.Table.the-variants.{Arrival, Outward, Count}
 use Rattle.layout.specs.Tables.{tableOf, lists, get}
 use Rattle.layout.specs.Picture.{ledgerIn}
 use Rattle.layout.proofs.Tables.{get-lt}
@@ -29,20 +29,23 @@ few-items S R = mul-le-mul (R .few-ports) (R .few-queues)
 module _ (S : Settings) (m : List ℕ) where
   -- ---- the test of an item, by its kind
 
-  pub fits-last : (i : ℕ) → i < S .ports → fitsAt S m i ≡ ltb (get S m Last i) (S .queues)
-  unfolding fitsAt
-  fits-last i h = rw (ltb-is i (S .ports) h)
-
-  pub fits-mapped : (i : ℕ) → S .ports ≤ i → i - S .ports < ids → fitsAt S m i ≡ ltb (get S m Mapped (i - S .ports)) (S .ports)
-  unfolding fitsAt
-  fits-mapped i h k = rw (ltb-not i (S .ports) h, ltb-is (i - S .ports) ids k)
-
   -- past a column's numbers the others count from 0
   beyond : (c : Column) (cs : List Column) (i j : ℕ) → i ≡ tall S c + j → fitsIn S m (c ∷ cs) i ≡ fitsIn S m cs j
   beyond c cs i j e =
       let past : tall S c ≤ i = omega arith in
       let back : i - tall S c ≡ j = omega arith in
       rw (ltb-not i (tall S c) past, back)
+
+  -- a number of a column, where the columns before it and after it are these
+  in-column : (cs ds : List Column) (c : Column) (i : ℕ) → i < tall S c
+      → fitsIn S m (cs ++ (c ∷ ds)) (sum (tall S) cs + i) ≡ ltb (get S m (tableOf c) i) (bound S c)
+  in-column [] ds c i h = rw (zero-add i, ltb-is i (tall S c) h)
+  in-column (b ∷ cs) ds c i h = beyond b (cs ++ (c ∷ ds)) _ (sum (tall S) cs + i) (omega arith) ∙ in-column cs ds c i h
+
+  pub fits-number : (cs ds : List Column) (c : Column) → cs ++ (c ∷ ds) ≡ narrow → (k i : ℕ) → k ≡ sum (tall S) cs + i → i < tall S c
+      → fitsAt S m k ≡ ltb (get S m (tableOf c) i) (bound S c)
+  unfolding fitsAt
+  fits-number cs ds c e k i d h = ap (fitsIn S m narrow) d ∙ ap (λ (bs : List Column). fitsIn S m bs (sum (tall S) cs + i)) (sym e) ∙ in-column cs ds c i h
 
   past-all : (cs : List Column) (j : ℕ) → fitsIn S m cs (sum (tall S) cs + j) ≡ leb (get S m Count (prefetchAt S j)) (S .slots)
   past-all [] j = rw (zero-add j)
@@ -63,12 +66,6 @@ module _ (S : Settings) (m : List ℕ) where
   prefetch-is p q h = rw (row-div (S .queues) p q h, row-mod (S .queues) p q h)
 
   -- ---- rule (b)
-
-  -- a column's number, where the columns before it and after it are these
-  fits-number : (cs ds : List Column) (c : Column) (i : ℕ) → i < tall S c
-      → fitsIn S m (cs ++ (c ∷ ds)) (sum (tall S) cs + i) ≡ ltb (get S m (tableOf c) i) (bound S c)
-  fits-number [] ds c i h = rw (zero-add i, ltb-is i (tall S c) h)
-  fits-number (b ∷ cs) ds c i h = beyond b (cs ++ (c ∷ ds)) _ (sum (tall S) cs + i) (omega arith) ∙ fits-number cs ds c i h
 
   shown : (c : Column) (i : ℕ) → i < tall S c → getD (ledgerIn S m .numbers c) i 0 ≡ get S m (tableOf c) i
   unfolding ledgerIn
@@ -94,8 +91,7 @@ module _ (S : Settings) (m : List ℕ) where
         -- a number that is tested, by the columns before its own; one that isn't, by the bytes that hold it
         tested : (cs ds : List Column) (c : Column) → cs ++ (c ∷ ds) ≡ narrow → (i : ℕ) → i < tall S c → sum (tall S) cs + i < items S
             → get S m (tableOf c) i < bound S c
-        tested cs ds c e i h k =
-            ltb-yes _ _ (sym (fits-number cs ds c i h) ∙ ap (λ (bs : List Column). fitsIn S m bs (sum (tall S) cs + i)) e ∙ ok (sum (tall S) cs + i) k)
+        tested cs ds c e i h k = ltb-yes _ _ (sym (fits-number cs ds c e _ i refl h) ∙ ok (sum (tall S) cs + i) k)
 
         number : (c : Column) (i : ℕ) → i < tall S c → get S m (tableOf c) i < bound S c
         number arrival i h = get-lt S m Arrival i
