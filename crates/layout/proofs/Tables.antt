@@ -18,7 +18,7 @@ use Rattle.ledger.proofs.Places.{row-lt, row-inj, Node}
 use Rattle.layout.specs.declared.Table.{Table}
 use Rattle.layout.specs.declared.Table.the-variants.{Setting, Mapped, Last, Arrival, Outward, Head, Tail, Count, Next, Length, Stamp, Queue}
 use Rattle.layout.specs.declared.Table.the-variants.{Dest, Poisoned, Transaction, Price}
-use Rattle.layout.specs.Tables.{turnOf, width, all, many, bytesOf, sizes, startOf, get, put}
+use Rattle.layout.specs.Tables.{turnOf, width, all, many, bytesOf, tables, sizes, startOf, get, put}
 use Rattle.layout.specs.Picture.{settingsIn, slot}
 
 -- ---- lists
@@ -55,14 +55,8 @@ zeros (suc n) (suc j) = zeros n j
 
 -- ---- where the tables stand
 
--- the tables in their turns, so that a turn gives its table back
-tables : List Table
-tables =
-    Setting ∷ Mapped ∷ Last ∷ Arrival ∷ Outward ∷ Head ∷ Tail ∷ Count
-    ∷ Next ∷ Length ∷ Stamp ∷ Queue ∷ Dest ∷ Poisoned ∷ Transaction ∷ Price ∷ []
-
+-- a turn gives its table back
 turn : (S : Settings) (t : Table) → (getD tables (turnOf t) Setting ≡ t) × (getD (sizes S) (turnOf t) 0 ≡ bytesOf S t)
-unfolding tables
 turn S Setting = (refl, refl)
 turn S Mapped = (refl, refl)
 turn S Last = (refl, refl)

@@ -1,6 +1,6 @@
 -- The state as a row of tables in lent bytes. A table has an element width in bytes and a number of elements; its start is the sum of
 -- the sizes of the tables before it. Nothing else knows an offset. Assumes nothing.
-use mathlib.Core.List.{List, [], _∷_}
+use mathlib.Core.List.{List, [], _∷_, map}
 use Prim.Native.Nat.{ℕ, _+_, _-_, _*_}
 use lib.ListN.{take}
 use Rattle.numbers.specs.Bytes.{number, store}
@@ -92,12 +92,13 @@ tableOf mapped = Mapped
 abbrev pub bytesOf : Settings → Table → ℕ
 bytesOf S t = many S t * width t
 
+abbrev pub tables : List Table
+tables =
+    Setting ∷ Mapped ∷ Last ∷ Arrival ∷ Outward ∷ Head ∷ Tail ∷ Count
+    ∷ Next ∷ Length ∷ Stamp ∷ Queue ∷ Dest ∷ Poisoned ∷ Transaction ∷ Price ∷ []
+
 abbrev pub sizes : Settings → List ℕ
-sizes S =
-    bytesOf S Setting ∷ bytesOf S Mapped ∷ bytesOf S Last ∷ bytesOf S Arrival ∷ bytesOf S Outward
-    ∷ bytesOf S Head ∷ bytesOf S Tail ∷ bytesOf S Count
-    ∷ bytesOf S Next ∷ bytesOf S Length ∷ bytesOf S Stamp ∷ bytesOf S Queue ∷ bytesOf S Dest ∷ bytesOf S Poisoned ∷ bytesOf S Transaction ∷ bytesOf S Price
-    ∷ []
+sizes S = map (bytesOf S) tables
 
 -- where a table starts
 unfoldable pub startOf : Settings → Table → ℕ
