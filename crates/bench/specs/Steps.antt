@@ -9,7 +9,7 @@ use Rattle.output.specs.Buffer.{queued}
 use Rattle.fields.specs.Calls.{orderAt}
 use Rattle.fields.specs.declared.Read.{Read}
 use Rattle.fields.specs.declared.Read.the-variants.{Call, Bad, End}
-use Rattle.bench.specs.Inputs.{Kept}
+use Rattle.input.specs.Inputs.{Kept}
 use Rattle.orders.specs.Orders.{headerIn, callIn, carried}
 use Rattle.bench.specs.Lines.{lineText, lastText}
 use Rattle.bench.specs.declared.Progress.{Progress}

@@ -11,7 +11,7 @@ fn answer(out: &mut [u8; 4096], waiting: usize, said: Said) -> usize
     ensures { λ r. ⌜ (r ≤ 4096) × (take r (now (out .exit)) ≡ queued (take waiting (now (out .entry))) (answerText said)) ⌝ }
 {
     match said {
-        Said::Done => output::text(out, waiting, b"0"),
+        Said::Done => output::byte(out, waiting, b'0'),
         Said::Node(id) => {
             let at = output::text(out, waiting, b"0 ");
             output::number(out, at, id as u64)

@@ -1,5 +1,4 @@
 // The bench: reads tagged fields from standard input, carries each out on a memory of its own, and writes a line for each.
-mod input;
 mod lines;
 
 use fields::Read;

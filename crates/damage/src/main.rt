@@ -1,39 +1,10 @@
 // The calls and the test of the seven rules against an independent model: for eight settings, 300 steps of traffic, a line for the memory
 // that they leave, then a line for each of 400 damages of one byte. The model, tools/damage_model.py, wrote this program's stdout. A
 // damage's line where the test for a state and the first broken rule disagree would have a "?" more.
+use draws::Draws;
 use sound::Broken;
 use sound::Tested;
 ghost use Prim.Native.Nat.{_<_, _≤_};
-
-// x modulo n, where n is no constant: proved here once.
-fn within(x: usize, n: usize) -> usize
-    requires { ⌜ 0 < n ⌝ }
-    ensures { λ r. ⌜ r < n ⌝ }
-{
-    x % n
-}
-
-// A linear congruence modulo 2³²; a draw is its upper 16 bits.
-struct Draws {
-    x: u32,
-}
-
-impl Draws {
-    fn next(self) -> Draws {
-        let x = self.x as u64;
-        Draws {
-            x: ((x * 1664525 + 1013904223) % 4294967296) as u32,
-        }
-    }
-
-    // The draw at hand, taken below n.
-    fn below(self, n: u32) -> u32
-        requires { ⌜ 0 < n ⌝ }
-        ensures { λ r. ⌜ r < n ⌝ }
-    {
-        within(self.x as usize / 65536, n as usize) as u32
-    }
-}
 
 // A part of a line: a number and what follows it. Here and below at is how many bytes wait in out.
 fn part(out: &mut [u8; 4096], at: usize, n: u64, after: u8) -> usize
@@ -89,96 +60,6 @@ fn doubt(out: &mut [u8; 4096], at: usize, found: Broken, tested: Tested) -> usiz
     output::byte(out, at, b'?')
 }
 
-// A packet's header arrives: eight draws.
-fn arrive(m: &mut [u8; 131072], d: Draws) -> Draws {
-    let source = d.next();
-    let dest = source.next();
-    let queue = dest.next();
-    let length = queue.next();
-    let poisoned = length.next();
-    let high = poisoned.next();
-    let low = high.next();
-    let transaction = low.next();
-    let port = source.below(4);
-    let q = queue.below(24);
-    let bytes = 12 + length.below(200);
-    let mut h = [0u8; 10];
-    h[0] = (dest.below(4) * 64 + port * 16 + q / 2) as u8;
-    h[1] = (q % 2 * 128 + bytes / 64) as u8;
-    h[2] = (bytes % 64 * 4 + poisoned.below(2) * 2) as u8;
-    h[3] = (high.below(65536) / 256) as u8;
-    h[4] = high.below(256) as u8;
-    h[5] = (low.below(65536) / 256) as u8;
-    h[6] = low.below(256) as u8;
-    h[8] = transaction.below(256) as u8;
-    h[9] = crc::checksum(&h[..9]);
-    switch::arrive(m, port, &h);
-    transaction
-}
-
-fn stitch(m: &mut [u8; 131072], d: Draws) -> Draws {
-    let port = d.next();
-    switch::stitch(m, port.below(4));
-    port
-}
-
-fn prefetch(m: &mut [u8; 131072], d: Draws) -> Draws {
-    let port = d.next();
-    let queue = port.next();
-    switch::prefetch(m, port.below(4), queue.below(24));
-    queue
-}
-
-fn credit(m: &mut [u8; 131072], d: Draws) -> Draws {
-    let port = d.next();
-    let queue = port.next();
-    let amount = queue.next();
-    switch::credit(m, port.below(4), 1 + queue.below(23), amount.below(100));
-    amount
-}
-
-// One time in four an id is mapped, otherwise a port has its turn.
-fn map_or_turn(m: &mut [u8; 131072], d: Draws) -> Draws {
-    let which = d.next();
-    let first = which.next();
-    if 0 < which.below(4) {
-        switch::turn(m, first.below(4));
-        return first;
-    }
-    let port = first.next();
-    switch::map_to(m, first.below(4), port.below(4));
-    port
-}
-
-// One step of traffic; what a call answers shows in the memory that it leaves.
-fn step(m: &mut [u8; 131072], d: Draws) -> Draws {
-    let kind = d.next();
-    let k = kind.below(8);
-    if k <= 2 {
-        return arrive(m, kind);
-    }
-    if k <= 4 {
-        return stitch(m, kind);
-    }
-    if k == 5 {
-        return prefetch(m, kind);
-    }
-    if k == 6 {
-        return credit(m, kind);
-    }
-    map_or_turn(m, kind)
-}
-
-fn traffic(m: &mut [u8; 131072], start: Draws) -> Draws {
-    let mut d = start;
-    let mut i: usize = 0;
-    while i < 300 {
-        d = step(m, d);
-        i += 1;
-    }
-    d
-}
-
 // A byte by its place, so that two bytes that change places show.
 fn weighed(i: usize, b: u8) -> u64 {
     let place = i % 251 + 1;
@@ -214,7 +95,7 @@ fn damage(
     let low = high.next();
     let value = low.next();
     let drawn = high.below(65536) * 65536 + low.below(65536);
-    let p = within(drawn as usize, size);
+    let p = draws::within(drawn as usize, size);
     let old = m[p];
     m[p] = value.below(256) as u8;
     let found = sound::first_broken(m);
@@ -254,6 +135,17 @@ fn size_for(nodes: u32) -> usize
     layout::size_of(layout::shape_of(settings::this_build(nodes, 64, 1, 0)))
 }
 
+// The start of a memory's line: what its setup was told.
+fn told(out: &mut [u8; 4096], at: usize, nodes: u32, beat: u32, slots: u32, credit: u32) -> usize
+    requires { ⌜ at ≤ 4096 ⌝ }
+    ensures { λ r. ⌜ r ≤ 4096 ⌝ }
+{
+    let second = part(out, at, nodes as u64, b' ');
+    let third = part(out, second, beat as u64, b' ');
+    let fourth = part(out, third, slots as u64, b' ');
+    part(out, fourth, credit as u64, b' ')
+}
+
 // What one setting gives; start is the congruence's.
 fn run(
     nodes: u32,
@@ -269,14 +161,11 @@ fn run(
 {
     let mut m = [165u8; 131072];
     switch::set_up(&mut m, settings::this_build(nodes, beat, slots, credit));
-    let d = traffic(&mut m, Draws { x: start });
+    let d = draws::traffic(&mut m, Draws { x: start });
     let size = size_for(nodes);
-    let second = part(out, first, nodes as u64, b' ');
-    let third = part(out, second, beat as u64, b' ');
-    let fourth = part(out, third, slots as u64, b' ');
-    let fifth = part(out, fourth, credit as u64, b' ');
-    let sixth = part(out, fifth, size as u64, b' ');
-    let end = part(out, sixth, checksum(&m, size), b'\n');
+    let second = told(out, first, nodes, beat, slots, credit);
+    let third = part(out, second, size as u64, b' ');
+    let end = part(out, third, checksum(&m, size), b'\n');
     damages(&mut m, size, d, out, end)
 }
 

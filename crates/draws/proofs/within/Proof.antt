@@ -1,8 +1,8 @@
--- `damage::within` meets its contract. Assumes nothing.
+-- `draws::within` meets its contract. Assumes nothing.
 use borrow.Author.Needs.{needs}
 use native.Mathlib.Nat.{mod-lt}
-use Rattle.damage.proofs.within.Statement.{statement}
-use Rattle.damage.proofs.within.Tie as tie
+use Rattle.draws.proofs.within.Statement.{statement}
+use Rattle.draws.proofs.within.Tie as tie
 
 rem-result : tie.Need-rem-result
 rem-result c = search needs

@@ -1,12 +1,12 @@
--- `bench::input::moved` meets its contract. The loop's invariant: what is moved, and that from place i on nothing is. The measure is what is left.
+-- `input::moved` meets its contract. The loop's invariant: what is moved, and that from place i on nothing is. The measure is what is left.
 -- Assumes nothing.
 use mathlib.Core.Path.{_≡_, refl}
 use Prim.Native.Nat.{_≤_, _-_}
 use native.Mathlib.Omega.{arith}
 use borrow.Author.Needs.{needs}
-use Rattle.bench.proofs.Laws.{Moved, moved-step}
-use Rattle.bench.proofs.input.moved.Statement.{statement}
-use Rattle.bench.proofs.input.moved.Tie as tie
+use Rattle.input.proofs.Laws.{Moved, moved-step}
+use Rattle.input.proofs.moved.Statement.{statement}
+use Rattle.input.proofs.moved.Tie as tie
 
 abbrev Inv-loop : tie.InvT-loop
 Inv-loop bytes₀ from to i₀ bytes i = (i ≤ to - from) × Moved bytes₀ from i bytes

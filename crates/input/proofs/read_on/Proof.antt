@@ -1,11 +1,11 @@
--- `bench::input::read_on` meets its contract: each turn reads a byte or more past what is there, or is the last. Assumes nothing.
+-- `input::read_on` meets its contract: each turn reads a byte or more past what is there, or is the last. Assumes nothing.
 use mathlib.Core.Path.{_≡_, refl}
 use Prim.Native.Nat.{_≤_, _-_}
 use lib.ListN.{take}
 use borrow.Author.Needs.{needs}
-use Rattle.bench.proofs.Laws.{still-front}
-use Rattle.bench.proofs.input.read_on.Statement.{statement}
-use Rattle.bench.proofs.input.read_on.Tie as tie
+use Rattle.input.proofs.Laws.{still-front}
+use Rattle.input.proofs.read_on.Statement.{statement}
+use Rattle.input.proofs.read_on.Tie as tie
 
 abbrev Inv-loop : tie.InvT-loop
 Inv-loop bytes₀ from to₀ bytes to = (from ≤ to) × (to ≤ 4096) × (take from bytes ≡ take from bytes₀)

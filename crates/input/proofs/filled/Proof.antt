@@ -1,8 +1,8 @@
--- `bench::input::filled` meets its contract: what is left is moved to the front and read on from, or is enough. Assumes nothing.
-use Rattle.bench.proofs.Laws.{kept-there, kept-moved}
+-- `input::filled` meets its contract: what is left is moved to the front and read on from, or is enough. Assumes nothing.
+use Rattle.input.proofs.Laws.{kept-there, kept-moved}
 use borrow.Author.Needs.{needs}
-use Rattle.bench.proofs.input.filled.Statement.{statement}
-use Rattle.bench.proofs.input.filled.Tie as tie
+use Rattle.input.proofs.filled.Statement.{statement}
+use Rattle.input.proofs.filled.Tie as tie
 
 sub-if2 : tie.Need-sub-if2
 sub-if2 c = search needs

@@ -1,8 +1,8 @@
--- `damage::traffic` meets its contract: 300 times, and it ends. Assumes nothing.
+-- `draws::traffic` meets its contract: 300 times, and it ends. Assumes nothing.
 use Prim.Native.Nat.{_-_, _≤_}
 use borrow.Author.Needs.{needs}
-use Rattle.damage.proofs.traffic.Statement.{statement}
-use Rattle.damage.proofs.traffic.Tie as tie
+use Rattle.draws.proofs.traffic.Statement.{statement}
+use Rattle.draws.proofs.traffic.Tie as tie
 
 abbrev Inv-loop : tie.InvT-loop
 Inv-loop m₀ d₀ i₀ m d i = i ≤ 300

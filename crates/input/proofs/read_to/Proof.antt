@@ -1,10 +1,10 @@
--- `bench::input::read_to` meets its contract: what is read goes past place to. Assumes nothing.
+-- `input::read_to` meets its contract: what is read goes past place to. Assumes nothing.
 use Prim.Native.Nat.{_-_}
 use lib.ListN.{length}
 use borrow.Author.Needs.{needs}
 use borrow.Rule.Slice.PartMut.{take-put}
-use Rattle.bench.proofs.input.read_to.Statement.{statement}
-use Rattle.bench.proofs.input.read_to.Tie as tie
+use Rattle.input.proofs.read_to.Statement.{statement}
+use Rattle.input.proofs.read_to.Tie as tie
 
 sub-read : tie.Need-sub-read
 sub-read c = search needs

@@ -2,7 +2,7 @@
 ghost use mathlib.Core.Path.{_≡_};
 ghost use Prim.Native.Nat.{_-_, _≤_};
 ghost use lib.ListN.{length, take};
-ghost use Rattle.bench.specs.Inputs.{unread, Kept};
+ghost use Rattle.input.specs.Inputs.{unread, Kept};
 
 // The longest field is an arrival: a tag, a length of two bytes, a port, and a header of ten.
 const LONGEST: usize = 14;
