@@ -119,7 +119,7 @@ fn put_links(m: &mut [u8], s: Shape, p: usize)
         step: 1,
     };
     let values = Line {
-        first: p * 2048 + 1,
+        first: p * ledger::IDS as usize + 1,
         step: 1,
     };
     put_line(m, s, Table::Next, places, values, nodes - 1);
@@ -149,11 +149,11 @@ fn put_free_lists(m: &mut [u8], s: Shape)
     };
     let heads = Line {
         first: 0,
-        step: 2048,
+        step: ledger::IDS as usize,
     };
     let tails = Line {
         first: s.nodes - 1,
-        step: 2048,
+        step: ledger::IDS as usize,
     };
     put_line(m, s, Table::Head, lists, heads, ports);
     put_line(m, s, Table::Tail, lists, tails, ports);

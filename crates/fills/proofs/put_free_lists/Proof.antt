@@ -8,8 +8,14 @@ use Rattle.fills.proofs.Fills.{free-in, freed-along}
 use Rattle.fills.proofs.put_free_lists.Statement.{statement}
 use Rattle.fills.proofs.put_free_lists.Tie as tie
 
+cast-t7 : tie.Need-cast-t7
+cast-t7 c = search needs
+
 sub-t7 : tie.Need-sub-t7
 sub-t7 c = search needs
+
+cast-t8 : tie.Need-cast-t8
+cast-t8 c = search needs
 
 abbrev begun : tie.After-put-line → tie.Start
 begun c = c .before .before .before .before
@@ -51,7 +57,9 @@ pub put-free-lists-spec : {M : Type 1} → statement M
 put-free-lists-spec =
     tie.close
     (tie.spec
+    cast-t7
     sub-t7
+    cast-t8
     put-line-requires
     put-line-requires-2
     put-counts-requires

@@ -14,11 +14,14 @@ mul-t7 c =
     let a = c .before .args in
     omega (arith, few _ (c .before .pre .0 .laid .roomy), row-lt (a .s .nodes) (a .s .ports) (a .p) 0 (omega arith) (omega arith))
 
-mul-t7-2 : tie.Need-mul-t7-2
-mul-t7-2 c = search needs
+cast-t7 : tie.Need-cast-t7
+cast-t7 c = search needs
 
-add-t8 : tie.Need-add-t8
-add-t8 c = search needs
+mul-t8 : tie.Need-mul-t8
+mul-t8 c = search needs
+
+add-t9 : tie.Need-add-t9
+add-t9 c = search needs
 
 sub-put-line : tie.Need-sub-put-line
 sub-put-line c = search needs
@@ -41,4 +44,4 @@ returns c = c .before .before .put-line .ensures ∙ fill-same _ _ _ _ _ _ _ _ (
 
 pub put-links-spec : {M : Type 1} → statement M
 put-links-spec =
-    tie.close (tie.spec mul-t7 mul-t7-2 add-t8 sub-put-line put-line-requires same-length returns)
+    tie.close (tie.spec mul-t7 cast-t7 mul-t8 add-t9 sub-put-line put-line-requires same-length returns)
