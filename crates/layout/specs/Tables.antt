@@ -14,8 +14,8 @@ use Rattle.layout.specs.declared.Table.the-variants.{Setting, Mapped, La
 use Rattle.layout.specs.declared.Table.the-variants.{Dest, Poisoned, Transaction, Price}
 
 -- the tables in their order: the settings, the columns of numbers, then what there is for each list, then for each node
-abbrev pub columns : ℕ
-columns = 4
+abbrev pub columnTables : ℕ
+columnTables = 4
 
 abbrev pub turnOf : Table → ℕ
 turnOf Setting = 0
@@ -23,17 +23,17 @@ turnOf Mapped = 1
 turnOf Last = 2
 turnOf Arrival = 3
 turnOf Outward = 4
-turnOf Head = 1 + columns
-turnOf Tail = 2 + columns
-turnOf Count = 3 + columns
-turnOf Next = 4 + columns
-turnOf Length = 5 + columns
-turnOf Stamp = 6 + columns
-turnOf Queue = 7 + columns
-turnOf Dest = 8 + columns
-turnOf Poisoned = 9 + columns
-turnOf Transaction = 10 + columns
-turnOf Price = 11 + columns
+turnOf Head = 1 + columnTables
+turnOf Tail = 2 + columnTables
+turnOf Count = 3 + columnTables
+turnOf Next = 4 + columnTables
+turnOf Length = 5 + columnTables
+turnOf Stamp = 6 + columnTables
+turnOf Queue = 7 + columnTables
+turnOf Dest = 8 + columnTables
+turnOf Poisoned = 9 + columnTables
+turnOf Transaction = 10 + columnTables
+turnOf Price = 11 + columnTables
 
 -- bytes of an element
 abbrev pub width : Table → ℕ
@@ -92,6 +92,7 @@ tableOf mapped = Mapped
 abbrev pub bytesOf : Settings → Table → ℕ
 bytesOf S t = many S t * width t
 
+-- the tables by their turns, and their sizes
 abbrev pub tables : List Table
 tables =
     Setting ∷ Mapped ∷ Last ∷ Arrival ∷ Outward ∷ Head ∷ Tail ∷ Count

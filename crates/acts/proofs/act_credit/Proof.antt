@@ -6,18 +6,6 @@ use Rattle.rooms.proofs.Laws.{tells}
 use Rattle.acts.proofs.act_credit.Statement.{statement}
 use Rattle.acts.proofs.act_credit.Tie as tie
 
-shape-requires : tie.Need-shape-requires
-shape-requires c κs = search needs
-
-credit-requires : tie.Need-credit-requires
-credit-requires c κs = search needs
-
-plain-requires : tie.Need-plain-requires
-plain-requires c κs = search needs
-
-same-length : tie.Need-same-length
-same-length c = search needs
-
 returns : tie.Need-returns
 returns c =
     let t = c .before .before .before in
@@ -25,4 +13,4 @@ returns c =
 
 pub act-credit-spec : {M : Type 1} → statement M
 act-credit-spec =
-    tie.close (tie.spec shape-requires credit-requires plain-requires same-length returns)
+    tie.close (tie.spec (λ c κs. search needs) (λ c κs. search needs) (λ c κs. search needs) (λ c. search needs) returns)

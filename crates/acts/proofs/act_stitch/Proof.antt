@@ -7,18 +7,6 @@ use Rattle.rooms.proofs.Laws.{tells-in}
 use Rattle.acts.proofs.act_stitch.Statement.{statement}
 use Rattle.acts.proofs.act_stitch.Tie as tie
 
-shape-requires : tie.Need-shape-requires
-shape-requires c κs = search needs
-
-stitch-requires : tie.Need-stitch-requires
-stitch-requires c κs = search needs
-
-put-record-requires : tie.Need-put-record-requires
-put-record-requires c κs = search needs
-
-same-length : tie.Need-same-length
-same-length c = search needs
-
 returns : tie.Need-returns
 returns c =
     let w = c .put-record .ensures in
@@ -27,4 +15,4 @@ returns c =
 
 pub act-stitch-spec : {M : Type 1} → statement M
 act-stitch-spec =
-    tie.close (tie.spec shape-requires stitch-requires put-record-requires same-length returns)
+    tie.close (tie.spec (λ c κs. search needs) (λ c κs. search needs) (λ c κs. search needs) (λ c. search needs) returns)

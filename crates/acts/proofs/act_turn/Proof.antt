@@ -7,18 +7,6 @@ use Rattle.rooms.proofs.Laws.{tells-in}
 use Rattle.acts.proofs.act_turn.Statement.{statement}
 use Rattle.acts.proofs.act_turn.Tie as tie
 
-shape-requires : tie.Need-shape-requires
-shape-requires c κs = search needs
-
-turn-requires : tie.Need-turn-requires
-turn-requires c κs = search needs
-
-put-sent-requires : tie.Need-put-sent-requires
-put-sent-requires c κs = search needs
-
-same-length : tie.Need-same-length
-same-length c = search needs
-
 returns : tie.Need-returns
 returns c =
     let w = c .put-sent .ensures in
@@ -27,4 +15,4 @@ returns c =
 
 pub act-turn-spec : {M : Type 1} → statement M
 act-turn-spec =
-    tie.close (tie.spec shape-requires turn-requires put-sent-requires same-length returns)
+    tie.close (tie.spec (λ c κs. search needs) (λ c κs. search needs) (λ c κs. search needs) (λ c. search needs) returns)

@@ -13,18 +13,6 @@ never c =
     let start = c .before .before .before .before in
     absurd (opened-wrong (start .args .m .now) (sym (c .before .before .open .ensures) ∙ c .enum-told .given .1) (start .pre .sound .rows) (start .pre .long))
 
-open-requires : tie.Need-open-requires
-open-requires c κs = search needs
-
-enum-known-s : tie.Need-enum-known-s
-enum-known-s c = search needs
-
-enum-told : tie.Need-enum-told
-enum-told c = search needs
-
-this-build-requires : tie.Need-this-build-requires
-this-build-requires c κs = search needs
-
 shape-of-requires : tie.Need-shape-of-requires
 shape-of-requires c κs = never (c .before)
 
@@ -43,10 +31,10 @@ pub shape-spec : {M : Type 1} → statement M
 shape-spec =
     tie.close
     (tie.spec
-    open-requires
-    enum-known-s
-    enum-told
-    this-build-requires
+    (λ c κs. search needs)
+    (λ c. search needs)
+    (λ c. search needs)
+    (λ c κs. search needs)
     shape-of-requires
     returns
     returns-2)

@@ -5,19 +5,10 @@ use Rattle.rooms.proofs.Laws.{tells-in}
 use Rattle.capi.proofs.vr_arrive.Statement.{statement}
 use Rattle.capi.proofs.vr_arrive.Tie as tie
 
-arrive-requires : tie.Need-arrive-requires
-arrive-requires c κs = search needs
-
-put-entry-requires : tie.Need-put-entry-requires
-put-entry-requires c κs = search needs
-
-same-length : tie.Need-same-length
-same-length c = search needs
-
 returns : tie.Need-returns
 returns c =
     let w = c .put-entry .ensures in
     tells-in _ _ _ _ (c .before .before .before .before .arrive .ensures) (w .0) entryRoom _ _ (w .1)
 
 pub vr-arrive-spec : {M : Type 1} → statement M
-vr-arrive-spec = tie.close (tie.spec arrive-requires put-entry-requires same-length returns)
+vr-arrive-spec = tie.close (tie.spec (λ c κs. search needs) (λ c κs. search needs) (λ c. search needs) returns)

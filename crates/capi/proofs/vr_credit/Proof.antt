@@ -4,17 +4,8 @@ use Rattle.rooms.proofs.Laws.{tells}
 use Rattle.capi.proofs.vr_credit.Statement.{statement}
 use Rattle.capi.proofs.vr_credit.Tie as tie
 
-credit-requires : tie.Need-credit-requires
-credit-requires c κs = search needs
-
-plain-requires : tie.Need-plain-requires
-plain-requires c κs = search needs
-
-same-length : tie.Need-same-length
-same-length c = search needs
-
 returns : tie.Need-returns
 returns c = tells _ _ _ _ (c .before .before .before .credit .ensures) (c .plain .ensures)
 
 pub vr-credit-spec : {M : Type 1} → statement M
-vr-credit-spec = tie.close (tie.spec credit-requires plain-requires same-length returns)
+vr-credit-spec = tie.close (tie.spec (λ c κs. search needs) (λ c κs. search needs) (λ c. search needs) returns)

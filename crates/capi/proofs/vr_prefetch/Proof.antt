@@ -5,19 +5,10 @@ use Rattle.rooms.proofs.Laws.{tells-in}
 use Rattle.capi.proofs.vr_prefetch.Statement.{statement}
 use Rattle.capi.proofs.vr_prefetch.Tie as tie
 
-prefetch-requires : tie.Need-prefetch-requires
-prefetch-requires c κs = search needs
-
-put-entry-requires : tie.Need-put-entry-requires
-put-entry-requires c κs = search needs
-
-same-length : tie.Need-same-length
-same-length c = search needs
-
 returns : tie.Need-returns
 returns c =
     let w = c .put-entry .ensures in
     tells-in _ _ _ _ (c .before .before .before .before .prefetch .ensures) (w .0) entryRoom _ _ (w .1)
 
 pub vr-prefetch-spec : {M : Type 1} → statement M
-vr-prefetch-spec = tie.close (tie.spec prefetch-requires put-entry-requires same-length returns)
+vr-prefetch-spec = tie.close (tie.spec (λ c κs. search needs) (λ c κs. search needs) (λ c. search needs) returns)

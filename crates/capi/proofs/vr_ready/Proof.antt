@@ -5,16 +5,10 @@ use Rattle.rooms.proofs.Laws.{shows}
 use Rattle.capi.proofs.vr_ready.Statement.{statement}
 use Rattle.capi.proofs.vr_ready.Tie as tie
 
-ready-requires : tie.Need-ready-requires
-ready-requires c κs = search needs
-
-put-ready-requires : tie.Need-put-ready-requires
-put-ready-requires c κs = search needs
-
 returns : tie.Need-returns
 returns c =
     let w = c .put-ready .ensures in
     shows readyRoom _ _ _ _ _ (c .before .before .before .ready .ensures) (w .0) (w .1)
 
 pub vr-ready-spec : {M : Type 1} → statement M
-vr-ready-spec = tie.close (tie.spec ready-requires put-ready-requires returns)
+vr-ready-spec = tie.close (tie.spec (λ c κs. search needs) (λ c κs. search needs) returns)

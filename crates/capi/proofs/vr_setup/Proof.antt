@@ -8,18 +8,6 @@ use Rattle.rooms.proofs.Laws.{tells}
 use Rattle.capi.proofs.vr_setup.Statement.{statement}
 use Rattle.capi.proofs.vr_setup.Tie as tie
 
-this-build-requires : tie.Need-this-build-requires
-this-build-requires c κs = search needs
-
-set-up-requires : tie.Need-set-up-requires
-set-up-requires c κs = search needs
-
-plain-requires : tie.Need-plain-requires
-plain-requires c κs = search needs
-
-same-length : tie.Need-same-length
-same-length c = search needs
-
 returns : tie.Need-returns
 returns c =
     let done = c .before .before .before in
@@ -28,4 +16,4 @@ returns c =
     tells _ _ _ _ (done .set-up .ensures ∙ as-asked) (c .plain .ensures)
 
 pub vr-setup-spec : {M : Type 1} → statement M
-vr-setup-spec = tie.close (tie.spec this-build-requires set-up-requires plain-requires same-length returns)
+vr-setup-spec = tie.close (tie.spec (λ c κs. search needs) (λ c κs. search needs) (λ c κs. search needs) (λ c. search needs) returns)

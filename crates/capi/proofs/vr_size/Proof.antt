@@ -8,20 +8,11 @@ use Rattle.capi.proofs.Laws.{size-none, size-some}
 use Rattle.capi.proofs.vr_size.Statement.{statement}
 use Rattle.capi.proofs.vr_size.Tie as tie
 
-this-build-requires : tie.Need-this-build-requires
-this-build-requires c κs = search needs
-
-in-rows-requires : tie.Need-in-rows-requires
-in-rows-requires c κs = search needs
-
 returns : tie.Need-returns
 returns c = size-none _ (c .before .before .this-build .ensures) (sym (c .before .in-rows .ensures) ∙ not-true _ (c .if1 .taken))
 
 shape-of-requires : tie.Need-shape-of-requires
 shape-of-requires c κs = roomy _ (sym (c .before .in-rows .ensures) ∙ not-false _ (c .if1 .left))
-
-size-of-requires : tie.Need-size-of-requires
-size-of-requires c κs = search needs
 
 returns-2 : tie.Need-returns-2
 returns-2 c =
@@ -31,4 +22,4 @@ returns-2 c =
 
 pub vr-size-spec : {M : Type 1} → statement M
 vr-size-spec =
-    tie.close (tie.spec this-build-requires in-rows-requires returns shape-of-requires size-of-requires returns-2)
+    tie.close (tie.spec (λ c κs. search needs) (λ c κs. search needs) returns shape-of-requires (λ c κs. search needs) returns-2)

@@ -5,19 +5,10 @@ use Rattle.rooms.proofs.Laws.{tells-in}
 use Rattle.capi.proofs.vr_stitch.Statement.{statement}
 use Rattle.capi.proofs.vr_stitch.Tie as tie
 
-stitch-requires : tie.Need-stitch-requires
-stitch-requires c κs = search needs
-
-put-record-requires : tie.Need-put-record-requires
-put-record-requires c κs = search needs
-
-same-length : tie.Need-same-length
-same-length c = search needs
-
 returns : tie.Need-returns
 returns c =
     let w = c .put-record .ensures in
     tells-in _ _ _ _ (c .before .before .before .before .before .stitch .ensures .0) (w .0) recordRoom _ _ (w .1)
 
 pub vr-stitch-spec : {M : Type 1} → statement M
-vr-stitch-spec = tie.close (tie.spec stitch-requires put-record-requires same-length returns)
+vr-stitch-spec = tie.close (tie.spec (λ c κs. search needs) (λ c κs. search needs) (λ c. search needs) returns)

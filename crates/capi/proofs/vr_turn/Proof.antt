@@ -5,19 +5,10 @@ use Rattle.rooms.proofs.Laws.{tells-in}
 use Rattle.capi.proofs.vr_turn.Statement.{statement}
 use Rattle.capi.proofs.vr_turn.Tie as tie
 
-turn-requires : tie.Need-turn-requires
-turn-requires c κs = search needs
-
-put-sent-requires : tie.Need-put-sent-requires
-put-sent-requires c κs = search needs
-
-same-length : tie.Need-same-length
-same-length c = search needs
-
 returns : tie.Need-returns
 returns c =
     let w = c .put-sent .ensures in
     tells-in _ _ _ _ (c .before .before .before .before .turn .ensures) (w .0) sentRoom _ _ (w .1)
 
 pub vr-turn-spec : {M : Type 1} → statement M
-vr-turn-spec = tie.close (tie.spec turn-requires put-sent-requires same-length returns)
+vr-turn-spec = tie.close (tie.spec (λ c κs. search needs) (λ c κs. search needs) (λ c. search needs) returns)

@@ -11,15 +11,6 @@ use Rattle.capi.proofs.Laws.{asked-same}
 use Rattle.capi.proofs.vr_where.Statement.{statement}
 use Rattle.capi.proofs.vr_where.Tie as tie
 
-asked-requires : tie.Need-asked-requires
-asked-requires c κs = search needs
-
-where-is-requires : tie.Need-where-is-requires
-where-is-requires c κs = search needs
-
-put-place-requires : tie.Need-put-place-requires
-put-place-requires c κs = search needs
-
 returns : tie.Need-returns
 returns c =
     let a = c .before .before .before .before .before .args in
@@ -29,4 +20,4 @@ returns c =
     ∙ asked-same (a .mem .now) (a .place .now) (a .entry)
 
 pub vr-where-spec : {M : Type 1} → statement M
-vr-where-spec = tie.close (tie.spec asked-requires where-is-requires put-place-requires returns)
+vr-where-spec = tie.close (tie.spec (λ c κs. search needs) (λ c κs. search needs) (λ c κs. search needs) returns)

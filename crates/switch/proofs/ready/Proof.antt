@@ -9,20 +9,11 @@ use Rattle.switch.proofs.Laws.{on-state, off-state}
 use Rattle.switch.proofs.ready.Statement.{statement}
 use Rattle.switch.proofs.ready.Tie as tie
 
-test-requires : tie.Need-test-requires
-test-requires c κs = search needs
-
-enum-known-s : tie.Need-enum-known-s
-enum-known-s c = search needs
-
 ready-requires : tie.Need-ready-requires
 ready-requires c κs =
     let t = c .before in
     let a = t .before .before .before .before .args in
     tested-state (a .m .now) _ (sym (t .before .before .test .ensures) ∙ t .s .given .1)
-
-enum-told : tie.Need-enum-told
-enum-told c = search needs
 
 returns : tie.Need-returns
 returns c =
@@ -37,4 +28,4 @@ returns-2 c =
     ap (λ (out : Reply × List ℕ). out .0) (off-state (a .m .now) (sym (c .before .before .test .ensures) ∙ c .enum-told .given .1) (ready (a .port)))
 
 pub ready-spec : {M : Type 1} → statement M
-ready-spec = tie.close (tie.spec test-requires enum-known-s ready-requires enum-told returns returns-2)
+ready-spec = tie.close (tie.spec (λ c κs. search needs) (λ c. search needs) ready-requires (λ c. search needs) returns returns-2)

@@ -6,26 +6,11 @@ use Rattle.switch.proofs.Laws.{round-on-state, round-off-state}
 use Rattle.switch.proofs.round.Statement.{statement}
 use Rattle.switch.proofs.round.Tie as tie
 
-test-requires : tie.Need-test-requires
-test-requires c κs = search needs
-
-enum-known-tested : tie.Need-enum-known-tested
-enum-known-tested c = search needs
-
 round-requires : tie.Need-round-requires
 round-requires c κs =
     let t = c .before .before .before in
     let test = t .before .before in
     tested-state (test .before .before .before .before .args .m .now) _ (sym (test .test .ensures) ∙ t .tested .given .1)
-
-enum-told : tie.Need-enum-told
-enum-told c = search needs
-
-same-length : tie.Need-same-length
-same-length c = search needs
-
-same-length-2 : tie.Need-same-length-2
-same-length-2 c = search needs
 
 returns : tie.Need-returns
 returns c =
@@ -34,9 +19,6 @@ returns c =
     let test = t .before .before in
     let a = test .before .before .before .before .args in
     p .round .ensures ∙ round-on-state (a .m .now) (a .turns .now) _ (sym (test .test .ensures) ∙ t .tested .given .1)
-
-same-length-3 : tie.Need-same-length-3
-same-length-3 c = search needs
 
 returns-2 : tie.Need-returns-2
 returns-2 c =
@@ -48,12 +30,12 @@ pub round-spec : {M : Type 1} → statement M
 round-spec =
     tie.close
     (tie.spec
-    test-requires
-    enum-known-tested
+    (λ c κs. search needs)
+    (λ c. search needs)
     round-requires
-    enum-told
-    same-length
-    same-length-2
+    (λ c. search needs)
+    (λ c. search needs)
+    (λ c. search needs)
     returns
-    same-length-3
+    (λ c. search needs)
     returns-2)

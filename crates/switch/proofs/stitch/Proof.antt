@@ -11,23 +11,11 @@ use Rattle.switch.proofs.Laws.{on-state, off-state}
 use Rattle.switch.proofs.stitch.Statement.{statement}
 use Rattle.switch.proofs.stitch.Tie as tie
 
-test-requires : tie.Need-test-requires
-test-requires c κs = search needs
-
-enum-known-tested : tie.Need-enum-known-tested
-enum-known-tested c = search needs
-
 stitch-requires : tie.Need-stitch-requires
 stitch-requires c κs =
     let t = c .before .before in
     let a = t .before .before .before .before .before .args in
     tested-state (a .m .now) _ (sym (t .before .before .test .ensures) ∙ t .tested .given .1)
-
-enum-told : tie.Need-enum-told
-enum-told c = search needs
-
-same-length : tie.Need-same-length
-same-length c = search needs
 
 returns : tie.Need-returns
 returns c =
@@ -37,9 +25,6 @@ returns c =
     let e = on-state _ (a .m .now) (sym (t .before .before .test .ensures) ∙ t .tested .given .1) (stitch (a .port)) in
     (p .stitch .ensures .0 ∙ e, p .stitch .ensures .1 ∙ ap (λ (out : Reply × List ℕ). recordIn (out .0)) e)
 
-same-length-2 : tie.Need-same-length-2
-same-length-2 c = search needs
-
 returns-2 : tie.Need-returns-2
 returns-2 c =
     let a = c .before .before .before .before .before .args in
@@ -47,4 +32,6 @@ returns-2 c =
     (e, ap (λ (out : Reply × List ℕ). recordIn (out .0)) e)
 
 pub stitch-spec : {M : Type 1} → statement M
-stitch-spec = tie.close (tie.spec test-requires enum-known-tested stitch-requires enum-told same-length returns same-length-2 returns-2)
+stitch-spec =
+    tie.close
+    (tie.spec (λ c κs. search needs) (λ c. search needs) stitch-requires (λ c. search needs) (λ c. search needs) returns (λ c. search needs) returns-2)

@@ -9,20 +9,11 @@ use Rattle.switch.proofs.Laws.{on-state, off-state}
 use Rattle.switch.proofs.where_is.Statement.{statement}
 use Rattle.switch.proofs.where_is.Tie as tie
 
-test-requires : tie.Need-test-requires
-test-requires c κs = search needs
-
-enum-known-s : tie.Need-enum-known-s
-enum-known-s c = search needs
-
 where-is-requires : tie.Need-where-is-requires
 where-is-requires c κs =
     let t = c .before in
     let a = t .before .before .before .before .args in
     tested-state (a .m .now) _ (sym (t .before .before .test .ensures) ∙ t .s .given .1)
-
-enum-told : tie.Need-enum-told
-enum-told c = search needs
 
 returns : tie.Need-returns
 returns c =
@@ -37,4 +28,4 @@ returns-2 c =
     ap (λ (out : Reply × List ℕ). out .0) (off-state (a .m .now) (sym (c .before .before .test .ensures) ∙ c .enum-told .given .1) (whereIs (a .id .0)))
 
 pub where-is-spec : {M : Type 1} → statement M
-where-is-spec = tie.close (tie.spec test-requires enum-known-s where-is-requires enum-told returns returns-2)
+where-is-spec = tie.close (tie.spec (λ c κs. search needs) (λ c. search needs) where-is-requires (λ c. search needs) returns returns-2)
