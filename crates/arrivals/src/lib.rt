@@ -91,7 +91,7 @@ fn take_in(m: &mut [u8], s: Shape, p: usize, k: Sent)
     let from = geometry::free_list(s, p);
     let to = geometry::ingress_list(s, p);
     let x = lists::pop(m, s, from);
-    parts::record(m, s, k);
+    records::record(m, s, k);
     lists::push(m, s, to, x);
     parts::set_arrival(m, s, p, q, credit - price);
 }

@@ -12,7 +12,7 @@ ghost use Rattle.layout.specs.Tables.{lists, get, settingsOf};
 ghost use Rattle.layout.specs.Picture.{slot, nodesOf};
 ghost use Rattle.memory.specs.Judged.{Works};
 ghost use Rattle.memory.specs.Memory.{acted};
-ghost use Rattle.parts.specs.Parts.{InRecords};
+ghost use Rattle.records.specs.Records.{InRecords};
 ghost use Rattle.finds.specs.Search.{Walks, walked, searched};
 
 // What the walk of a list finds: the node's position, or that it isn't there.

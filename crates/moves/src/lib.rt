@@ -104,7 +104,7 @@ pub fn stitch(m: &mut [u8], s: Shape, port: u32) -> Stitched
         },
         Verdict::Go => {
             let from = geometry::ingress_list(s, port as usize);
-            let k = parts::packet(m, s, lists::first(m, s, from));
+            let k = records::packet(m, s, lists::first(m, s, from));
             let to = parts::mapped(m, s, k.destination as usize);
             let at = geometry::egress_list(s, to as usize, k.queue as usize);
             lists::shift(m, s, from, at);

@@ -10,12 +10,12 @@ use Rattle.ledger.proofs.Places.{cell-lt}
 use Rattle.layout.specs.declared.Shape.{Shape}
 use Rattle.layout.specs.declared.Table.{Table}
 use Rattle.layout.specs.declared.Table.the-variants.{Mapped, Last}
-use Rattle.layout.specs.Tables.{width, cells, all, many, get, put, settingsOf}
-use Rattle.layout.specs.Picture.{slot, tabulate, ledgerIn}
+use Rattle.layout.specs.Tables.{cells, get, put, settingsOf}
+use Rattle.layout.specs.Picture.{tabulate, ledgerIn}
 use Rattle.layout.specs.Access.{Reads}
 use Rattle.memory.specs.Writes.{creditMem}
-use Rattle.memory.proofs.Chains.{getD-table, slot-lt}
-use Rattle.parts.specs.Parts.{InCredits, InRecords, InSlots}
+use Rattle.memory.proofs.Chains.{getD-table}
+use Rattle.parts.specs.Parts.{InCredits}
 
 -- ---- credits: queue q's cell is that of q - 1, and queue 0 has none
 
@@ -55,11 +55,3 @@ module _ (S : Settings) (m : List ℕ) where
   pub mapped-is : (d : ℕ) → d < ids → mapOf (ledgerIn S m) d ≡ get S m Mapped d
   unfolding ledgerIn
   mapped-is d h = getD-table (get S m Mapped) ids d 0 h
-
--- ---- records
-
-pub node-slot : {s : Shape} {x i : ℕ} {m : List ℕ} → InRecords s x m → i ≡ slot (settingsOf s) x → InSlots s i m
-node-slot h e = record { laid = h .laid; long = h .long; inside = rw e (slot-lt _ _ (h .node)) }
-
-pub slot-reads : {k i : ℕ} {s : Shape} {t : Table} {m : List ℕ} → width t ≡ k → many (settingsOf s) t ≡ all (settingsOf s) → InSlots s i m → Reads k s t i m
-slot-reads wide each h = record { laid = h .laid; long = h .long; wide = wide; inside = rw each (h .inside) }

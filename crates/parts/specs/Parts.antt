@@ -1,14 +1,12 @@
 -- What reading and writing the parts of a state that are no lists asks. Assumes nothing.
 use mathlib.Core.Path.{_≡_}
-use mathlib.Core.Bool.{true}
 use mathlib.Core.List.{List}
 use Prim.Native.Nat.{ℕ, _≤_, _<_}
 use lib.ListN.{length}
 use Rattle.ledger.specs.Settings.{size, ids}
-use Rattle.ledger.specs.Ledger.{isNode}
 use Rattle.layout.specs.declared.Shape.{Shape}
 use Rattle.layout.specs.declared.Table.{Table}
-use Rattle.layout.specs.Tables.{width, cells, all, many, settingsOf, Laid}
+use Rattle.layout.specs.Tables.{width, cells, many, settingsOf, Laid}
 
 -- the credit of port p and queue q, in the memory m of a state of shape s
 pub record InCell (s : Shape) (p q : ℕ) (m : List ℕ) : Type 0 where
@@ -34,15 +32,3 @@ pub record InMap (s : Shape) (d : ℕ) (m : List ℕ) : Type 0 where
   pub laid : Laid s
   pub long : size (settingsOf s) ≤ length m
   pub id : d < ids
-
--- the record of node x
-pub record InRecords (s : Shape) (x : ℕ) (m : List ℕ) : Type 0 where
-  pub laid : Laid s
-  pub long : size (settingsOf s) ≤ length m
-  pub node : isNode (settingsOf s) x ≡ true
-
--- element i of the tables of nodes
-pub record InSlots (s : Shape) (i : ℕ) (m : List ℕ) : Type 0 where
-  pub laid : Laid s
-  pub long : size (settingsOf s) ≤ length m
-  pub inside : i < all (settingsOf s)

@@ -31,7 +31,7 @@ fn readiness(m: &[u8], s: Shape, p: usize, q: usize) -> u64
     if q == 0 {
         return 1;
     }
-    let cost = parts::price(m, s, lists::first(m, s, at));
+    let cost = records::price(m, s, lists::first(m, s, at));
     let credit = parts::outward(m, s, p, q);
     if cost as u16 <= credit {
         return 1;
@@ -94,7 +94,7 @@ fn serve(m: &mut [u8], s: Shape, p: usize, q: usize) -> Sent
 {
     let from = geometry::prefetch_list(s, p, q);
     let x = lists::first(m, s, from);
-    let k = parts::packet(m, s, x);
+    let k = records::packet(m, s, x);
     let home = x.port() as usize;
     let cost = k.price as u16;
     let given = parts::arrival(m, s, home, q) + cost;

@@ -1,7 +1,7 @@
--- `parts::record_wide` meets its contract. Assumes nothing.
+-- `records::record_wide` meets its contract. Assumes nothing.
 use borrow.Author.Needs.{needs}
-use Rattle.parts.proofs.record_wide.Statement.{statement}
-use Rattle.parts.proofs.record_wide.Tie as tie
+use Rattle.records.proofs.record_wide.Statement.{statement}
+use Rattle.records.proofs.record_wide.Tie as tie
 
 put2-requires : tie.Need-put2-requires
 put2-requires c κs = search needs

@@ -1,11 +1,11 @@
--- `parts::packet` meets its contract. Assumes nothing.
+-- `records::packet` meets its contract. Assumes nothing.
 use mathlib.Core.Path.{refl}
 use borrow.Author.Needs.{needs}
 use Rattle.layout.specs.Picture.{packetAt}
-use Rattle.parts.specs.Parts.{InSlots}
-use Rattle.parts.proofs.Laws.{node-slot, slot-reads}
-use Rattle.parts.proofs.packet.Statement.{statement}
-use Rattle.parts.proofs.packet.Tie as tie
+use Rattle.records.specs.Records.{InSlots}
+use Rattle.records.proofs.Laws.{node-slot, slot-reads}
+use Rattle.records.proofs.packet.Statement.{statement}
+use Rattle.records.proofs.packet.Tie as tie
 
 inside : (c : tie.After-slot-of) → InSlots (c .before .before .args .s) (c .slot-of .result) (c .before .before .args .m .now)
 inside c = node-slot (c .before .before .pre) (c .slot-of .ensures)

@@ -1,10 +1,10 @@
--- `parts::price` meets its contract. Assumes nothing.
+-- `records::price` meets its contract. Assumes nothing.
 use mathlib.Core.Path.{refl}
 use borrow.Author.Needs.{needs}
 use Rattle.layout.specs.Picture.{packetAt}
-use Rattle.parts.proofs.Laws.{node-slot, slot-reads}
-use Rattle.parts.proofs.price.Statement.{statement}
-use Rattle.parts.proofs.price.Tie as tie
+use Rattle.records.proofs.Laws.{node-slot, slot-reads}
+use Rattle.records.proofs.price.Statement.{statement}
+use Rattle.records.proofs.price.Tie as tie
 
 slot-of-requires : tie.Need-slot-of-requires
 slot-of-requires c κs = search needs

@@ -1,10 +1,10 @@
--- `parts::record` meets its contract. Assumes nothing.
+-- `records::record` meets its contract. Assumes nothing.
 use borrow.Author.Needs.{needs}
-use Rattle.parts.specs.Parts.{InSlots}
+use Rattle.records.specs.Records.{InSlots}
 use Rattle.memory.specs.Writes.{recordMem}
-use Rattle.parts.proofs.Laws.{node-slot}
-use Rattle.parts.proofs.record.Statement.{statement}
-use Rattle.parts.proofs.record.Tie as tie
+use Rattle.records.proofs.Laws.{node-slot}
+use Rattle.records.proofs.record.Statement.{statement}
+use Rattle.records.proofs.record.Tie as tie
 
 abbrev start : tie.After-slot-of → tie.Start
 start c = c .before .before .before
