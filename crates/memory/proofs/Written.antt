@@ -161,11 +161,15 @@ module _ (S : Settings) where
         next-at = λ p i h k. links-get S r (S .ports) (counted S m) p i (le-refl (S .ports)) (simp length-fill long) h k;
       }
         where
+          untouched : (t : Table) (i : ℕ) → i < many S t → turnOf t < turnOf Head → turnOf t ≢ turnOf Setting → turnOf t ≢ turnOf Last
+              → turnOf t ≢ turnOf Arrival → get S (written S m) t i ≡ 0
+          untouched t i h low x y z = from-credited t i h low ∙ unfilled t i h x y z ∙ blank t i h
+
           number : (c : Column) (i : ℕ) → i < tall S c → get S (written S m) (tableOf c) i ≡ starting S c
           number arrival i h = from-credited Arrival i h (omega arith) ∙ fill-get S Arrival _ _ (cells S) (marked S m) i credits-fit (simp length-fill long) h
-          number outward i h = from-credited Outward i h (omega arith) ∙ unfilled Outward i h (omega arith) (omega arith) (omega arith) ∙ blank Outward i h
+          number outward i h = untouched Outward i h (omega arith) (omega arith) (omega arith) (omega arith)
           number last i h =
               from-credited Last i h (omega arith)
               ∙ fill-other S Arrival _ _ (cells S) (marked S m) Last i credits-fit h (omega arith)
               ∙ fill-get S Last _ _ (S .ports) (settled S m) i marks-fit (simp length-fill long) h
-          number mapped i h = from-credited Mapped i h (omega arith) ∙ unfilled Mapped i h (omega arith) (omega arith) (omega arith) ∙ blank Mapped i h
+          number mapped i h = untouched Mapped i h (omega arith) (omega arith) (omega arith) (omega arith)
