@@ -16,7 +16,8 @@ use Rattle.memory.specs.Memory.{state-dec, tested, M}
 use Rattle.memory.specs.Judged.{judged}
 use Rattle.memory.proofs.Judged.{acted-bad}
 use Rattle.memory.proofs.Demands.{off-state}
-use Rattle.rooms.specs.Rooms.{shown, placeRoom}
+use Rattle.ledger.specs.Audit.{placeRoom}
+use Rattle.rooms.specs.Rooms.{shown}
 use Rattle.capi.specs.Size.{sizeFor}
 
 -- ---- ids that are no nodes

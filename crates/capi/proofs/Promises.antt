@@ -16,7 +16,8 @@ use Rattle.memory.specs.Memory.{M}
 use Rattle.memory.specs.Rounds.{roundOn}
 use Rattle.memory.proofs.Square.{refusal-keeps-bytes}
 use Rattle.memory.proofs.Rounds.{refused-round-keeps}
-use Rattle.rooms.specs.Rooms.{numberIn, toldIn, toldRound, entryRoom, recordRoom, sentRoom, readyRoom, placeRoom}
+use Rattle.rooms.specs.Rooms.{numberIn, toldIn, toldRound, entryRoom, recordRoom, sentRoom, readyRoom}
+use Rattle.ledger.specs.Audit.{placeRoom}
 
 -- 0 is no refusal's number: an answer of 0 says that the call was done
 pub never-zero : (no : Refusal) → 1 ≤ numberOf no

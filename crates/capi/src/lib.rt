@@ -11,7 +11,8 @@ ghost use Rattle.ledger.specs.Settings.{settings};
 ghost use Rattle.ledger.specs.Desk.{setup, act};
 ghost use Rattle.memory.specs.Memory.{M};
 ghost use Rattle.memory.specs.Rounds.{roundOn};
-ghost use Rattle.rooms.specs.Rooms.{told, toldIn, toldRound, shown, entryRoom, recordRoom, sentRoom, readyRoom, placeRoom};
+ghost use Rattle.rooms.specs.Rooms.{told, toldIn, toldRound, shown, entryRoom, recordRoom, sentRoom, readyRoom};
+ghost use Rattle.ledger.specs.Audit.{placeRoom};
 ghost use Rattle.capi.specs.Size.{sizeFor};
 
 #[no_mangle]

@@ -1,12 +1,12 @@
 -- The picture: which desk a lent memory shows. Assumes nothing.
 use mathlib.Core.Path.{_≡_}
-use mathlib.Core.Bool.{cond}
+use mathlib.Core.Bool.{Bool, cond, _&&_}
 use mathlib.Core.List.{List, [], _∷_, map}
 use Prim.Native.Nat.{ℕ, zero, suc, _+_, _*_, _%_, _≤_, _<_}
 use lib.ListN.{length}
-use lib.Dec.{eqb}
+use lib.Dec.{eqb, leb}
 use Rattle.numbers.specs.Bytes.{number}
-use Rattle.ledger.specs.Settings.{Settings, row, size}
+use Rattle.ledger.specs.Settings.{Settings, inRows, row, size}
 use Rattle.ledger.specs.Ledger.{owner, index, Packet, bare, tall, Ledger}
 use Rattle.ledger.specs.Sound.{Sound}
 use Rattle.layout.specs.declared.Table.the-variants.{Head, Tail, Count, Next, Length, Stamp, Queue, Dest}
@@ -23,6 +23,10 @@ settingsIn m = record {
   slots = number 2 m 8;
   credit = number 2 m 10;
 }
+
+-- rule (a): the settings are in their rows, and the memory is long enough for a state of them
+abbrev pub opens : List ℕ → Bool
+opens m = inRows (settingsIn m) && leb (size (settingsIn m)) (length m)
 
 -- the element of a node in the tables of nodes
 unfoldable pub slot : Settings → ℕ → ℕ

@@ -111,20 +111,19 @@ module _ (S : Settings) (h : inRows S ≡ true) where
   rows =
       let p = eqb-and (S .ports) 4 _ h in
       let q = eqb-and (S .queues) 24 _ (p .1) in
-      let n = leb-and 1 (S .nodes) _ (q .1) in
-      let m = leb-and (S .nodes) 2048 _ (n .1) in
-      let b = and-right (isBeat (S .beat)) _ (m .1) in
-      let d = leb-and 1 (S .slots) _ b in
-      let k = leb-and (S .slots) 8 _ (d .1) in
+      let n = and-left (inRow S 2) _ (q .1) in
+      let b = and-right (inRow S 2) _ (q .1) in
+      let k = and-right (isBeat (S .beat)) _ b in
+      let d = and-left (inRow S 4) _ k in
       record {
         four-ports = p .0;
         all-queues = q .0;
-        some-nodes = n .0;
-        few-nodes = m .0;
-        is-beat = and-left (isBeat (S .beat)) _ (m .1);
-        some-slots = d .0;
-        few-slots = k .0;
-        low-credit = leb-yes (S .credit) 65535 (k .1);
+        some-nodes = leb-yes 1 (S .nodes) (and-left (leb 1 (S .nodes)) _ n);
+        few-nodes = leb-yes (S .nodes) 2048 (and-right (leb 1 (S .nodes)) _ n);
+        is-beat = and-left (isBeat (S .beat)) _ b;
+        some-slots = leb-yes 1 (S .slots) (and-left (leb 1 (S .slots)) _ d);
+        few-slots = leb-yes (S .slots) 8 (and-right (leb 1 (S .slots)) _ d);
+        low-credit = leb-yes (S .credit) 65535 (and-right (inRow S 4) _ k);
       }
 
   pub this-build : (S .ports ≡ 4) × (S .queues ≡ 24)

@@ -11,5 +11,7 @@ pub mod Rounds
 pub mod Door
 pub mod Order
 pub mod Night
+pub mod Audit
+pub mod Repair
 pub mod Answers
 pub mod Cards

@@ -4,4 +4,6 @@ pub mod Image
 pub mod Memory
 pub mod Demands
 pub mod Rounds
+pub mod Audit
+pub mod Repair
 pub mod Judged

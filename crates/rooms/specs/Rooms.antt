@@ -3,7 +3,7 @@
 use mathlib.Core.List.{List, [], _∷_}
 use Prim.Native.Nat.{ℕ, _/_, _%_, _^_}
 use lib.ListN.{set}
-use Rattle.ledger.specs.Ledger.{Packet, Place, free, ingress, egress, prefetched, portOf}
+use Rattle.ledger.specs.Ledger.{Packet}
 use Rattle.ledger.specs.Calls.{Side, inside, outside, Reply, refused, done, entry, stitched, idle, leaves, word, found}
 
 -- the refusal's number; 0 for any other reply
@@ -92,31 +92,3 @@ readyRoom idle old = old
 readyRoom (leaves k s) old = old
 readyRoom (word w n) old = (w, n)
 readyRoom (found v i) old = old
-
--- ---- where: eight bytes
-
-abbrev pub kindByte : Place → ℕ
-kindByte (free p) = 0
-kindByte (ingress p) = 1
-kindByte (egress p q) = 2
-kindByte (prefetched p q) = 3
-
-abbrev pub queueByte : Place → ℕ
-queueByte (free p) = 0
-queueByte (ingress p) = 0
-queueByte (egress p q) = q
-queueByte (prefetched p q) = q
-
--- entry id (2), list kind (1), port (1), queue or 0 (1), zero (1), position (2)
-unfoldable pub placeBytes : ℕ → Place → ℕ → List ℕ
-placeBytes y v i = y / 256 ∷ y % 256 ∷ kindByte v ∷ portOf v ∷ queueByte v ∷ 0 ∷ i / 256 ∷ i % 256 ∷ []
-
-abbrev pub placeRoom : ℕ → Reply → List ℕ → List ℕ
-placeRoom y (refused n) old = old
-placeRoom y done old = old
-placeRoom y (entry x) old = old
-placeRoom y (stitched b) old = old
-placeRoom y idle old = old
-placeRoom y (leaves k s) old = old
-placeRoom y (word w n) old = old
-placeRoom y (found v i) old = placeBytes y v i

@@ -14,8 +14,8 @@ ghost use mathlib.Core.Path.{_≡_};
 ghost use Prim.Native.Nat.{ℕ};
 ghost use Rattle.ledger.specs.Answers.{numberOf, kindOf, exitOf, sentOf, plainReply, stitchReply, entryReply, turnReply, readyReply, whereReply};
 ghost use Rattle.ledger.specs.Ledger.{portOf};
-ghost use Rattle.rooms.specs.Rooms.{numberIn, entryRoom, recordRoom, sideByte, sentBytes, sentRoom, readyRoom, kindByte, queueByte};
-ghost use Rattle.rooms.specs.Rooms.{placeBytes, placeRoom};
+ghost use Rattle.rooms.specs.Rooms.{numberIn, entryRoom, recordRoom, sideByte, sentBytes, sentRoom, readyRoom};
+ghost use Rattle.ledger.specs.Audit.{kindByte, queueByte, placeBytes, placeRoom};
 
 fn refusal(no: Refusal) -> u32
     ensures { λ r. ⌜ r ≡ numberOf no ⌝ }
@@ -158,7 +158,7 @@ fn queue_byte(list: ListKind) -> u8
     }
 }
 
-fn place_bytes(x: EntryId, list: ListKind, i: u16) -> [u8; 8]
+pub fn place_bytes(x: EntryId, list: ListKind, i: u16) -> [u8; 8]
     ensures { λ r. ⌜ r ≡ placeBytes (x .0) (kindOf list) i ⌝ }
 {
     let id = numbers::bytes2(x.0);

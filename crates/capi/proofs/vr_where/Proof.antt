@@ -5,7 +5,8 @@ use borrow.Author.Needs.{needs}
 use Rattle.ledger.specs.Calls.{whereIs}
 use Rattle.ledger.specs.Desk.{act}
 use Rattle.memory.specs.Memory.{M}
-use Rattle.rooms.specs.Rooms.{shown, placeRoom}
+use Rattle.ledger.specs.Audit.{placeRoom}
+use Rattle.rooms.specs.Rooms.{shown}
 use Rattle.rooms.proofs.Laws.{shows}
 use Rattle.capi.proofs.Laws.{asked-same}
 use Rattle.capi.proofs.vr_where.Statement.{statement}

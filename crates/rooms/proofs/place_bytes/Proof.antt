@@ -1,6 +1,6 @@
 -- `rooms::place_bytes` meets its contract: the eight bytes, two of each number and three from the list. Assumes nothing.
 use borrow.Author.Needs.{needs}
-use Rattle.rooms.specs.Rooms.{placeBytes}
+use Rattle.ledger.specs.Audit.{placeBytes}
 use Rattle.rooms.proofs.place_bytes.Statement.{statement}
 use Rattle.rooms.proofs.place_bytes.Tie as tie
 
