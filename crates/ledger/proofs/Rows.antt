@@ -8,12 +8,9 @@ use native.Mathlib.Decide.{ℕ-discrete}
 use native.Mathlib.Omega.{arith}
 use lib.Dec.{eqb, leb}
 use lib.Count.{ones}
-use Rattle.ledger.specs.Settings.{Settings, isBeat, inRows, row, size}
+use Rattle.ledger.specs.Settings.{Settings, isBeat, inRow, inRows, firstOut, row, size}
 use Rattle.ledger.specs.Sound.{Roomy}
 use Rattle.ledger.proofs.Tests.{is-false, leb-yes, leb-is, eqb-yes, eqb-is, eqb-not, and-left, and-right}
-
-leb-and : (m n : ℕ) (b : Bool) → (leb m n && b) ≡ true → (m ≤ n) × (b ≡ true)
-leb-and m n b e = (leb-yes m n (and-left (leb m n) b e), and-right (leb m n) b e)
 
 eqb-and : (m n : ℕ) (b : Bool) → (eqb m n && b) ≡ true → (m ≡ n) × (b ≡ true)
 eqb-and m n b e = (eqb-yes m n (and-left (eqb m n) b e), and-right (eqb m n) b e)
@@ -143,6 +140,21 @@ module _ (S : Settings) (h : inRows S ≡ true) where
 
 pub rows-not : (S : Settings) → (Rows S → ⊥) → inRows S ≡ false
 rows-not S n = is-false (inRows S) (λ h. n (rows S h))
+
+-- each is in its row exactly if none is the first that is not
+pub rows-out : (S : Settings) → inRows S ≡ eqb (firstOut S) 6
+unfolding inRows firstOut
+rows-out S = go (inRow S 0) (inRow S 1) (inRow S 2) (inRow S 3) (inRow S 4) (inRow S 5)
+  where
+    go : (a b c d e f : Bool)
+        → (a && (b && (c && (d && (e && f))))) ≡ eqb (cond a (cond b (cond c (cond d (cond e (cond f 6 5) 4) 3) 2) 1) 0) 6
+    go false b c d e f = refl
+    go true false c d e f = refl
+    go true true false d e f = refl
+    go true true true false e f = refl
+    go true true true true false f = refl
+    go true true true true true false = refl
+    go true true true true true true = refl
 
 pub size-rises : (S S′ : Settings) → inRows S ≡ true → inRows S′ ≡ true → S .nodes ≤ S′ .nodes → size S ≤ size S′
 size-rises S S′ h h′ k = omega (arith, size-is S h, size-is S′ h′)

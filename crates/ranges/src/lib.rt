@@ -16,10 +16,10 @@ ghost use Rattle.ranges.specs.First.{first};
 ghost use Rattle.ranges.specs.Opening.{opened};
 ghost use Rattle.ranges.specs.Ranges.{low, items, fitsAt, prefetchAt, fewAt, rangesFound, Held, Item};
 
-// What a memory is opened as: rule (a) holds, and the state has this shape; or it doesn't hold.
+// What a memory is opened as: rule (a) holds, and the state has this shape; or it doesn't hold, and this item shows it.
 pub enum Opened {
     Fine(Shape),
-    Wrong,
+    Wrong(usize),
 }
 
 // The settings as they stand in a memory, in their rows or not.
@@ -42,16 +42,17 @@ pub fn open(m: &[u8]) -> Opened
     ensures { λ r. ⌜ r ≡ opened (now (m .entry)) ⌝ }
 {
     if m.len() < 12 {
-        return Opened::Wrong;
+        return Opened::Wrong(6);
     }
     let told = read(m);
-    if !settings::in_rows(told) {
-        return Opened::Wrong;
+    let out = settings::first_out(told);
+    if out < 6 {
+        return Opened::Wrong(out);
     }
     let s = layout::shape_of(told);
     let size = layout::size_of(s);
     if m.len() < size {
-        return Opened::Wrong;
+        return Opened::Wrong(6);
     }
     Opened::Fine(s)
 }

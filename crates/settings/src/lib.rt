@@ -1,6 +1,6 @@
 // The settings, as setup is told them and as a memory holds them, and the one test of their rows.
 ghost use mathlib.Core.Path.{_≡_};
-ghost use Rattle.ledger.specs.Settings.{settings, isBeat, inRows};
+ghost use Rattle.ledger.specs.Settings.{settings, isBeat, inRows, firstOut};
 ghost use Rattle.settings.specs.Told.{toldSettings};
 
 // In their rows or not.
@@ -37,30 +37,40 @@ fn is_beat(b: u32) -> bool
     }
 }
 
-// Whether each setting is in its row of paper 01's table.
+// The first setting, in the order in which a memory has them, that isn't in its row of paper 01's table; 6 where each is.
+pub fn first_out(told: Settings) -> usize
+    ensures { λ r. ⌜ r ≡ firstOut (toldSettings told) ⌝ }
+{
+    if told.ports != 4 {
+        return 0;
+    }
+    if told.queues != 24 {
+        return 1;
+    }
+    if told.nodes < 1 {
+        return 2;
+    }
+    if 2048 < told.nodes {
+        return 2;
+    }
+    if !is_beat(told.beat) {
+        return 3;
+    }
+    if told.slots < 1 {
+        return 4;
+    }
+    if 8 < told.slots {
+        return 4;
+    }
+    if 65535 < told.credit {
+        return 5;
+    }
+    6
+}
+
+// Whether each is.
 pub fn in_rows(told: Settings) -> bool
     ensures { λ r. ⌜ r ≡ inRows (toldSettings told) ⌝ }
 {
-    if told.ports != 4 {
-        return false;
-    }
-    if told.queues != 24 {
-        return false;
-    }
-    if told.nodes < 1 {
-        return false;
-    }
-    if 2048 < told.nodes {
-        return false;
-    }
-    if told.slots < 1 {
-        return false;
-    }
-    if 8 < told.slots {
-        return false;
-    }
-    if 65535 < told.credit {
-        return false;
-    }
-    is_beat(told.beat)
+    first_out(told) == 6
 }

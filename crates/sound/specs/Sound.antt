@@ -21,8 +21,8 @@ use Rattle.fits.specs.declared.NodeRule.the-variants.{OwnPort, OwnQueue, Record
 use Rattle.fits.specs.Fits.{fitsFound}
 use Rattle.paid.specs.Paid.{paidFound}
 use Rattle.paid.specs.Passes.{Payable}
-use Rattle.sound.specs.declared.Broken.{Broken}
-use Rattle.sound.specs.declared.Broken.the-variants.{Whole, A, B, C, D, E, F, G}
+use Rattle.ledger.specs.declared.Broken.{Broken}
+use Rattle.ledger.specs.declared.Broken.the-variants.{Nothing, A, B, C, D, E, F, G}
 use Rattle.sound.specs.declared.Tested.{Tested}
 use Rattle.sound.specs.declared.Tested.the-variants.{State, NoState}
 
@@ -40,7 +40,7 @@ nodesBroken s m =
     (orNext (fitsFound OwnQueue (settingsOf s) m) E
     (orNext (fitsFound Record (settingsOf s) m) F
     (orNext (paidFound (settingsOf s) m) G
-    (Whole s))))
+    Nothing)))
 
 -- (b) to (g)
 unfoldable pub openBroken : Shape → List ℕ → Broken
@@ -48,7 +48,7 @@ openBroken s m = orNext (rangesFound (settingsOf s) m) B (orNext (onceFound (set
 
 abbrev pub brokenBy : Opened → List ℕ → Broken
 brokenBy (Fine s) m = openBroken s m
-brokenBy Wrong m = A
+brokenBy (Wrong i) m = A i
 
 unfoldable pub brokenIn : List ℕ → Broken
 brokenIn m = brokenBy (opened m) m
@@ -68,17 +68,6 @@ testedBy m (no n) = NoState
 
 unfoldable pub testedIn : List ℕ → Tested
 testedIn m = testedBy m (state-dec m)
-
--- the same by the first rule that is broken
-abbrev pub testOf : Broken → Tested
-testOf (Whole s) = State s
-testOf A = NoState
-testOf (B i) = NoState
-testOf (C i) = NoState
-testOf (D i) = NoState
-testOf (E i) = NoState
-testOf (F i) = NoState
-testOf (G i) = NoState
 
 -- ---- what the functions ask
 
