@@ -1,5 +1,6 @@
 -- Which rule a memory breaks first, and whether it is a switch state. Assumes nothing.
 use mathlib.Core.Path.{_≡_}
+use mathlib.Core.Bool.{cond}
 use mathlib.Core.List.{List}
 use Prim.Native.Nat.{ℕ}
 use Rattle.ledger.specs.declared.Finding.{Finding}
@@ -8,12 +9,10 @@ use Rattle.ledger.specs.Settings.{Settings}
 use Rattle.layout.specs.declared.Shape.{Shape}
 use Rattle.layout.specs.Tables.{settingsOf}
 use Rattle.layout.specs.Picture as picture
-use Rattle.layout.specs.Picture.{settingsIn}
+use Rattle.layout.specs.Picture.{settingsIn, opens}
 use Rattle.memory.specs.Ends.{Tidy}
 use Rattle.memory.specs.Memory.{state-dec}
-use Rattle.ranges.specs.declared.Opened.{Opened}
-use Rattle.ranges.specs.declared.Opened.the-variants.{Fine, Wrong}
-use Rattle.ranges.specs.Opening.{shapeFor, opened, Open}
+use Rattle.ranges.specs.Opening.{shapeFor, outAt, Open}
 use Rattle.ranges.specs.Ranges.{rangesFound}
 use Rattle.once.specs.Once.{onceFound}
 use Rattle.fits.specs.declared.NodeRule.{NodeRule}
@@ -34,24 +33,19 @@ orNext whole rule next = next
 orNext (At i) rule next = rule i
 
 -- (d) to (g)
-unfoldable pub nodesBroken : Shape → List ℕ → Broken
-nodesBroken s m =
-    orNext (fitsFound OwnPort (settingsOf s) m) D
-    (orNext (fitsFound OwnQueue (settingsOf s) m) E
-    (orNext (fitsFound Record (settingsOf s) m) F
-    (orNext (paidFound (settingsOf s) m) G
-    Nothing)))
+unfoldable pub nodesBroken : Settings → List ℕ → Broken
+nodesBroken S m =
+    orNext (fitsFound OwnPort S m) D
+    (orNext (fitsFound OwnQueue S m) E
+    (orNext (fitsFound Record S m) F
+    (orNext (paidFound S m) G Nothing)))
 
 -- (b) to (g)
-unfoldable pub openBroken : Shape → List ℕ → Broken
-openBroken s m = orNext (rangesFound (settingsOf s) m) B (orNext (onceFound (settingsOf s) m) C (nodesBroken s m))
-
-abbrev pub brokenBy : Opened → List ℕ → Broken
-brokenBy (Fine s) m = openBroken s m
-brokenBy (Wrong i) m = A i
+unfoldable pub openBroken : Settings → List ℕ → Broken
+openBroken S m = orNext (rangesFound S m) B (orNext (onceFound S m) C (nodesBroken S m))
 
 unfoldable pub brokenIn : List ℕ → Broken
-brokenIn m = brokenBy (opened m) m
+brokenIn m = cond (opens m) (openBroken (settingsIn m) m) (A (outAt m))
 
 -- ---- whether it is a switch state
 
