@@ -7,6 +7,7 @@ pub mod Fill
 pub mod Written
 pub mod Picture
 pub mod Image
+pub mod Repair
 pub mod Square
 pub mod Demands
 pub mod Past
