@@ -18,7 +18,6 @@ use Rattle.ledger.proofs.Tests.{true≢false, leb-yes, leb-is, and-left, and-ri
 use Rattle.ledger.proofs.Rows.{roomy}
 use Rattle.layout.specs.Tables.{get, tableOf}
 use Rattle.layout.specs.Picture.{settingsIn, opens, ledgerIn, State}
-use Rattle.memory.specs.Ends.{Tidy}
 use Rattle.memory.proofs.Chains.{length-tabulate, length-lists}
 use Rattle.ranges.specs.Opening.{outAt}
 use Rattle.ranges.specs.Ranges.{rangesFound}

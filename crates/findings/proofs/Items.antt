@@ -1,15 +1,16 @@
 -- What is found of a rule is its first item, in the words of the definition; and a rule has one first item. Assumes nothing.
 use mathlib.Core.Path.{_≡_, refl, sym, ap, subst, _∙_}
 use mathlib.Core.Logic.{_↔_}
-use mathlib.Core.Bool.{Bool, true, false, cond, _&&_}
+use mathlib.Core.Bool.{Bool, true, false, cond}
 use mathlib.Core.List.{List, [], _∷_, _++_, map, map-append}
 use Prim.Native.Nat.{ℕ, _+_, _-_, _*_, _≤_, _<_}
 use native.Mathlib.Decide.{decLt}
 use native.Mathlib.Omega.{arith}
 use lib.ListN.{length, getD}
 use lib.Dec.{ltb}
-use Rattle.ledger.specs.declared.Finding.the-variants.{At}
-use Rattle.ledger.specs.Settings.{Settings, settingCount, inRows, firstOut, ids, size}
+use Rattle.ledger.specs.declared.Finding.{Finding}
+use Rattle.ledger.specs.declared.Finding.the-variants.{Whole, At}
+use Rattle.ledger.specs.Settings.{Settings, settingCount, inRow, inRows, firstOut, ids, size}
 use Rattle.ledger.specs.Ledger.{Packet, placeOf}
 use Rattle.ledger.specs.Sound.{All, weigh, one, Roomy}
 use Rattle.ledger.specs.Audit.{nodeAt}
@@ -18,9 +19,11 @@ use Rattle.ledger.proofs.Rows.{rows-out}
 use Rattle.layout.specs.Tables.{cells, lists, all}
 use Rattle.layout.specs.Picture.{settingsIn, opens, nodeIn, ledgerIn}
 use Rattle.memory.proofs.Chains.{item-node, length-lists, list-at}
+use Rattle.ranges.specs.First.{first}
 use Rattle.ranges.specs.Opening.{outAt}
 use Rattle.ranges.specs.Ranges.{items, fitsAt, rangesFound}
-use Rattle.ranges.proofs.FirstItem.{first-wrong, first-out, mark-means, entry-means, slots-mean}
+use Rattle.ranges.proofs.First.{first-all}
+use Rattle.ranges.proofs.FirstItem.{first-wrong, foundOr, first-out, mark-means, entry-means, slots-mean}
 use Rattle.once.specs.Once.{onceFound}
 use Rattle.once.proofs.FirstItem.{once-first}
 use Rattle.fits.specs.declared.NodeRule.{NodeRule}
@@ -57,22 +60,25 @@ module _ (m : List ℕ) (shut : opens m ≡ false) where
         before = λ k l. record { in-row = λ i there. absurd (omega arith); long = λ e. absurd (omega arith) };
       }
 
-      out : 2 * settingCount ≤ length m → FirstOf (SettingRight m) (1 + settingCount) (firstOut (settingsIn m))
-      out there =
-          let o = first-out (settingsIn m) in
-          record {
-            inside = omega arith;
-            wrong = λ r. by r (decLt (firstOut (settingsIn m)) settingCount);
-            before = λ k l. record { in-row = λ i h. o .before k (omega arith) l; long = λ e. absurd (omega arith) };
-          }
-        where
-          by : SettingRight m (firstOut (settingsIn m)) → Dec (firstOut (settingsIn m) < settingCount) → ⊥
-          by r (yes h) = true≢false (sym (r .in-row h there) ∙ first-out (settingsIn m) .wrong h)
-          by r (no n) = let e : firstOut (settingsIn m) ≡ settingCount = omega (arith, first-out (settingsIn m) .most) in too-short e (r .long e)
+      row-means : 2 * settingCount ≤ length m → (k : ℕ) → k < settingCount → (inRow (settingsIn m) k ≡ true) ↔ SettingRight m k
+      row-means there k h = (λ t. record { in-row = λ i l. t; long = λ e. absurd (omega arith) }, λ r. r .in-row h there)
+
+      out : 2 * settingCount ≤ length m → (f : Finding) → first (inRow (settingsIn m)) settingCount ≡ f
+          → FirstOf (SettingRight m) (1 + settingCount) (foundOr settingCount f)
+      out there Whole e = record {
+        inside = omega arith;
+        wrong = λ r. too-short (first-out (settingsIn m) ∙ ap (foundOr settingCount) e) (r .long refl);
+        before = λ k l. row-means there k l .0 (first-all (inRow (settingsIn m)) settingCount .0 e k l);
+      }
+      out there (At x) e =
+          let f = first-wrong (inRow (settingsIn m)) (SettingRight m) settingCount (row-means there) x e in
+          record { inside = omega (arith, f .0); wrong = f .1; before = f .2 }
 
       go : (b : Bool) → ltb (length m) (2 * settingCount) ≡ b → FirstOf (SettingRight m) (1 + settingCount) (cond b settingCount (firstOut (settingsIn m)))
       go true t = short (ltb-yes (length m) (2 * settingCount) t)
-      go false t = out (ltb-no (length m) (2 * settingCount) t)
+      go false t =
+          subst (FirstOf (SettingRight m) (1 + settingCount)) (sym (first-out (settingsIn m)))
+          (out (ltb-no (length m) (2 * settingCount) t) (first (inRow (settingsIn m)) settingCount) refl)
 
 module _ (S : Settings) (m : List ℕ) where
   -- ---- (b)
@@ -127,7 +133,6 @@ module _ (S : Settings) (m : List ℕ) where
   pub node-first : (rule : NodeRule) (i : ℕ) → fitsFound rule S m ≡ At i → FirstNode (λ l k. NodeHolds rule S (placeOf S l) k) (ledgerIn S m .lists) i
   node-first rule i e =
       let b = fits-first rule S m i e in
-      let l : ℕ = b .list in
       record {
         list = b .list;
         front = map (nodeIn S m (b .list)) (b .front);

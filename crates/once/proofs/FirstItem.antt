@@ -17,7 +17,7 @@ use Rattle.ledger.specs.Audit.{nodeAt}
 use Rattle.ledger.specs.declared.Finding.the-variants.{At}
 use Rattle.ledger.proofs.Tests.{true≢false, ltb-yes, ltb-no}
 use Rattle.layout.specs.Tables.{lists, all}
-use Rattle.layout.specs.Picture.{slot, nodesOf, tabulate, ledgerIn, Hangs}
+use Rattle.layout.specs.Picture.{nodesOf, tabulate, ledgerIn, Hangs}
 use Rattle.memory.proofs.Chains.{times, shown}
 use Rattle.once.specs.Once.{markAll, right, unmarked, scan, onceFound}
 use Rattle.once.proofs.Means.{length-all, seen, seen-node, node-at, all-adds, all-new, stands, stands-more, right-says, right-is, clear, stands-all}
@@ -78,104 +78,104 @@ module _ (S : Settings) (m : List ℕ) where
 module _
     (S : Settings) (m : List ℕ) (R : Roomy S) (Right : ℕ → Type 0)
     (list-means : (l : ℕ) → l < lists S
-        → Right l ↔ (Hangs S m l × ((y : ℕ) → weigh (one y) (take (suc l) (ledgerIn S m .lists)) ≤ bit (isNode S y))))
+    → Right l ↔ (Hangs S m l × ((y : ℕ) → weigh (one y) (take (suc l) (ledgerIn S m .lists)) ≤ bit (isNode S y))))
     (slot-means : (j : ℕ) → j < all S → Right (lists S + j) ↔ (1 ≤ weigh (one (nodeAt S j)) (ledgerIn S m .lists)))
   where
-  -- the marks after l lists, in which no node stands twice
-  record Marked (l : ℕ) (ms : List ℕ) : Type 0 where
-    fits : length ms ≡ all S
-    count : (y : ℕ) → seen S ms y ≡ stands S m y 0 l
-    most : (y : ℕ) → seen S ms y ≤ bit (isNode S y)
+    -- the marks after l lists, in which no node stands twice
+    record Marked (l : ℕ) (ms : List ℕ) : Type 0 where
+      fits : length ms ≡ all S
+      count : (y : ℕ) → seen S ms y ≡ stands S m y 0 l
+      most : (y : ℕ) → seen S ms y ≤ bit (isNode S y)
 
-  test-means : (l : ℕ) (ms : List ℕ) → l < lists S → Marked l ms → (right S m ms l ≡ true) ↔ Right l
-  test-means l ms h w = (
-    λ e.
-    let r = right-says S m ms l e in
-    list-means l h .1 (
-      r .1,
-      λ y.
-      let a = all-adds S (nodesOf S m l) ms (w .fits) (r .0) y in
-      omega (arith, stands-first S m y l h, a .0, a .1 (w .most y), w .count y),
-    ),
-    λ t.
-    let f = list-means l h .0 t in
-    right-is S m ms l (all-new S (nodesOf S m l) ms (w .fits) (λ y. omega (arith, f .1 y, stands-first S m y l h, w .count y))) (f .0),
-  )
+    test-means : (l : ℕ) (ms : List ℕ) → l < lists S → Marked l ms → (right S m ms l ≡ true) ↔ Right l
+    test-means l ms h w = (
+      λ e.
+          let r = right-says S m ms l e in
+          list-means l h .1 (
+            r .1,
+            λ y.
+                let a = all-adds S (nodesOf S m l) ms (w .fits) (r .0) y in
+                omega (arith, stands-first S m y l h, a .0, a .1 (w .most y), w .count y),
+          ),
+      λ t.
+          let f = list-means l h .0 t in
+          right-is S m ms l (all-new S (nodesOf S m l) ms (w .fits) (λ y. omega (arith, f .1 y, stands-first S m y l h, w .count y))) (f .0),
+    )
 
-  marked-next : (l : ℕ) (ms : List ℕ) → Marked l ms → right S m ms l ≡ true → Marked (suc l) (markAll S ms (nodesOf S m l))
-  marked-next l ms w e =
-      let a = all-adds S (nodesOf S m l) ms (w .fits) (right-says S m ms l e .0) in
-      let k : 0 + l ≡ l = omega arith in
-      record {
-        fits = length-all S (nodesOf S m l) ms ∙ w .fits;
-        count = λ y. omega (arith, a y .0, w .count y, stands-last S m y l 0, ap (λ (i : ℕ). times y (nodesOf S m i)) k);
-        most = λ y. a y .1 (w .most y);
-      }
+    marked-next : (l : ℕ) (ms : List ℕ) → Marked l ms → right S m ms l ≡ true → Marked (suc l) (markAll S ms (nodesOf S m l))
+    marked-next l ms w e =
+        let a = all-adds S (nodesOf S m l) ms (w .fits) (right-says S m ms l e .0) in
+        let k : 0 + l ≡ l = omega arith in
+        record {
+          fits = length-all S (nodesOf S m l) ms ∙ w .fits;
+          count = λ y. omega (arith, a y .0, w .count y, stands-last S m y l 0, ap (λ (i : ℕ). times y (nodesOf S m i)) k);
+          most = λ y. a y .1 (w .most y);
+        }
 
-  -- x is the first that is not right, of those from l on
-  record Stops (l x : ℕ) : Type 0 where
-    inside : x < lists S + all S
-    wrong : Right x → ⊥
-    before : (k : ℕ) → l ≤ k → k < x → Right k
+    -- x is the first that is not right, of those from l on
+    record Stops (l x : ℕ) : Type 0 where
+      inside : x < lists S + all S
+      wrong : Right x → ⊥
+      before : (k : ℕ) → l ≤ k → k < x → Right k
 
-  -- a mark says how often its node stands in all lists
-  mark-is : (ms : List ℕ) → Marked (lists S) ms → (j : ℕ) → j < all S → getD ms j 0 ≡ weigh (one (nodeAt S j)) (ledgerIn S m .lists)
-  mark-is ms w j h =
-      let n = node-at S R j h in
-      omega (
-        arith,
-        ap (λ (i : ℕ). getD ms i 0) (n .1),
-        seen-node S ms (nodeAt S j) (n .0),
-        w .count (nodeAt S j),
-        stands-all S m (nodeAt S j),
-      )
+    -- a mark says how often its node stands in all lists
+    mark-is : (ms : List ℕ) → Marked (lists S) ms → (j : ℕ) → j < all S → getD ms j 0 ≡ weigh (one (nodeAt S j)) (ledgerIn S m .lists)
+    mark-is ms w j h =
+        let n = node-at S R j h in
+        omega (
+          arith,
+          ap (λ (i : ℕ). getD ms i 0) (n .1),
+          seen-node S ms (nodeAt S j) (n .0),
+          w .count (nodeAt S j),
+          stands-all S m (nodeAt S j),
+        )
 
-  nodes-stop : (ms : List ℕ) (x : ℕ) → Marked (lists S) ms → unmarked (lists S) ms ≡ At x → Stops (lists S) x
-  nodes-stop ms x w e =
-      let u = unset ms (lists S) x e in
-      let low : u .at < all S = omega (arith, u .inside, w .fits) in
-      record {
-        inside = omega arith;
-        wrong = λ r. omega (arith, slot-means (u .at) low .0 (subst Right (u .is) r), mark-is ms w (u .at) low, u .wrong);
-        before = λ k below above.
-            let j : ℕ = k - lists S in
-            let under : j < u .at = omega arith in
-            let inside : j < all S = omega arith in
-            let back : lists S + j ≡ k = omega arith in
-            subst Right back (slot-means j inside .1 (omega (arith, mark-is ms w j inside, u .before j under)));
-      }
+    nodes-stop : (ms : List ℕ) (x : ℕ) → Marked (lists S) ms → unmarked (lists S) ms ≡ At x → Stops (lists S) x
+    nodes-stop ms x w e =
+        let u = unset ms (lists S) x e in
+        let low : u .at < all S = omega (arith, u .inside, w .fits) in
+        record {
+          inside = omega arith;
+          wrong = λ r. omega (arith, slot-means (u .at) low .0 (subst Right (u .is) r), mark-is ms w (u .at) low, u .wrong);
+          before = λ k below above.
+              let j : ℕ = k - lists S in
+              let under : j < u .at = omega arith in
+              let inside : j < all S = omega arith in
+              let back : lists S + j ≡ k = omega arith in
+              subst Right back (slot-means j inside .1 (omega (arith, mark-is ms w j inside, u .before j under)));
+        }
 
-  scan-stops : (n l : ℕ) (ms : List ℕ) (x : ℕ) → l + n ≡ lists S → Marked l ms → scan S m ms l n ≡ At x → Stops l x
-  unfolding scan
-  scan-stops zero l ms x h w e =
-      let p : l ≡ lists S = omega arith in
-      subst (λ (k : ℕ). Stops k x) (sym p)
-      (nodes-stop ms x (subst (λ (k : ℕ). Marked k ms) p w) (ap (λ (k : ℕ). unmarked k ms) (sym p) ∙ e))
-  scan-stops (suc n) l ms x h w e = go (right S m ms l) refl e (scan-stops n (suc l) (markAll S ms (nodesOf S m l)) x (omega arith))
-    where
-      inside : l < lists S
-      inside = omega arith
+    scan-stops : (n l : ℕ) (ms : List ℕ) (x : ℕ) → l + n ≡ lists S → Marked l ms → scan S m ms l n ≡ At x → Stops l x
+    unfolding scan
+    scan-stops zero l ms x h w e =
+        let p : l ≡ lists S = omega arith in
+        subst (λ (k : ℕ). Stops k x) (sym p)
+        (nodes-stop ms x (subst (λ (k : ℕ). Marked k ms) p w) (ap (λ (k : ℕ). unmarked k ms) (sym p) ∙ e))
+    scan-stops (suc n) l ms x h w e = go (right S m ms l) refl e (scan-stops n (suc l) (markAll S ms (nodesOf S m l)) x (omega arith))
+      where
+        inside : l < lists S
+        inside = omega arith
 
-      later : right S m ms l ≡ true → Stops (suc l) x → (k : ℕ) → l ≤ k → k < x → Dec (k ≡ l) → Right k
-      later p s k low high (yes q) = subst Right (sym q) (test-means l ms inside w .0 p)
-      later p s k low high (no q) = s .before k (omega arith) high
+        later : right S m ms l ≡ true → Stops (suc l) x → (k : ℕ) → l ≤ k → k < x → Dec (k ≡ l) → Right k
+        later p s k low high (yes q) = subst Right (sym q) (test-means l ms inside w .0 p)
+        later p s k low high (no q) = s .before k (omega arith) high
 
-      go : (b : Bool) → right S m ms l ≡ b → cond b (scan S m (markAll S ms (nodesOf S m l)) (suc l) n) (At l) ≡ At x
-          → (Marked (suc l) (markAll S ms (nodesOf S m l)) → scan S m (markAll S ms (nodesOf S m l)) (suc l) n ≡ At x → Stops (suc l) x) → Stops l x
-      go true p d f =
-          let s = f (marked-next l ms w p) d in
-          record { inside = s .inside; wrong = s .wrong; before = λ k low high. later p s k low high (ℕ-discrete k l) }
-      go false p d f =
-          let q : l ≡ x = cc in
-          record {
-            inside = omega (arith, inside);
-            wrong = λ r. true≢false (sym (test-means l ms inside w .1 (subst Right (sym q) r)) ∙ p);
-            before = λ k low high. absurd (omega arith);
-          }
+        go : (b : Bool) → right S m ms l ≡ b → cond b (scan S m (markAll S ms (nodesOf S m l)) (suc l) n) (At l) ≡ At x
+            → (Marked (suc l) (markAll S ms (nodesOf S m l)) → scan S m (markAll S ms (nodesOf S m l)) (suc l) n ≡ At x → Stops (suc l) x) → Stops l x
+        go true p d f =
+            let s = f (marked-next l ms w p) d in
+            record { inside = s .inside; wrong = s .wrong; before = λ k low high. later p s k low high (ℕ-discrete k l) }
+        go false p d f =
+            let q : l ≡ x = cc in
+            record {
+              inside = omega (arith, inside);
+              wrong = λ r. true≢false (sym (test-means l ms inside w .1 (subst Right (sym q) r)) ∙ p);
+              before = λ k low high. absurd (omega arith);
+            }
 
-  pub once-first : (x : ℕ) → onceFound S m ≡ At x → (x < lists S + all S) × (Right x → ⊥) × ((k : ℕ) → k < x → Right k)
-  unfolding onceFound stands
-  once-first x e =
-      let w : Marked 0 (replicate (all S) 0) = record { fits = length-replicate (all S) 0; count = clear S m; most = λ y. omega (arith, clear S m y) } in
-      let s = scan-stops (lists S) 0 (replicate (all S) 0) x (omega arith) w e in
-      (s .inside, s .wrong, λ k h. s .before k (omega arith) h)
+    pub once-first : (x : ℕ) → onceFound S m ≡ At x → (x < lists S + all S) × (Right x → ⊥) × ((k : ℕ) → k < x → Right k)
+    unfolding onceFound stands
+    once-first x e =
+        let w : Marked 0 (replicate (all S) 0) = record { fits = length-replicate (all S) 0; count = clear S m; most = λ y. omega (arith, clear S m y) } in
+        let s = scan-stops (lists S) 0 (replicate (all S) 0) x (omega arith) w e in
+        (s .inside, s .wrong, λ k h. s .before k (omega arith) h)

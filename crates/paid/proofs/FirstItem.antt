@@ -21,9 +21,9 @@ use Rattle.paid.proofs.Owing.{at-cell}
 module _ (S : Settings) (m : List ℕ) (R : Roomy S) (P : Payable S m) where
   pub cell-means : (c : ℕ) → c < cells S
       → (settledAt S m (sumsOf S m) c ≡ true)
-          ↔ (arrivalOf S (ledgerIn S m) (c / (S .queues - 1)) (suc (c % (S .queues - 1)))
-              + weigh (owed S (c / (S .queues - 1)) (suc (c % (S .queues - 1)))) (ledgerIn S m .lists)
-              ≡ S .credit)
+      ↔ (arrivalOf S (ledgerIn S m) (c / (S .queues - 1)) (suc (c % (S .queues - 1)))
+      + weigh (owed S (c / (S .queues - 1)) (suc (c % (S .queues - 1)))) (ledgerIn S m .lists)
+      ≡ S .credit)
   unfolding settledAt cell
   cell-means c h =
       let wide : 0 < S .queues - 1 = omega (arith, R .some-queues) in

@@ -8,6 +8,7 @@ use native.Mathlib.Decide.{ℕ-discrete}
 use native.Mathlib.Omega.{arith}
 use lib.ListN.{length, getD}
 use lib.Dec.{ltb, leb}
+use Rattle.ledger.specs.declared.Finding.{Finding}
 use Rattle.ledger.specs.declared.Finding.the-variants.{Whole, At}
 use Rattle.ledger.specs.Settings.{Settings, settingCount, inRow, outFrom, firstOut, ids}
 use Rattle.ledger.specs.Ledger.{prefetched, Column, last, mapped, tall, bound, listAt, lastOf, mapOf}
@@ -15,19 +16,19 @@ use Rattle.ledger.proofs.Tests.{true≢false, ltb-yes, ltb-is, leb-yes, leb-is}
 use Rattle.layout.specs.declared.Table.the-variants.{Count}
 use Rattle.layout.specs.Tables.{tableOf, get}
 use Rattle.layout.specs.Picture.{ledgerIn}
-use Rattle.memory.proofs.Chains.{getD-table, list-length}
+use Rattle.memory.proofs.Chains.{list-length}
 use Rattle.ranges.specs.First.{firstFrom, first}
-use Rattle.ranges.specs.Ranges.{prefetchAt, low, fitsAt}
-use Rattle.ranges.proofs.Items.{fits-number, fits-list, prefetch-lt}
+use Rattle.ranges.specs.Ranges.{prefetchAt, fitsAt}
+use Rattle.ranges.proofs.Items.{fits-number, fits-list, prefetch-lt, shown}
 
 -- ---- a search that stops
 
 -- of the numbers from i on and below e, x is the first that does not pass
-pub record Stops (ok : ℕ → Bool) (i e x : ℕ) : Type 0 where
-  pub low : i ≤ x
-  pub inside : x < e
-  pub wrong : ok x ≡ false
-  pub before : (k : ℕ) → i ≤ k → k < x → ok k ≡ true
+record Stops (ok : ℕ → Bool) (i e x : ℕ) : Type 0 where
+  low : i ≤ x
+  inside : x < e
+  wrong : ok x ≡ false
+  before : (k : ℕ) → i ≤ k → k < x → ok k ≡ true
 
 from-stops : (ok : ℕ → Bool) (n i x : ℕ) → firstFrom ok i n ≡ At x → Stops ok i (i + n) x
 unfolding firstFrom
@@ -55,46 +56,36 @@ first-wrong ok Right n means x e =
     let h : x < n = omega arith in
     (h, λ r. true≢false (sym (means x h .1 r) ∙ s .wrong), λ k l. means k (omega arith) .0 (s .before k (omega arith) l))
 
--- ---- rule (a): the first of n settings from i on that is out of its row, or the number after them
+-- ---- rule (a): the first setting that is out of its row, or the number after them
 
-pub record Out (S : Settings) (i e x : ℕ) : Type 0 where
-  pub low : i ≤ x
-  pub most : x ≤ e
-  pub wrong : x < e → inRow S x ≡ false
-  pub before : (k : ℕ) → i ≤ k → k < x → inRow S k ≡ true
+abbrev pub foundOr : ℕ → Finding → ℕ
+foundOr n Whole = n
+foundOr n (At x) = x
 
-out-from : (S : Settings) (n i : ℕ) → Out S i (i + n) (outFrom S i n)
-out-from S zero i = record { low = omega arith; most = omega arith; wrong = λ h. absurd (omega arith); before = λ k below above. absurd (omega arith) }
-out-from S (suc n) i = go (inRow S i) refl (out-from S n (suc i))
+out-from : (S : Settings) (n i : ℕ) → outFrom S i n ≡ foundOr (i + n) (firstFrom (inRow S) i n)
+unfolding firstFrom
+out-from S zero i = omega arith
+out-from S (suc n) i = go (inRow S i) (out-from S n (suc i))
   where
-    later : {x : ℕ} → inRow S i ≡ true → Out S (suc i) (suc i + n) x → (k : ℕ) → i ≤ k → k < x → Dec (k ≡ i) → inRow S k ≡ true
-    later t s k below above (yes p) = ap (inRow S) p ∙ t
-    later t s k below above (no p) = s .before k (omega arith) above
+    next : suc i + n ≡ i + suc n
+    next = omega arith
 
-    go : (b : Bool) → inRow S i ≡ b → Out S (suc i) (suc i + n) (outFrom S (suc i) n) → Out S i (i + suc n) (cond b (outFrom S (suc i) n) i)
-    go true t s = record {
-      low = omega arith;
-      most = omega arith;
-      wrong = λ h. s .wrong (omega arith);
-      before = λ k below above. later t s k below above (ℕ-discrete k i);
-    }
-    go false t s = record { low = omega arith; most = omega arith; wrong = λ h. t; before = λ k below above. absurd (omega arith) }
+    go : (b : Bool) → outFrom S (suc i) n ≡ foundOr (suc i + n) (firstFrom (inRow S) (suc i) n)
+        → cond b (outFrom S (suc i) n) i ≡ foundOr (i + suc n) (cond b (firstFrom (inRow S) (suc i) n) (At i))
+    go true e = e ∙ ap (λ (k : ℕ). foundOr k (firstFrom (inRow S) (suc i) n)) next
+    go false e = refl
 
-pub first-out : (S : Settings) → Out S 0 settingCount (firstOut S)
+pub first-out : (S : Settings) → firstOut S ≡ foundOr settingCount (first (inRow S) settingCount)
 unfolding firstOut
 first-out S = out-from S settingCount 0
 
 -- ---- rule (b): the three kinds of items
 
 module _ (S : Settings) (m : List ℕ) where
-  shown : (c : Column) (i : ℕ) → i < tall S c → getD (ledgerIn S m .numbers c) i 0 ≡ get S m (tableOf c) i
-  unfolding ledgerIn
-  shown c i h = getD-table (get S m (tableOf c)) (tall S c) i 0 h
-
   -- the test of a number is that it is below its column's bound
   number : (c : Column) (i k : ℕ) → i < tall S c → fitsAt S m k ≡ ltb (get S m (tableOf c) i) (bound S c)
       → (fitsAt S m k ≡ true) ↔ (getD (ledgerIn S m .numbers c) i 0 < bound S c)
-  number c i k h e = (λ t. rw (shown c i h) (ltb-yes _ _ (sym e ∙ t)), λ l. e ∙ ltb-is _ _ (rw (shown c i h) at l))
+  number c i k h e = (λ t. rw (shown S m c i h) (ltb-yes _ _ (sym e ∙ t)), λ l. e ∙ ltb-is _ _ (rw (shown S m c i h) at l))
 
   pub mark-means : (p : ℕ) → p < S .ports → (fitsAt S m p ≡ true) ↔ (lastOf (ledgerIn S m) p < S .queues)
   mark-means p h = number last p p h (fits-number S m [] (mapped ∷ []) last refl p p (omega arith) h)
