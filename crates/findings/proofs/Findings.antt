@@ -13,9 +13,8 @@ use Rattle.ledger.specs.declared.Broken.{Broken}
 use Rattle.ledger.specs.declared.Broken.the-variants.{Nothing, A, B, C, D, E, F, G}
 use Rattle.ledger.specs.Settings.{inRows, size}
 use Rattle.ledger.specs.Ledger.{tall}
-use Rattle.ledger.specs.Sound.{Shaped, Roomy}
+use Rattle.ledger.specs.Sound.{Shaped}
 use Rattle.ledger.proofs.Tests.{true≢false, leb-yes, leb-is, and-left, and-right}
-use Rattle.ledger.proofs.Rows.{roomy}
 use Rattle.layout.specs.Tables.{get, tableOf}
 use Rattle.layout.specs.Picture.{settingsIn, opens, ledgerIn, State}
 use Rattle.memory.proofs.Chains.{length-tabulate, length-lists}
@@ -23,16 +22,17 @@ use Rattle.ranges.specs.Opening.{outAt}
 use Rattle.ranges.specs.Ranges.{rangesFound}
 use Rattle.ranges.proofs.Items.{ranges-means}
 use Rattle.once.specs.Once.{onceFound}
-use Rattle.once.proofs.Means.{found-whole, whole-found}
+use Rattle.once.proofs.Means.{found-whole}
 use Rattle.fits.specs.declared.NodeRule.the-variants.{OwnPort, OwnQueue, Record}
 use Rattle.fits.specs.Fits.{fitsFound}
-use Rattle.fits.proofs.Means.{none, fits-means}
+use Rattle.fits.proofs.Means.{fits-means}
 use Rattle.paid.specs.Paid.{paidFound}
 use Rattle.paid.specs.Passes.{Payable}
 use Rattle.paid.proofs.Owing.{paid-means}
 use Rattle.sound.specs.Sound.{orNext, nodesBroken, openBroken, brokenIn}
 use Rattle.findings.specs.Findings.{Letter, rule-a, rule-b, rule-c, rule-d, rule-e, rule-f, rule-g, letter#, ledgerOf, Holds, FirstItem, Finds, Means}
 use Rattle.findings.proofs.Items.{setting-first, range-first, list-first, node-first, cell-first, first-one, node-one}
+use Rattle.findings.proofs.Shows.{room, item-shows}
 
 -- ---- letters and their numbers
 
@@ -116,14 +116,11 @@ module _ (m : List ℕ) where
 
   -- a rule is broken where something is found, and the next are asked where nothing is
   ask : (r : Letter) (f : Finding) (rule : ℕ → Broken) (next : Broken) → ((i : ℕ) → Finds r i m → Means (rule i) m) → Before (letter# r)
-      → (f ≡ whole) ↔ Holds r m → ((i : ℕ) → f ≡ At i → FirstItem r m i) → (Before (suc (letter# r)) → Means next m) → Means (orNext f rule next) m
-  ask r whole rule next says b means item rest = rest (one-more r b (means .0 refl))
-  ask r (At i) rule next says b means item rest = says i (record { before = b; broken = λ h. none i (means .1 h); first = item i refl })
+      → (f ≡ whole → Holds r m) → ((i : ℕ) → f ≡ At i → FirstItem r m i) → (Before (suc (letter# r)) → Means next m) → Means (orNext f rule next) m
+  ask r whole rule next says b means item rest = rest (one-more r b (means refl))
+  ask r (At i) rule next says b means item rest = says i (record { before = b; broken = item-shows m r i b (item i refl); first = item i refl })
 
   module _ (o : opens m ≡ true) where
-    room : Roomy (settingsIn m)
-    room = roomy (settingsIn m) (and-left (inRows (settingsIn m)) _ o)
-
     payable : Before 7 → Payable (settingsIn m) m
     payable b =
         let c = b rule-c (omega arith) in
@@ -135,23 +132,23 @@ module _ (m : List ℕ) where
     from-g : Before 7 → Means (orNext (paidFound (settingsIn m) m) G Nothing) m
     from-g b =
         let S = settingsIn m in
-        ask rule-g (paidFound S m) G Nothing (λ i f. f) b (paid-means S m room (payable b)) (cell-first S m room (payable b))
+        ask rule-g (paidFound S m) G Nothing (λ i f. f) b (paid-means S m (room m o) (payable b) .0) (cell-first S m (room m o) (payable b))
         (λ h. holds-state (λ q. h q (omega (arith, numbered q .high))))
 
     from-d : Before 4 → Means (nodesBroken (settingsIn m) m) m
     unfolding nodesBroken
     from-d b =
         let S = settingsIn m in
-        ask rule-d (fitsFound OwnPort S m) D _ (λ i f. f) b (fits-means OwnPort S m) (node-first S m OwnPort)
-        (λ b. ask rule-e (fitsFound OwnQueue S m) E _ (λ i f. f) b (fits-means OwnQueue S m) (node-first S m OwnQueue)
-        (λ b. ask rule-f (fitsFound Record S m) F _ (λ i f. f) b (fits-means Record S m) (node-first S m Record) from-g))
+        ask rule-d (fitsFound OwnPort S m) D _ (λ i f. f) b (fits-means OwnPort S m .0) (node-first S m OwnPort)
+        (λ b. ask rule-e (fitsFound OwnQueue S m) E _ (λ i f. f) b (fits-means OwnQueue S m .0) (node-first S m OwnQueue)
+        (λ b. ask rule-f (fitsFound Record S m) F _ (λ i f. f) b (fits-means Record S m .0) (node-first S m Record) from-g))
 
     from-b : Before 2 → Means (openBroken (settingsIn m) m) m
     unfolding openBroken
     from-b b =
         let S = settingsIn m in
-        ask rule-b (rangesFound S m) B _ (λ i f. f) b (ranges-means S m room) (range-first S m room)
-        (λ b. ask rule-c (onceFound S m) C _ (λ i f. f) b (found-whole S m, whole-found S m room) (list-first S m room) from-d)
+        ask rule-b (rangesFound S m) B _ (λ i f. f) b (ranges-means S m (room m o) .0) (range-first S m (room m o))
+        (λ b. ask rule-c (onceFound S m) C _ (λ i f. f) b (found-whole S m) (list-first S m (room m o)) from-d)
 
   -- ---- what is found means what the definition says
 

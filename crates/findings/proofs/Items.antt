@@ -164,7 +164,7 @@ first-one {Right} {n} {i} {j} f g = go (decLt i j) (decLt j i)
     go (no h) (yes k) = absurd (g .wrong (f .before j k))
     go (no h) (no k) = omega arith
 
-All-middle : (P : Packet → Type 0) (xs : List Packet) (k : Packet) (ys : List Packet) → All P (xs ++ (k ∷ ys)) → P k
+pub All-middle : (P : Packet → Type 0) (xs : List Packet) (k : Packet) (ys : List Packet) → All P (xs ++ (k ∷ ys)) → P k
 All-middle P [] k ys a = a .0
 All-middle P (x ∷ xs) k ys a = All-middle P xs k ys (a .1)
 
