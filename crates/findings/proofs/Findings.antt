@@ -11,15 +11,16 @@ use Rattle.ledger.specs.declared.Finding.{Finding}
 use Rattle.ledger.specs.declared.Finding.the-variants.{Whole as whole, At}
 use Rattle.ledger.specs.declared.Broken.{Broken}
 use Rattle.ledger.specs.declared.Broken.the-variants.{Nothing, A, B, C, D, E, F, G}
-use Rattle.ledger.specs.Settings.{inRows, size}
+use Rattle.ledger.specs.Settings.{size}
 use Rattle.ledger.specs.Ledger.{tall}
 use Rattle.ledger.specs.Sound.{Shaped}
-use Rattle.ledger.proofs.Tests.{true≢false, leb-yes, leb-is, and-left, and-right}
+use Rattle.ledger.proofs.Tests.{true≢false, leb-is}
 use Rattle.layout.specs.Tables.{get, tableOf}
 use Rattle.layout.specs.Picture.{settingsIn, opens, ledgerIn, State}
 use Rattle.memory.proofs.Chains.{length-tabulate, length-lists}
 use Rattle.ranges.specs.Opening.{outAt}
 use Rattle.ranges.specs.Ranges.{rangesFound}
+use Rattle.ranges.proofs.Opening.{opens-means}
 use Rattle.ranges.proofs.Items.{ranges-means}
 use Rattle.once.specs.Once.{onceFound}
 use Rattle.once.proofs.Means.{found-whole}
@@ -84,10 +85,10 @@ module _ (m : List ℕ) where
 
   holds-state : ((r : Letter) → Holds r m) → State m
   holds-state h = record {
-    long = leb-yes _ _ (and-right (inRows (settingsIn m)) _ (h rule-a));
+    long = opens-means m (h rule-a) .1;
     hangs = h rule-c .0;
     sound = record {
-      rows = and-left (inRows (settingsIn m)) _ (h rule-a);
+      rows = opens-means m (h rule-a) .0;
       orderly = record {
         shaped = shaped;
         ranges = h rule-b;
@@ -125,7 +126,7 @@ module _ (m : List ℕ) where
     payable b =
         let c = b rule-c (omega arith) in
         record {
-          tidy = record { long = leb-yes _ _ (and-right (inRows (settingsIn m)) _ o); hangs = c .0; once = λ y. omega (arith, c .1 y) };
+          tidy = record { long = opens-means m o .1; hangs = c .0; once = λ y. omega (arith, c .1 y) };
           proper = b rule-f (omega arith);
         }
 

@@ -13,12 +13,13 @@ use Rattle.ledger.specs.Ledger.{Packet, last, mapped, Ledger}
 use Rattle.ledger.specs.Ready.{bit}
 use Rattle.ledger.specs.Sound.{All, Everywhere, weigh, InRange, one, Once, Roomy}
 use Rattle.ledger.specs.Audit.{nodeAt}
-use Rattle.ledger.proofs.Tests.{leb-yes, eqb-yes, and-left, and-right}
+use Rattle.ledger.proofs.Tests.{eqb-yes}
 use Rattle.ledger.proofs.Rows.{rows-out, roomy}
 use Rattle.layout.specs.Tables.{lists, all}
 use Rattle.layout.specs.Picture.{settingsIn, opens, ledgerIn, Hangs}
 use Rattle.ranges.specs.First.{first}
 use Rattle.ranges.proofs.First.{first-all}
+use Rattle.ranges.proofs.Opening.{opens-means}
 use Rattle.ranges.proofs.FirstItem.{first-wrong, foundOr, first-out}
 use Rattle.once.proofs.Means.{node-at}
 use Rattle.findings.specs.Findings.{Letter, rule-a, rule-b, rule-c, rule-d, rule-e, rule-f, rule-g, letter#, ledgerOf, Holds, FirstItem}
@@ -40,8 +41,8 @@ each-row S r = go (first (inRow S) settingCount) refl
 
 setting-right : (m : List ℕ) → opens m ≡ true → (i : ℕ) → SettingRight m i
 setting-right m o i = record {
-  in-row = λ h there. each-row (settingsIn m) (and-left (inRows (settingsIn m)) _ o) i h;
-  long = λ e. leb-yes _ _ (and-right (inRows (settingsIn m)) _ o);
+  in-row = λ h there. each-row (settingsIn m) (opens-means m o .0) i h;
+  long = λ e. opens-means m o .1;
 }
 
 -- ---- (b), (c), (d), (e), (f) and (g)
@@ -83,7 +84,7 @@ module _ (S : Settings) (R : Roomy S) where
 
 -- what (a) gives to the rules after it
 pub room : (m : List ℕ) → opens m ≡ true → Roomy (settingsIn m)
-room m o = roomy (settingsIn m) (and-left (inRows (settingsIn m)) _ o)
+room m o = roomy (settingsIn m) (opens-means m o .0)
 
 pub item-shows : (m : List ℕ) (r : Letter) (i : ℕ) → ((q : Letter) → letter# q < letter# r → Holds q m) → FirstItem r m i → Holds r m → ⊥
 item-shows m rule-a i b f h = f .wrong (setting-right m h i)
