@@ -12,6 +12,9 @@ use Rattle.ledger.specs.Settings.{Settings, isBeat, inRow, inRows, first
 use Rattle.ledger.specs.Sound.{Roomy}
 use Rattle.ledger.proofs.Tests.{is-false, leb-yes, leb-is, eqb-yes, eqb-is, eqb-not, and-left, and-right}
 
+leb-and : (m n : ℕ) (b : Bool) → (leb m n && b) ≡ true → (m ≤ n) × (b ≡ true)
+leb-and m n b e = (leb-yes m n (and-left (leb m n) b e), and-right (leb m n) b e)
+
 eqb-and : (m n : ℕ) (b : Bool) → (eqb m n && b) ≡ true → (m ≡ n) × (b ≡ true)
 eqb-and m n b e = (eqb-yes m n (and-left (eqb m n) b e), and-right (eqb m n) b e)
 
@@ -108,18 +111,18 @@ module _ (S : Settings) (h : inRows S ≡ true) where
   rows =
       let p = eqb-and (S .ports) 4 _ h in
       let q = eqb-and (S .queues) 24 _ (p .1) in
-      let n = and-left (inRow S 2) _ (q .1) in
+      let n = leb-and 1 (S .nodes) _ (and-left (inRow S 2) _ (q .1)) in
       let b = and-right (inRow S 2) _ (q .1) in
       let k = and-right (isBeat (S .beat)) _ b in
-      let d = and-left (inRow S 4) _ k in
+      let d = leb-and 1 (S .slots) _ (and-left (inRow S 4) _ k) in
       record {
         four-ports = p .0;
         all-queues = q .0;
-        some-nodes = leb-yes 1 (S .nodes) (and-left (leb 1 (S .nodes)) _ n);
-        few-nodes = leb-yes (S .nodes) 2048 (and-right (leb 1 (S .nodes)) _ n);
+        some-nodes = n .0;
+        few-nodes = leb-yes (S .nodes) 2048 (n .1);
         is-beat = and-left (isBeat (S .beat)) _ b;
-        some-slots = leb-yes 1 (S .slots) (and-left (leb 1 (S .slots)) _ d);
-        few-slots = leb-yes (S .slots) 8 (and-right (leb 1 (S .slots)) _ d);
+        some-slots = d .0;
+        few-slots = leb-yes (S .slots) 8 (d .1);
         low-credit = leb-yes (S .credit) 65535 (and-right (inRow S 4) _ k);
       }
 
