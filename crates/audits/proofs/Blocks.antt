@@ -10,7 +10,7 @@ use native.Mathlib.Decide.{ℕ-discrete}
 use native.Mathlib.Omega.{arith}
 use lib.ListN.{length, getD, drop}
 use Rattle.ledger.specs.Settings.{Settings}
-use Rattle.ledger.specs.Ledger.{isNode, bare, Place, placeOf}
+use Rattle.ledger.specs.Ledger.{isNode, Packet, bare, Place, placeOf}
 use Rattle.ledger.specs.Ready.{bit}
 use Rattle.ledger.specs.Calls.{position, which}
 use Rattle.ledger.specs.Sound.{All}
@@ -165,8 +165,10 @@ module _ (S : Settings) where
                 → block (slot S y) (toldLists S m (suc l) n next) ≡ placeBytes y (placeOf S a) k
             go (no d) rec = rec (omega arith) (omega arith) (omega arith) next wide
             go (yes d) rec =
+                let e : 0 + k ≡ k = omega arith in
                 lists-miss (suc l) n (omega arith) next wide (λ b c f. nowhere-else b (λ p. omega arith) f)
                 ∙ rw d (nodes-meet y node (placeOf S a) 0 (nodesOf S m a) (members S m (state-tidy S m s) a inside) room w most k short there)
+                ∙ ap (placeBytes y (placeOf S a)) e
 
       -- it stands where `where` finds it, so after the walk of all lists its block tells that
       all-meet : (room : List ℕ) → Wide room
@@ -179,8 +181,11 @@ module _ (S : Settings) where
           let t = stands y ls (omega (arith, s .sound .orderly .once y, ap bit node)) in
           let inside : l < lists S = rw (length-lists S m) at (t .which-lt) in
           let short : k < length (nodesOf S m l) = omega (arith, t .there, list-length S m l inside, nodes-length S m l) in
-          let is : getD (map (nodeIn S m l) (nodesOf S m l)) k (bare 0) .node ≡ y = rw (list-at S m l inside) at (position-at y (getD ls l []) (t .there)) in
-          lists-meet l k inside short (sym (item-at S m l (nodesOf S m l) k short) ∙ is) 0 (lists S) (omega arith) (omega arith) (omega arith) room w
+          let there : getD (nodesOf S m l) k 0 ≡ y =
+          sym (item-at S m l (nodesOf S m l) k short)
+          ∙ ap (λ (ks : List Packet). getD ks k (bare 0) .node) (sym (list-at S m l inside))
+          ∙ position-at y (getD ls l []) (t .there) in
+          lists-meet l k inside short there 0 (lists S) (omega arith) (omega arith) (omega arith) room w
 
     -- the walk leaves what an audit does
     pub walk-tells : (room : List ℕ) → Wide room → toldLists S m 0 (lists S) room ≡ joined (placeTold S m room) (all S) ++ drop (8 * all S) room
@@ -190,6 +195,6 @@ module _ (S : Settings) where
         let places : joined (λ i. block i told) (all S) ≡ joined (placeTold S m room) (all S) =
         joined-same (λ i. block i told) (placeTold S m room) (all S)
         (λ i h.
-            let n = node-at S (roomy S (s .sound .rows)) i h in
-            ap (λ (k : ℕ). block k told) (sym (n .slot-is)) ∙ all-meet (nodeAt S i) (n .node) room w ∙ sym (place-told S m room i (n .node))) in
+        let n = node-at S (roomy S (s .sound .rows)) i h in
+        ap (λ (k : ℕ). block k told) (sym (n .slot-is)) ∙ all-meet (nodeAt S i) (n .node) room w ∙ sym (place-told S m room i (n .node))) in
         sym (blocks-are told (all S)) ∙ rw (places, past)

@@ -2,12 +2,12 @@
 use mathlib.Core.Path.{_≡_, refl, sym, ap, _∙_}
 use mathlib.Core.Bool.{true}
 use mathlib.Core.List.{List}
-use Prim.Native.Nat.{ℕ, suc, _+_, _-_, _*_, _≤_, _<_}
+use Prim.Native.Nat.{ℕ, suc, _+_, _-_, _≤_, _<_}
 use native.Mathlib.Numerals.{add-one}
 use native.Mathlib.Omega.{arith}
 use lib.ListN.{length}
 use Rattle.ledger.specs.Settings.{Settings}
-use Rattle.ledger.specs.Ledger.{isNode, Place, placeOf}
+use Rattle.ledger.specs.Ledger.{isNode, placeOf}
 use Rattle.ledger.specs.Sound.{All}
 use Rattle.layout.specs.declared.Table.the-variants.{Head, Count, Next}
 use Rattle.layout.specs.Tables.{lists, get}

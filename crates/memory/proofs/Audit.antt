@@ -2,7 +2,7 @@
 use mathlib.Core.Path.{_≡_, refl, sym, ap, _∙_, subst}
 use mathlib.Core.Bool.{Bool, true, false}
 use mathlib.Core.List.{List, [], _∷_, _++_, append-assoc}
-use Prim.Native.Nat.{ℕ, zero, suc, _+_, _-_, _*_, _/_, _%_, _≤_, _<_}
+use Prim.Native.Nat.{ℕ, zero, suc, _+_, _*_, _/_, _%_, _≤_, _<_}
 use native.Mathlib.Nat.{not-suc-le-zero, mod-lt, div-lt-iff-lt-mul, div-add-mod'}
 use native.Mathlib.Decide.{decLe}
 use native.Mathlib.Omega.{arith}
@@ -16,7 +16,7 @@ use Rattle.ledger.specs.Sound.{Roomy}
 use Rattle.ledger.specs.Calls.{Reply, refused, done, entry, stitched, idle, leaves, word, found, whereIs, position, which, isRefused}
 use Rattle.ledger.specs.Desk.{Desk, none, has, act}
 use Rattle.ledger.specs.Audit.{placeBytes, placeRoom, nodeAt, auditReply}
-use Rattle.ledger.proofs.Tests.{true≢false, ltb-is, ltb-not, ltb-no}
+use Rattle.ledger.proofs.Tests.{true≢false, ltb-is, ltb-not}
 use Rattle.ledger.proofs.Places.{row-lt, row-div, row-mod, node-is}
 use Rattle.ledger.proofs.Rows.{roomy}
 use Rattle.layout.specs.Tables.{all}
@@ -243,7 +243,9 @@ module _ (m room : List ℕ) where
       Past (has S L) = drop (8 * all S) (auditOn m room .1) ≡ drop (8 * all S) room
 
       past : (d : Dec (State m)) → Past (deskOf m d)
-      past (yes s) = subst (λ (out : Reply × List ℕ). drop (8 * all (settingsIn m)) (out .1) ≡ drop (8 * all (settingsIn m)) room) (audit-on m room _ refl s) (now .past)
+      past (yes s) =
+          let n = 8 * all (settingsIn m) in
+          subst (λ (out : Reply × List ℕ). drop n (out .1) ≡ drop n room) (audit-on m room (settingsIn m) refl s) (now .past)
       past (no n) = tt
 
       rest : (d : Dec (State m))
