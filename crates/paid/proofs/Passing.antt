@@ -1,26 +1,19 @@
 -- Sums by their cells, where adding up stands at a list, and how large all sums become. Assumes nothing.
-use mathlib.Core.Path.{_≡_, refl, sym, ap, _∙_}
-use mathlib.Core.Logic.{_≢_}
-use mathlib.Core.List.{List, []}
-use Prim.Native.Nat.{ℕ, zero, suc, _+_, _-_, _*_, _%_, _^_, _≤_, _<_}
+use mathlib.Core.Path.{_≡_, refl}
+use mathlib.Core.List.{List}
+use Prim.Native.Nat.{ℕ, zero, suc, _+_, _-_, _*_, _≤_, _<_}
 use native.Mathlib.Numerals.{add-one}
 use native.Mathlib.Omega.{arith}
 use lib.ListN.{length, getD, replicate}
-use Rattle.ledger.specs.Settings.{Settings, row}
-use Rattle.ledger.specs.Ledger.{owner, cell, creditAt}
-use Rattle.ledger.specs.Sound.{All, Roomy}
+use Rattle.ledger.specs.Settings.{Settings}
+use Rattle.ledger.specs.Ledger.{cell, creditAt}
+use Rattle.ledger.specs.Sound.{Roomy}
 use Rattle.ledger.proofs.Places.{cell-lt}
-use Rattle.layout.specs.declared.Shape.{Shape}
-use Rattle.layout.specs.declared.Table.{Table}
-use Rattle.layout.specs.declared.Table.the-variants.{Head, Count}
-use Rattle.layout.specs.Tables.{cells, lists, all, many, width, get, settingsOf}
-use Rattle.layout.specs.Picture.{slot, chain, nodesOf}
-use Rattle.layout.specs.Access.{Reads}
-use Rattle.layout.proofs.Shapes.{few}
-use Rattle.memory.proofs.Chains.{node-from, slot-lt, chain-front, total-bound}
-use Rattle.paid.specs.Paid.{addNode, addAll, addList, addFrom, sumsOf}
-use Rattle.paid.specs.Passes.{Payable, Sums, listMost, Counted, Adds, Added, AddsList}
-use Rattle.paid.proofs.Adding.{counted, used-list, sums-more, zero-sums, add-sums, list-sums}
+use Rattle.layout.specs.Tables.{cells, lists, many}
+use Rattle.memory.proofs.Chains.{total-bound}
+use Rattle.paid.specs.Paid.{addList, addFrom, sumsOf}
+use Rattle.paid.specs.Passes.{Payable, Sums, listMost}
+use Rattle.paid.proofs.Adding.{sums-more, zero-sums, list-sums}
 
 -- ---- sums and cells
 

@@ -3,16 +3,15 @@ use mathlib.Core.Path.{_≡_}
 use mathlib.Core.Bool.{true}
 use mathlib.Core.List.{List}
 use Prim.Native.Nat.{ℕ, _*_, _^_, _≤_, _<_}
-use lib.ListN.{length, replicate}
+use lib.ListN.{length}
 use Rattle.ledger.specs.Settings.{Settings, size}
 use Rattle.ledger.specs.Ledger.{owner, isNode, placeOf, creditAt}
 use Rattle.ledger.specs.Sound.{Everywhere, WellRecorded}
 use Rattle.layout.specs.declared.Shape.{Shape}
-use Rattle.layout.specs.declared.Table.the-variants.{Next, Queue}
+use Rattle.layout.specs.declared.Table.the-variants.{Queue}
 use Rattle.layout.specs.Tables.{cells, lists, get, settingsOf, Laid}
 use Rattle.layout.specs.Picture.{slot, ledgerIn}
 use Rattle.memory.specs.Ends.{Tidy}
-use Rattle.paid.specs.Paid.{addNode}
 
 -- a memory that keeps rules (c) and (f), with the tails
 pub record Payable (S : Settings) (m : List ℕ) : Type 0 where

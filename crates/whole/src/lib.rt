@@ -99,7 +99,7 @@ pub fn whole(m: &[u8], s: Shape, marks: &mut [u8], sums: &mut [u64]) -> Walk
         port += 1;
     }
     if met as usize != s.all {
-        return Walk::Stuck(ports);
+        return Walk::Stuck(port);
     }
     if let Finding::At(c) = paid::first_due(m, s, sums) {
         return Walk::Due(c);

@@ -30,6 +30,9 @@ out c = c .first-out .ensures ∙ ap firstOut (c .before .read .ensures)
 passed : (c : tie.Else2) → inRows (toldSettings (c .before .before .read .result)) ≡ true
 passed c = rows-out _ ∙ eqb-is _ 6 (sym (c .before .first-out .ensures) ∙ c .if2 .left)
 
+none-out : (c : tie.Else2) → firstOut (settingsIn (c .before .before .before .before .before .args .m .now)) ≡ 6
+none-out c = sym (out (c .before)) ∙ c .if2 .left
+
 returns : tie.Need-returns
 returns c = sym (opened-tiny _ (c .if1 .taken))
 
@@ -51,7 +54,7 @@ size-of-requires : tie.Need-size-of-requires
 size-of-requires c κs = search needs
 
 returns-3 : tie.Need-returns-3
-returns-3 c = sym (opened-short _ (omega arith) TODO (omega (arith, c .before .size-of .ensures, ap size (told (c .before .before)))))
+returns-3 c = sym (opened-short _ (omega arith) (none-out (c .before .before .before)) (omega (arith, c .before .size-of .ensures, ap size (told (c .before .before)))))
 
 returns-4 : tie.Need-returns-4
 returns-4 c =
