@@ -135,9 +135,9 @@ module _ (S : Settings) (R : Roomy S) where
       let n = numbered (i / S .nodes) (i % S .nodes) p (mod-lt i pos) in
       record { node = n .node; slot-is = n .slot-is ∙ div-add-mod' i (S .nodes) }
 
-  -- node number p * nodes + i is node i of port p
-  node-number : (p i : ℕ) → i < S .nodes → nodeAt S (p * S .nodes + i) ≡ entryId p i
-  node-number p i h = rw (row-div (S .nodes) p i h, row-mod (S .nodes) p i h)
+-- node number p * nodes + i is node i of port p
+node-number : (S : Settings) (p i : ℕ) → i < S .nodes → nodeAt S (p * S .nodes + i) ≡ entryId p i
+node-number S p i h = rw (row-div (S .nodes) p i h, row-mod (S .nodes) p i h)
 
 -- where a node stands, as `where` answers it
 pub where-says : (S : Settings) (m : List ℕ) (y : ℕ) → isNode S y ≡ true
@@ -207,7 +207,7 @@ audit-tells m room S L p i e = subst Tells e (go (state-dec m))
         let T = settingsIn m in
         let n = numbered T (roomy T (s .sound .rows)) p i hp hi in
         let k = p * T .nodes + i in
-        let is = node-number T (roomy T (s .sound .rows)) p i hi in
+        let is = node-number T p i hi in
         let low : k < all T = row-lt (T .nodes) (T .ports) p i hp hi in (
           ap (λ (out : Reply × List ℕ). out .0) (sym (on-settings T m refl s (whereIs (entryId p i)))) ∙ where-says T m (entryId p i) (n .node),
           ap (λ (out : Reply × List ℕ). block k (out .1)) (sym (audit-on m room T refl s))
