@@ -1,32 +1,42 @@
--- Eight bytes put into a room: as eight stores, and what they leave. Assumes nothing.
-use mathlib.Core.Path.{_≡_, sym, ap, _∙_}
+-- Eight bytes put into a room, one by one, and what they leave. Assumes nothing.
+use mathlib.Core.Path.{_≡_, refl, sym, ap, _∙_}
 use mathlib.Core.Logic.{_≢_}
 use mathlib.Core.List.{List, _++_, append-assoc}
 use Prim.Native.Nat.{ℕ, _+_, _-_, _*_, _≤_, _<_}
 use native.Mathlib.Decide.{decLt}
-use native.Mathlib.Numerals.{add-one, add-two, add-three, add-four, add-five, add-six, add-seven}
+use native.Mathlib.Numerals.{add-one}
 use native.Mathlib.Omega.{arith}
-use lib.ListN.{length, getD, take, drop, set, length-append, length-drop, take-append-drop}
-use lib.Seq.{length-take-le, take-at, drop-at, take-append-le, drop-append-le, drop-append-add, drop-drop, ext-getD, sets-eq}
-use Rattle.layout.specs.Picture.{tabulate}
+use lib.ListN.{length, getD, take, drop, set, length-append, length-drop, length-set, take-append-drop}
+use lib.Seq.{length-take-le, take-all, take-at, drop-at, take-append-le, drop-append-le, drop-append-add, drop-drop, paste, paste-zero, paste-suc}
 use Rattle.memory.specs.Audit.{block}
-use Rattle.memory.proofs.Chains.{length-tabulate, getD-table}
 use Rattle.audits.specs.Told.{putEight}
 
--- eight bytes, one by one
-eight-are : (bs : List ℕ) → length bs ≡ 8 → tabulate (λ i. getD bs i 0) 0 8 ≡ bs
-eight-are bs e =
-    ext-getD 0 (tabulate (λ i. getD bs i 0) 0 8) bs (length-tabulate (λ i. getD bs i 0) 0 8 ∙ sym e)
-    (λ i h. getD-table (λ k. getD bs k 0) 8 i 0 (omega (arith, length-tabulate (λ k. getD bs k 0) 0 8)))
+-- ---- byte by byte: j of the eight are in the room
 
-pub eight-stores : (bs : List ℕ) → length bs ≡ 8 → (l : List ℕ) (i : ℕ) → i + 8 ≤ length l
-    → set (set (set (set (set (set (set (set l i (getD bs 0 0)) (i + 1) (getD bs 1 0)) (i + 2) (getD bs 2 0)) (i + 3) (getD bs 3 0))
-    (i + 4) (getD bs 4 0)) (i + 5) (getD bs 5 0)) (i + 6) (getD bs 6 0)) (i + 7) (getD bs 7 0)
-    ≡ putEight i bs l
-unfolding putEight
-eight-stores bs e l i h =
-    simp (add-one, add-two, add-three, add-four, add-five, add-six, add-seven)
-    (sets-eq (tabulate (λ k. getD bs k 0) 0 8) l i h ∙ ap (λ (xs : List ℕ). take i l ++ xs ++ drop (i + 8) l) (eight-are bs e))
+module _ (at : ℕ) (bs room₀ : List ℕ) where
+  pub record Putting (room : List ℕ) (j : ℕ) : Type 0 where
+    pub few : j ≤ 8
+    pub same-length : length room ≡ length room₀
+    pub so-far : room ≡ paste room₀ at bs j
+
+  pub put-starts : Putting room₀ 0
+  put-starts = record { few = omega arith; same-length = refl; so-far = paste-zero room₀ at bs }
+
+  module _ (e : length bs ≡ 8) {room : List ℕ} {j : ℕ} (w : Putting room j) where
+    pub put-goes : at + 8 ≤ length room₀ → j < 8 → Putting (set room (at + j) (getD bs j 0)) (j + 1)
+    put-goes h l = record {
+      few = omega arith;
+      same-length = length-set room (at + j) (getD bs j 0) ∙ w .same-length;
+      so-far = rw (w .so-far, add-one) (paste-suc room₀ at bs j 0 (omega arith) (omega arith));
+    }
+
+    pub put-ends : 8 ≤ j → room ≡ putEight at bs room₀
+    unfolding putEight
+    put-ends h =
+        let all : j ≡ 8 = omega (arith, w .few) in
+        w .so-far ∙ ap (paste room₀ at bs) all ∙ ap (λ (xs : List ℕ). take at room₀ ++ xs ++ drop (at + 8) room₀) (take-all 8 bs (omega arith))
+
+-- ---- what they leave
 
 -- eight bytes that a first part of a list has
 early : (n : ℕ) (xs ys : List ℕ) → n + 8 ≤ length xs → take 8 (drop n (xs ++ ys)) ≡ take 8 (drop n xs)

@@ -22,14 +22,11 @@ fn put(room: &mut [u8], at: usize, bytes: [u8; 8])
     requires { ⌜ at + 8 ≤ length (now room) ⌝ }
     ensures { λ _. ⌜ now (room .exit) ≡ putEight at bytes (now (room .entry)) ⌝ }
 {
-    room[at] = bytes[0];
-    room[at + 1] = bytes[1];
-    room[at + 2] = bytes[2];
-    room[at + 3] = bytes[3];
-    room[at + 4] = bytes[4];
-    room[at + 5] = bytes[5];
-    room[at + 6] = bytes[6];
-    room[at + 7] = bytes[7];
+    let mut j = 0;
+    while j < 8 {
+        room[at + j] = bytes[j];
+        j += 1;
+    }
 }
 
 // Tells that node x stands at position i of a list of this kind, and answers the node after it.
