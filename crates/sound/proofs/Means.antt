@@ -34,6 +34,7 @@ use Rattle.fits.specs.Fits.{fitsFound}
 use Rattle.fits.proofs.Means.{fits-means}
 use Rattle.paid.specs.Paid.{paidFound}
 use Rattle.paid.proofs.Owing.{paid-means}
+use Rattle.whole.specs.Whole.{Listed}
 use Rattle.sound.specs.declared.Tested.the-variants.{State, NoState}
 use Rattle.sound.specs.Sound.{Clean, orNext, nodesBroken, openBroken, brokenIn, testedBy, testedIn}
 use Rattle.ledger.specs.Ledger.{tall}
@@ -70,16 +71,26 @@ shaped S m = record {
 }
 
 -- the three rules that are asked of nodes
-by-rule : (S : Settings) (m : List ℕ) → fitsFound OwnPort S m ≡ whole → fitsFound OwnQueue S m ≡ whole → fitsFound Record S m ≡ whole
+pub by-rule : (S : Settings) (m : List ℕ) → fitsFound OwnPort S m ≡ whole → fitsFound OwnQueue S m ≡ whole → fitsFound Record S m ≡ whole
     → (rule : NodeRule) → fitsFound rule S m ≡ whole
 by-rule S m d e f OwnPort = d
 by-rule S m d e f OwnQueue = e
 by-rule S m d e f Record = f
 
 module _ (S : Settings) (m : List ℕ) where
-  clean-whole : Clean S m → openBroken S m ≡ Nothing
+  pub clean-whole : Clean S m → openBroken S m ≡ Nothing
   unfolding openBroken nodesBroken
   clean-whole k = rw (k .ranges, k .once, k .fits OwnPort, k .fits OwnQueue, k .fits Record, k .paid)
+
+  -- (g) alone is broken
+  pub due-broken : (c : ℕ) → rangesFound S m ≡ whole → Listed S m → paidFound S m ≡ At c → openBroken S m ≡ G c
+  unfolding openBroken nodesBroken
+  due-broken c b k e = rw (b, k .once, k .fits OwnPort, k .fits OwnQueue, k .fits Record, e)
+
+  -- (b) is broken
+  pub range-broken : (i : ℕ) → rangesFound S m ≡ At i → openBroken S m ≡ B i
+  unfolding openBroken
+  range-broken i e = rw e
 
   whole-clean : openBroken S m ≡ Nothing → Clean S m
   unfolding openBroken nodesBroken isNothing

@@ -140,20 +140,20 @@ first-due-requires c κs =
       held = rw (sums-are e) (sums-held _ _ (payable _ _ (p .long) (once-kept e) (fits-kept e Record)) (p .laid .roomy));
     }
 
-enum-told : tie.Need-enum-told Inv-loop μ-loop
-enum-told c = search needs
+enum-known-c : tie.Need-enum-known-c Inv-loop μ-loop
+enum-known-c c = search needs
 
 same-length-5 : tie.Need-same-length-5 Inv-loop μ-loop
-same-length-5 c = kept (ended (told-at (c .before .before))) .0
+same-length-5 c = kept (ended (told-at (c .before .before .before))) .0
 
 same-length-6 : tie.Need-same-length-6 Inv-loop μ-loop
-same-length-6 c = kept (ended (told-at (c .before .before))) .1
+same-length-6 c = kept (ended (told-at (c .before .before .before))) .1
 
 returns-3 : tie.Need-returns-3 Inv-loop μ-loop
-returns-3 c = ?
+returns-3 c = let w = c .before .before .before in (listed (w .before .before), sym (due w) ∙ c .before .c .given .1)
 
-enum-told-2 : tie.Need-enum-told-2 Inv-loop μ-loop
-enum-told-2 c = search needs
+enum-told : tie.Need-enum-told Inv-loop μ-loop
+enum-told c = search needs
 
 same-length-7 : tie.Need-same-length-7 Inv-loop μ-loop
 same-length-7 c = kept (ended (told-at (c .before .before))) .0
@@ -162,7 +162,7 @@ same-length-8 : tie.Need-same-length-8 Inv-loop μ-loop
 same-length-8 c = kept (ended (told-at (c .before .before))) .1
 
 returns-4 : tie.Need-returns-4 Inv-loop μ-loop
-returns-4 c = let w = c .before .before in (listed (w .before .before), sym (due w) ∙ c .enum-told2 .given .1)
+returns-4 c = let w = c .before .before in (listed (w .before .before), sym (due w) ∙ c .enum-told .given .1)
 
 pub whole-spec : {M : Type 1} → statement M
 whole-spec =
@@ -182,11 +182,11 @@ whole-spec =
     same-length-4
     returns-2
     first-due-requires
-    enum-told
+    enum-known-c
     same-length-5
     same-length-6
     returns-3
-    enum-told-2
+    enum-told
     same-length-7
     same-length-8
     returns-4)
