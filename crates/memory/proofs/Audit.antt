@@ -11,7 +11,7 @@ use lib.Seq.{length-take-le, take-at, drop-at, drop-drop}
 use lib.Dec.{ltb}
 use Rattle.ledger.specs.Settings.{Settings}
 use Rattle.ledger.specs.Rules.{refuse, guard}
-use Rattle.ledger.specs.Ledger.{owner, index, entryId, isNode, placeOf}
+use Rattle.ledger.specs.Ledger.{owner, index, entryId, isNode, placeOf, Ledger}
 use Rattle.ledger.specs.Sound.{Roomy}
 use Rattle.ledger.specs.Calls.{Reply, refused, done, entry, stitched, idle, leaves, word, found, whereIs, position, which, isRefused}
 use Rattle.ledger.specs.Desk.{Desk, none, has, act}
@@ -22,8 +22,9 @@ use Rattle.ledger.proofs.Rows.{roomy}
 use Rattle.layout.specs.Tables.{all}
 use Rattle.layout.specs.Picture.{settingsIn, slot, ledgerIn, StateOf, State}
 use Rattle.memory.specs.Memory.{state-dec, deskOf, picture, acted, M}
-use Rattle.memory.specs.Audit.{block, joined, placeTold, audited, auditTested, auditOn, AuditTells, AuditKeeps}
-use Rattle.memory.proofs.Demands.{on-settings}
+use Rattle.memory.specs.Audit.{block, joined, placeTold, audited, auditTested, auditOn, AuditTells}
+use Rattle.memory.proofs.Picture.{picture-state}
+use Rattle.memory.proofs.Demands.{pictured-state, on-settings}
 
 -- ---- blocks of eight bytes
 
@@ -156,22 +157,14 @@ place-told S m room i e = rw (where-says S m (nodeAt S i) e)
 -- ---- of any memory
 
 module _ (m room : List ℕ) where
-  -- where a memory is a state of these settings, and where it is none
-  pub audit-on : (S : Settings) → settingsIn m ≡ S → StateOf S m → audited S m room ≡ auditOn m room
+  -- where a memory is a state of these settings
+  audit-on : (S : Settings) → settingsIn m ≡ S → StateOf S m → audited S m room ≡ auditOn m room
   unfolding auditOn
   audit-on S e s = go (state-dec m)
     where
       go : (d : Dec (State m)) → audited S m room ≡ auditTested m d room
       go (yes t) = ap (λ (T : Settings). audited T m room) (sym e)
       go (no n) = absurd (n (subst (λ (T : Settings). StateOf T m) (sym e) s))
-
-  pub audit-off : (State m → ⊥) → auditOn m room ≡ (refused 3, room)
-  unfolding auditOn
-  audit-off n = go (state-dec m)
-    where
-      go : (d : Dec (State m)) → auditTested m d room ≡ (refused 3, room)
-      go (yes t) = absurd (n t)
-      go (no k) = refl
 
   -- the reply is the desk's
   pub audit-reply : auditOn m room .0 ≡ auditReply (picture m) (length room)
@@ -186,6 +179,12 @@ module _ (m room : List ℕ) where
       go : (d : Dec (State m)) → auditTested m d room .0 ≡ auditReply (deskOf m d) (length room)
       go (yes s) = short (ltb (length room) (8 * all (settingsIn m))) _
       go (no n) = refl
+
+-- a memory that pictures a desk has its settings
+pictured-settings : (m : List ℕ) (S : Settings) (L : Ledger) → picture m ≡ has S L → settingsIn m ≡ S
+pictured-settings m S L e =
+    let d = sym (picture-state m (pictured-state m S L e .0)) ∙ e in
+    cc
 
 -- eight bytes for each node, as `where` answers
 pub audit-tells : AuditTells
@@ -215,40 +214,39 @@ audit-tells m room S L p i e = subst Tells e (go (state-dec m))
               ∙ rw (← is) (place-told T m room k (rw is (n .node))),
         )
 
--- what it leaves of the room
+-- ---- what it leaves of the room
+
 module _ (m room : List ℕ) where
-  -- of a room of which an audit of a memory with settings S leaves this
+  -- of this room an audit of a memory with settings S leaves `out`
   record Kept (S : Settings) (out : Reply × List ℕ) : Type 0 where
     past : drop (8 * all S) (out .1) ≡ drop (8 * all S) room
     same-length : length (out .1) ≡ length room
-    refused-same : isRefused (out .0) ≡ true → out .1 ≡ room
+    same : isRefused (out .0) ≡ true → out .1 ≡ room
 
   kept : (S : Settings) → Dec (8 * all S ≤ length room) → Kept S (audited S m room)
   kept S (yes h) = record {
     past = audit-past S m room h;
     same-length = audit-length S m room h;
-    refused-same = λ e. absurd (true≢false (sym e ∙ ap (λ (out : Reply × List ℕ). isRefused (out .0)) (audit-done S m room h)));
+    same = λ e. absurd (true≢false (sym e ∙ ap (λ (out : Reply × List ℕ). isRefused (out .0)) (audit-done S m room h)));
   }
-  kept S (no h) = rw (audit-short S m room (omega arith)) (record { past = refl; same-length = refl; refused-same = λ e. refl })
+  kept S (no h) = rw (audit-short S m room (omega arith)) (record { past = refl; same-length = refl; same = λ e. refl })
 
-  pub audit-keeps : AuditKeeps m room
-  unfolding auditOn picture
-  audit-keeps = record { past = λ S L e. subst Past e (past (state-dec m)); same-length = rest (state-dec m) .0; refused-same = rest (state-dec m) .1 }
+  -- of a memory that is no state it leaves all
+  keeps : Kept (settingsIn m) (auditOn m room)
+  unfolding auditOn
+  keeps = go (state-dec m)
     where
-      now : Kept (settingsIn m) (audited (settingsIn m) m room)
-      now = kept (settingsIn m) (decLe (8 * all (settingsIn m)) (length room))
+      go : (d : Dec (State m)) → Kept (settingsIn m) (auditTested m d room)
+      go (yes s) = kept (settingsIn m) (decLe (8 * all (settingsIn m)) (length room))
+      go (no n) = record { past = refl; same-length = refl; same = λ e. refl }
 
-      Past : Desk → Type 0
-      Past none = Unit {0}
-      Past (has S L) = drop (8 * all S) (auditOn m room .1) ≡ drop (8 * all S) room
+  -- "the room past the answer stays"
+  pub past-audit-keeps : (S : Settings) (L : Ledger) → picture m ≡ has S L → drop (8 * all S) (auditOn m room .1) ≡ drop (8 * all S) room
+  past-audit-keeps S L e = subst (λ (T : Settings). drop (8 * all T) (auditOn m room .1) ≡ drop (8 * all T) room) (pictured-settings m S L e) (keeps .past)
 
-      past : (d : Dec (State m)) → Past (deskOf m d)
-      past (yes s) =
-          let n = 8 * all (settingsIn m) in
-          subst (λ (out : Reply × List ℕ). drop n (out .1) ≡ drop n room) (audit-on m room (settingsIn m) refl s) (now .past)
-      past (no n) = tt
+  pub audit-keeps-length : length (auditOn m room .1) ≡ length room
+  audit-keeps-length = keeps .same-length
 
-      rest : (d : Dec (State m))
-          → (length (auditTested m d room .1) ≡ length room) × (isRefused (auditTested m d room .0) ≡ true → auditTested m d room .1 ≡ room)
-      rest (yes s) = (now .same-length, now .refused-same)
-      rest (no n) = (refl, λ e. refl)
+  -- a refused audit leaves the room as it was
+  pub refused-audit-keeps : isRefused (auditOn m room .0) ≡ true → auditOn m room .1 ≡ room
+  refused-audit-keeps = keeps .same

@@ -1,13 +1,12 @@
 -- The audit on memory: auditOn, the function that its contract names. Block by block it is what where answers. Assumes nothing.
 use mathlib.Core.Path.{_≡_}
-use mathlib.Core.Bool.{true}
 use mathlib.Core.List.{List, [], _++_}
 use Prim.Native.Nat.{ℕ, zero, suc, _+_, _*_, _≤_, _<_}
 use lib.ListN.{length, getD, take, drop}
 use Rattle.ledger.specs.Settings.{Settings}
 use Rattle.ledger.specs.Rules.{guard}
 use Rattle.ledger.specs.Ledger.{entryId, placeOf, Ledger}
-use Rattle.ledger.specs.Calls.{whereIs, Reply, refused, done, found, isRefused, position, which}
+use Rattle.ledger.specs.Calls.{whereIs, Reply, refused, done, found, position, which}
 use Rattle.ledger.specs.Desk.{has, act}
 use Rattle.ledger.specs.Audit.{placeBytes, placeRoom, nodeAt, auditRules}
 use Rattle.layout.specs.Tables.{all}
@@ -50,9 +49,3 @@ AuditTells =
     let l = which y (L .lists) in
     let j = position y (getD (L .lists) l []) in
     (M (act (whereIs y)) m .0 ≡ found (placeOf S l) j) × (block (p * S .nodes + i) (auditOn m room .1) ≡ placeBytes y (placeOf S l) j)
-
--- "the room past the answer stays"; no byte is added or lost; "no lent byte differs" after a refusal
-pub record AuditKeeps (m room : List ℕ) : Type 0 where
-  pub past : (S : Settings) (L : Ledger) → picture m ≡ has S L → drop (8 * all S) (auditOn m room .1) ≡ drop (8 * all S) room
-  pub same-length : length (auditOn m room .1) ≡ length room
-  pub refused-same : isRefused (auditOn m room .0) ≡ true → auditOn m room .1 ≡ room
