@@ -14,3 +14,4 @@ pub mod Past
 pub mod Judged
 pub mod Rounds
 pub mod Door
+pub mod Audit
