@@ -15,3 +15,4 @@ pub mod Judged
 pub mod Rounds
 pub mod Door
 pub mod Audit
+pub mod Deeds
