@@ -16,3 +16,4 @@ pub mod Rounds
 pub mod Door
 pub mod Audit
 pub mod Deeds
+pub mod Afresh
