@@ -2,11 +2,11 @@
 //! it, read off any bytes by docs/LAYOUT.md and docs/FINDINGS.md alone: no
 //! ledger is made, and nothing is shared with the proved library.
 
-use std::collections::BTreeSet;
+use std::cmp::Ordering;
 
 use model::{price, size, ListKind, DESTINATIONS, LONGEST, MOST_NODES, PORTS, QUEUES, SHORTEST};
 
-use crate::reader::{list_number, Table, Tables, LISTS, LISTS_PER_PORT};
+use crate::reader::{credit_cell, list_number, Table, Tables, LISTS, LISTS_PER_PORT};
 
 /// A broken rule.
 #[derive(Debug, Clone, Copy, PartialEq, Eq)]
@@ -61,6 +61,9 @@ pub const WAYS: [(char, &str); 28] = [
 /// An item, and in which way it breaks the rule.
 type Breach = (u64, &'static str);
 
+/// A rule's first breach in an image.
+type Find<'m> = fn(&Image<'m>) -> Option<Breach>;
+
 /// The finding of any bytes; none if they are a switch state.
 pub fn first(memory: &[u8]) -> Option<Finding> {
     let (rule, (item, way)) = match Image::open(memory) {
@@ -93,9 +96,9 @@ fn in_its_row(setting: usize, number: u32) -> Result<(), &'static str> {
     fits.then_some(()).ok_or(name)
 }
 
-impl Image<'_> {
+impl<'m> Image<'m> {
     /// Rule (a). Item 6 is that the memory is too short, for the settings too.
-    fn open(memory: &[u8]) -> Result<Image<'_>, Breach> {
+    fn open(memory: &'m [u8]) -> Result<Image<'m>, Breach> {
         if memory.len() < 12 {
             return Err((6, "too short for settings"));
         }
@@ -119,7 +122,7 @@ impl Image<'_> {
 
     /// Rules (b) to (g): each is asked where those before it are kept.
     fn first(&self) -> Option<(char, Breach)> {
-        let rules: [(char, fn(&Self) -> Option<Breach>); 6] = [
+        let rules: [(char, Find<'m>); 6] = [
             ('b', Self::ranges),
             ('c', Self::once),
             ('d', |image| image.each_node(Self::own_port)),
@@ -127,7 +130,7 @@ impl Image<'_> {
             ('f', |image| image.each_node(Self::record)),
             ('g', Self::paid),
         ];
-        let broken = |(rule, find): (char, fn(&Self) -> Option<Breach>)| Some((rule, find(self)?));
+        let broken = |(rule, find): (char, Find<'m>)| Some((rule, find(self)?));
         rules.into_iter().find_map(broken)
     }
 
@@ -164,23 +167,20 @@ impl Image<'_> {
         (port < PORTS as usize && index < self.nodes).then(|| port * self.nodes + index)
     }
 
-    /// Rule (c), a list: its nodes are added to those met in lists before it.
-    fn list_once(&self, list: usize, met: &mut BTreeSet<usize>) -> Result<(), &'static str> {
-        let mut here = BTreeSet::new();
+    /// Rule (c), a list: of each node it is noted in which list it was met.
+    fn list_once(&self, list: usize, met: &mut [Option<usize>]) -> Result<(), &'static str> {
         let mut entry = self.get(self.tables.head, list);
         let mut last = None;
         for _ in 0..self.get(self.tables.count, list) {
             let slot = self.slot(entry).ok_or("an id that is no node")?;
-            if met.contains(&slot) {
-                return Err("a node of an earlier list");
-            }
-            if !here.insert(slot) {
-                return Err("a node twice in a list");
+            match met[slot].replace(list) {
+                None => {}
+                Some(before) if before == list => return Err("a node twice in a list"),
+                Some(_) => return Err("a node of an earlier list"),
             }
             last = Some(entry);
             entry = self.get(self.tables.next, slot);
         }
-        met.append(&mut here);
         let tail = self.get(self.tables.tail, list);
         // An empty list's tail is not read.
         match last.map_or(true, |last| last == tail) {
@@ -192,13 +192,13 @@ impl Image<'_> {
     /// Rule (c): the first list that is wrong; behind the lists' numbers, the
     /// first node that stands in none.
     fn once(&self) -> Option<Breach> {
-        let mut met = BTreeSet::new();
+        let mut met = vec![None; PORTS as usize * self.nodes];
         for list in 0..LISTS {
             if let Err(way) = self.list_once(list, &mut met) {
                 return Some((list as u64, way));
             }
         }
-        let slot = (0..PORTS as usize * self.nodes).find(|slot| !met.contains(slot))?;
+        let slot = met.iter().position(Option::is_none)?;
         Some(((LISTS + slot) as u64, "a node in no list"))
     }
 
@@ -279,24 +279,22 @@ impl Image<'_> {
     /// Rule (g): the first credit that is not K together with the prices of its
     /// port's nodes of its queue that aren't free.
     fn paid(&self) -> Option<Breach> {
-        let nodes = self.nodes();
-        for (port, queue) in (0..PORTS).flat_map(|p| (1..QUEUES).map(move |q| (p, q))) {
-            let owed: u32 = nodes
-                .iter()
-                .filter(|(list, entry, slot)| {
-                    list % LISTS_PER_PORT != 0
-                        && entry / 2048 == port
-                        && self.get(self.tables.queue, *slot) == queue
-                })
-                .map(|(.., slot)| self.get(self.tables.price, *slot))
-                .sum();
-            let cell = port * (QUEUES - 1) + queue - 1;
-            let both = self.get(self.tables.arrival, cell as usize) + owed;
-            if both < self.credit {
-                return Some((cell.into(), "too little"));
+        let mut owed = [[0; QUEUES as usize]; PORTS as usize];
+        for (list, entry, slot) in self.nodes() {
+            if list % LISTS_PER_PORT != 0 {
+                let queue = self.get(self.tables.queue, slot) as usize;
+                owed[entry as usize / 2048][queue] += self.get(self.tables.price, slot);
             }
-            if both > self.credit {
-                return Some((cell.into(), "too much"));
+        }
+        for (port, queue) in
+            (0..PORTS as usize).flat_map(|p| (1..QUEUES as usize).map(move |q| (p, q)))
+        {
+            let cell = credit_cell(port, queue);
+            let both = self.get(self.tables.arrival, cell) + owed[port][queue];
+            match both.cmp(&self.credit) {
+                Ordering::Less => return Some((cell as u64, "too little")),
+                Ordering::Greater => return Some((cell as u64, "too much")),
+                Ordering::Equal => {}
             }
         }
         None

@@ -67,9 +67,9 @@ fn rows() -> Vec<(&'static str, &'static str)> {
 fn changed(state: &[u8], row: &str) -> Vec<u8> {
     let mut memory = state.to_vec();
     for change in row.split(", ") {
-        match &numbers(change)[..] {
-            &[at, to] if change.starts_with("byte ") => memory[at as usize] = to as u8,
-            &[lent] if change.ends_with(" bytes lent") => memory.truncate(lent as usize),
+        match numbers(change)[..] {
+            [at, to] if change.starts_with("byte ") => memory[at as usize] = to as u8,
+            [lent] if change.ends_with(" bytes lent") => memory.truncate(lent as usize),
             _ => panic!("no change: {change}"),
         }
     }

@@ -195,7 +195,7 @@ fn a_slip_in_the_test_is_found() {
 /// rule can be broken.
 #[test]
 fn a_slip_in_each_rules_finding_is_found() {
-    thread_local!(static WAY: Cell<(char, &'static str)> = Cell::new(WAYS[0]));
+    thread_local!(static WAY: Cell<(char, &'static str)> = const { Cell::new(WAYS[0]) });
     for way in WAYS {
         WAY.with(|cell| cell.set(way));
         let message = found(Crew {
