@@ -4,6 +4,8 @@ use mathlib.Core.List.{List, [], _∷_}
 use Prim.Native.Nat.{ℕ, _/_, _%_, _^_}
 use lib.ListN.{set}
 use Rattle.ledger.specs.Ledger.{Packet}
+use Rattle.ledger.specs.declared.Broken.{Broken}
+use Rattle.ledger.specs.declared.Broken.the-variants.{Nothing, A, B, C, D, E, F, G}
 use Rattle.ledger.specs.Calls.{Side, inside, outside, Reply, refused, done, entry, stitched, idle, leaves, word, found}
 
 -- the refusal's number; 0 for any other reply
@@ -92,3 +94,15 @@ readyRoom idle old = old
 readyRoom (leaves k s) old = old
 readyRoom (word w n) old = (w, n)
 readyRoom (found v i) old = old
+
+-- ---- find: the rule's number, 1 for (a) and so on, and the item
+
+abbrev pub foundNumbers : Broken → ℕ × ℕ
+foundNumbers Nothing = (0, 0)
+foundNumbers (A i) = (1, i)
+foundNumbers (B i) = (2, i)
+foundNumbers (C i) = (3, i)
+foundNumbers (D i) = (4, i)
+foundNumbers (E i) = (5, i)
+foundNumbers (F i) = (6, i)
+foundNumbers (G i) = (7, i)

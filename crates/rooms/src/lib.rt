@@ -1,5 +1,6 @@
 // What each answer leaves in the room that a caller of C lends for it: 0 and the answer's values, or the number of the refusal and the
 // room as it was.
+use ledger::Broken;
 use ledger::Entry;
 use ledger::EntryId;
 use ledger::Exit;
@@ -14,7 +15,7 @@ ghost use mathlib.Core.Path.{_≡_};
 ghost use Prim.Native.Nat.{ℕ};
 ghost use Rattle.ledger.specs.Answers.{numberOf, kindOf, exitOf, sentOf, plainReply, stitchReply, entryReply, turnReply, readyReply, whereReply};
 ghost use Rattle.ledger.specs.Ledger.{portOf};
-ghost use Rattle.rooms.specs.Rooms.{numberIn, entryRoom, recordRoom, sideByte, sentBytes, sentRoom, readyRoom};
+ghost use Rattle.rooms.specs.Rooms.{numberIn, entryRoom, recordRoom, sideByte, sentBytes, sentRoom, readyRoom, foundNumbers};
 ghost use Rattle.ledger.specs.Audit.{kindByte, queueByte, placeBytes, placeRoom};
 
 fn refusal(no: Refusal) -> u32
@@ -184,5 +185,27 @@ pub fn put_place(answer: Whereabouts, x: EntryId, room: &mut [u8; 8]) -> u32
             0
         }
         Whereabouts::No(no) => refusal(no),
+    }
+}
+
+fn put_numbers(rule: u32, item: usize, rule_room: &mut u32, item_room: &mut u64)
+    ensures { λ _. ⌜ _≡_ {A = ℕ × ℕ} (now (rule_room .exit), now (item_room .exit)) (rule, item) ⌝ }
+{
+    *rule_room = rule;
+    *item_room = item as u64;
+}
+
+pub fn put_found(found: Broken, rule: &mut u32, item: &mut u64)
+    ensures { λ _. ⌜ _≡_ {A = ℕ × ℕ} (now (rule .exit), now (item .exit)) (foundNumbers found) ⌝ }
+{
+    match found {
+        Broken::Nothing => put_numbers(0, 0, rule, item),
+        Broken::A(i) => put_numbers(1, i, rule, item),
+        Broken::B(i) => put_numbers(2, i, rule, item),
+        Broken::C(i) => put_numbers(3, i, rule, item),
+        Broken::D(i) => put_numbers(4, i, rule, item),
+        Broken::E(i) => put_numbers(5, i, rule, item),
+        Broken::F(i) => put_numbers(6, i, rule, item),
+        Broken::G(i) => put_numbers(7, i, rule, item),
     }
 }
