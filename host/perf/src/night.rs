@@ -59,7 +59,7 @@ pub fn on_sound_images() {
 /// A rule with a way to break it where its walk looks last.
 type Late = (char, &'static str, fn(&mut [u8], usize));
 
-const LATE: [Late; 6] = [
+const LATE: [Late; 8] = [
     ('c', "the last list's tail", |memory, nodes| {
         let filled = |list: &usize| !nodes_of(memory, nodes, *list).is_empty();
         let last = (0..LISTS).rev().find(filled).expect("a list with nodes");
@@ -73,15 +73,30 @@ const LATE: [Late; 6] = [
         taken(memory, nodes, 0);
         put(memory, nodes, 3 * LISTS_PER_PORT + 1, 0);
     }),
-    ('e', "the last node of the last list", |memory, nodes| {
-        let queue = Tables::of(nodes).queue;
-        let slot = last_packet(memory, nodes);
-        queue.set(memory, slot, (queue.get(memory, slot) + 1) % QUEUES);
+    ('e', "the last packet", |memory, nodes| {
+        let slot = last_packet(memory, nodes, PORTS);
+        another_queue(memory, nodes, slot);
     }),
-    ('f', "the last node of the last list", |memory, nodes| {
-        let slot = last_packet(memory, nodes);
-        Tables::of(nodes).poisoned.set(memory, slot, 2);
+    ('f', "the last packet", |memory, nodes| {
+        let slot = last_packet(memory, nodes, PORTS);
+        poison(memory, nodes, slot);
     }),
+    // Dearer where a walk of all rules at once ends early, and those of the
+    // single rules are long.
+    ('f', "the last packet at port 0", |memory, nodes| {
+        let slot = last_packet(memory, nodes, 1);
+        poison(memory, nodes, slot);
+    }),
+    (
+        'e',
+        "the last packet, and (f) at port 0",
+        |memory, nodes| {
+            let slot = last_packet(memory, nodes, 1);
+            poison(memory, nodes, slot);
+            let slot = last_packet(memory, nodes, PORTS);
+            another_queue(memory, nodes, slot);
+        },
+    ),
     ('g', "the last credit", |memory, nodes| {
         let (arrival, cell) = (
             Tables::of(nodes).arrival,
@@ -91,20 +106,32 @@ const LATE: [Late; 6] = [
     }),
 ];
 
-/// The element of the last node of the last egress or prefetch list that isn't
-/// empty. Where traffic has left none, one is put into the last list of all.
-fn last_packet(memory: &mut [u8], nodes: usize) -> usize {
+/// The element of the last packet in the egress and prefetch lists of the first
+/// so many ports. Where traffic has left none, one is put into the last list.
+fn last_packet(memory: &mut [u8], nodes: usize, ports: u32) -> usize {
+    let lists = ports as usize * LISTS_PER_PORT;
     let last = |memory: &[u8]| {
-        let lists = (0..LISTS).rev().filter(|list| list % LISTS_PER_PORT > 1);
+        let lists = (0..lists).rev().filter(|list| list % LISTS_PER_PORT > 1);
         { lists }.find_map(|list| nodes_of(memory, nodes, list).pop())
     };
     let entry = last(memory).unwrap_or_else(|| {
         taken(memory, nodes, 0);
-        put(memory, nodes, LISTS - 1, 0);
+        put(memory, nodes, lists - 1, 0);
         Tables::of(nodes).queue.set(memory, 0, QUEUES - 1);
         0
     });
     entry as usize / 2048 * nodes + entry as usize % 2048
+}
+
+/// Breaks rule (e) for a packet.
+fn another_queue(memory: &mut [u8], nodes: usize, slot: usize) {
+    let queue = Tables::of(nodes).queue;
+    queue.set(memory, slot, (queue.get(memory, slot) + 1) % QUEUES);
+}
+
+/// Breaks rule (f) for a packet.
+fn poison(memory: &mut [u8], nodes: usize, slot: usize) {
+    Tables::of(nodes).poisoned.set(memory, slot, 2);
 }
 
 /// A node at the end of a list.
