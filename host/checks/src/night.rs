@@ -109,7 +109,9 @@ impl Crew {
         }
         match difference(&wanted, &after, 0) {
             None => Ok(()),
-            Some(told) => Err(format!("after an audit into {room} bytes {told}")),
+            Some(told) => Err(format!(
+                "after an audit into {room} bytes, counted from {GUARD} before them, {told}"
+            )),
         }
     }
 
