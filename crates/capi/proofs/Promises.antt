@@ -19,7 +19,7 @@ use Rattle.memory.specs.Repair.{repaired}
 use Rattle.memory.proofs.Square.{refusal-keeps-bytes}
 use Rattle.memory.proofs.Rounds.{refused-round-keeps}
 use Rattle.memory.proofs.Audit.{refused-audit-keeps}
-use Rattle.memory.proofs.Repair.{refused-repair-keeps}
+use Rattle.memory.proofs.Door.{refused-repair-keeps}
 use Rattle.rooms.specs.Rooms.{numberIn, told, toldIn, toldRound, entryRoom, recordRoom, sentRoom, readyRoom}
 use Rattle.ledger.specs.Audit.{placeRoom}
 

@@ -15,3 +15,5 @@ pub mod Judged
 pub mod Rounds
 pub mod Door
 pub mod Audit
+pub mod Deeds
+pub mod Afresh

@@ -95,14 +95,27 @@ readyRoom (leaves k s) old = old
 readyRoom (word w n) old = (w, n)
 readyRoom (found v i) old = old
 
--- ---- find: the rule's number, 1 for (a) and so on, and the item
+-- ---- find: the rule's number, 1 for (a) and so on, and the item; 0 and 0 where no rule is broken
+
+abbrev pub ruleNumber : Broken → ℕ
+ruleNumber Nothing = 0
+ruleNumber (A i) = 1
+ruleNumber (B i) = 2
+ruleNumber (C i) = 3
+ruleNumber (D i) = 4
+ruleNumber (E i) = 5
+ruleNumber (F i) = 6
+ruleNumber (G i) = 7
+
+abbrev pub itemNumber : Broken → ℕ
+itemNumber Nothing = 0
+itemNumber (A i) = i
+itemNumber (B i) = i
+itemNumber (C i) = i
+itemNumber (D i) = i
+itemNumber (E i) = i
+itemNumber (F i) = i
+itemNumber (G i) = i
 
 abbrev pub foundNumbers : Broken → ℕ × ℕ
-foundNumbers Nothing = (0, 0)
-foundNumbers (A i) = (1, i)
-foundNumbers (B i) = (2, i)
-foundNumbers (C i) = (3, i)
-foundNumbers (D i) = (4, i)
-foundNumbers (E i) = (5, i)
-foundNumbers (F i) = (6, i)
-foundNumbers (G i) = (7, i)
+foundNumbers b = (ruleNumber b, itemNumber b)

@@ -15,7 +15,8 @@ ghost use mathlib.Core.Path.{_≡_};
 ghost use Prim.Native.Nat.{ℕ};
 ghost use Rattle.ledger.specs.Answers.{numberOf, kindOf, exitOf, sentOf, plainReply, stitchReply, entryReply, turnReply, readyReply, whereReply};
 ghost use Rattle.ledger.specs.Ledger.{portOf};
-ghost use Rattle.rooms.specs.Rooms.{numberIn, entryRoom, recordRoom, sideByte, sentBytes, sentRoom, readyRoom, foundNumbers};
+ghost use Rattle.rooms.specs.Rooms.{numberIn, entryRoom, recordRoom, sideByte, sentBytes, sentRoom, readyRoom};
+ghost use Rattle.rooms.specs.Rooms.{ruleNumber, itemNumber, foundNumbers};
 ghost use Rattle.ledger.specs.Audit.{kindByte, queueByte, placeBytes, placeRoom};
 
 fn refusal(no: Refusal) -> u32
@@ -188,24 +189,39 @@ pub fn put_place(answer: Whereabouts, x: EntryId, room: &mut [u8; 8]) -> u32
     }
 }
 
-fn put_numbers(rule: u32, item: usize, rule_room: &mut u32, item_room: &mut u64)
-    ensures { λ _. ⌜ _≡_ {A = ℕ × ℕ} (now (rule_room .exit), now (item_room .exit)) (rule, item) ⌝ }
+fn rule_number(found: Broken) -> u32
+    ensures { λ r. ⌜ r ≡ ruleNumber found ⌝ }
 {
-    *rule_room = rule;
-    *item_room = item as u64;
+    match found {
+        Broken::Nothing => 0,
+        Broken::A(_) => 1,
+        Broken::B(_) => 2,
+        Broken::C(_) => 3,
+        Broken::D(_) => 4,
+        Broken::E(_) => 5,
+        Broken::F(_) => 6,
+        Broken::G(_) => 7,
+    }
+}
+
+fn item_number(found: Broken) -> usize
+    ensures { λ r. ⌜ r ≡ itemNumber found ⌝ }
+{
+    match found {
+        Broken::Nothing => 0,
+        Broken::A(i) => i,
+        Broken::B(i) => i,
+        Broken::C(i) => i,
+        Broken::D(i) => i,
+        Broken::E(i) => i,
+        Broken::F(i) => i,
+        Broken::G(i) => i,
+    }
 }
 
 pub fn put_found(found: Broken, rule: &mut u32, item: &mut u64)
     ensures { λ _. ⌜ _≡_ {A = ℕ × ℕ} (now (rule .exit), now (item .exit)) (foundNumbers found) ⌝ }
 {
-    match found {
-        Broken::Nothing => put_numbers(0, 0, rule, item),
-        Broken::A(i) => put_numbers(1, i, rule, item),
-        Broken::B(i) => put_numbers(2, i, rule, item),
-        Broken::C(i) => put_numbers(3, i, rule, item),
-        Broken::D(i) => put_numbers(4, i, rule, item),
-        Broken::E(i) => put_numbers(5, i, rule, item),
-        Broken::F(i) => put_numbers(6, i, rule, item),
-        Broken::G(i) => put_numbers(7, i, rule, item),
-    }
+    *rule = rule_number(found);
+    *item = item_number(found) as u64;
 }

@@ -77,7 +77,7 @@ repair-one κs a r r₂ left left₂ p q = fixed plain-inj (left .1) p q
 
 -- the memory of these is lent for reading only: nothing is left that could differ but the audit's room
 pub audit-one : OneOutcome audit.ended audit.Reads.Learnt
-audit-one κs a r r₂ left left₂ p q = let t = parted (λ x. (tt, (x, tt))) p q in (plain-inj r r₂ (t .0), t .1)
+audit-one κs a r r₂ left left₂ p q = let t = parted {C = Unit {0} × (List ℕ × Unit {0})} (λ x. (tt, (x, tt))) p q in (plain-inj r r₂ (t .0), t .1)
 
 pub find-one : OneOutcome find.ended find.Reads.Learnt
 find-one κs a r r₂ left left₂ p q = (p ∙ sym q, refl)

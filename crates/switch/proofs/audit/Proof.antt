@@ -8,20 +8,20 @@ use Rattle.switch.proofs.audit.Tie as tie
 
 audit-requires : tie.Need-audit-requires
 audit-requires c κs =
-    let t = c .before in
-    let a = t .before .before .before .before .args in
+    let t = c .before .before in
+    let a = t .before .before .before .before .before .args in
     tested-state (a .m .now) _ (sym (t .before .before .test .ensures) ∙ t .s .given .1)
 
 returns : tie.Need-returns
 returns c =
-    let p = c .before in
-    let t = p .before .before in
-    let a = t .before .before .before .before .args in
+    let p = c .before .before in
+    let t = p .before .before .before in
+    let a = t .before .before .before .before .before .args in
     p .audit .ensures ∙ audit-on-state (a .m .now) (a .places .now) _ (sym (t .before .before .test .ensures) ∙ t .s .given .1)
 
 returns-2 : tie.Need-returns-2
 returns-2 c =
-    let a = c .before .before .before .before .args in
+    let a = c .before .before .before .before .before .args in
     audit-off-state (a .m .now) (a .places .now) (sym (c .before .before .test .ensures) ∙ c .enum-told .given .1)
 
 pub audit-spec : {M : Type 1} → statement M
