@@ -1,7 +1,8 @@
 /* The queue manager of the packet switch: four ports, 24 queues a port, in memory that the caller lends.
  *
- * Every call but vr_size answers VR_DONE, which is 0, or a refusal's number (enum vr_answer); a refused call changes no byte that was lent,
- * the room for its answer included. Nothing has to be checked beforehand: any memory and any numbers are taken.
+ * Every call but vr_size and vr_find answers VR_DONE, which is 0, or a refusal's number (enum vr_answer); a refused call changes no byte
+ * that was lent, the room for its answer included. Nothing has to be checked beforehand: any memory and any numbers are taken. Where a call
+ * is refused 3, vr_find tells why, and vr_repair makes a state of most such memories again.
  *
  * A packet's price is its length divided by the beat, rounded up; packets of queue 0 are free.
  *
@@ -34,7 +35,7 @@ enum vr_answer {
     VR_DONE = 0,
     VR_SHORT_MEMORY = 1,     /* setup: memory shorter than the nodes need */
     VR_BAD_SETTING = 2,      /* setup: a setting not in its row */
-    VR_NO_STATE = 3,         /* all but setup: memory is no switch state */
+    VR_NO_STATE = 3,         /* all but setup and the finding: memory is no switch state; for repair, breaks rule (a) */
     VR_NO_PORT = 4,          /* all with a port: port above 3 */
     VR_NO_QUEUE = 5,         /* prefetch, credit: queue above 23; for credit also 0 */
     VR_HEADER_SIZE = 6,      /* arrive: header not ten bytes */
@@ -49,7 +50,7 @@ enum vr_answer {
     VR_NO_SUCH_ID = 15,      /* map, where: id above 3; no such node */
     VR_HEADER_QUEUE = 19,    /* arrive: header's queue above 23 */
     VR_RESERVED_BIT = 20,    /* arrive: header's reserved bit is 1 */
-    VR_SHORT_ROOM = 27,      /* round: room of less than four bytes a port */
+    VR_SHORT_ROOM = 27,      /* round, audit: room of less than four bytes a port; for audit, eight a node */
 };
 
 /* The bytes that a state of so many nodes a port takes; 0 if nodes is not in its row. */
@@ -94,6 +95,20 @@ uint32_t vr_ready(const uint8_t *mem, size_t len, uint32_t port, uint64_t *word,
 /* Writes where the node stands, eight bytes, big-endian: entry id (2), list kind (1: 0 free, 1 ingress, 2 egress, 3 prefetch), port (1),
  * queue or 0 (1), zero (1), position in the list from 0 (2). */
 uint32_t vr_where(const uint8_t *mem, size_t len, uint32_t entry, uint8_t place[8]);
+
+/* Writes where every node stands, port by port and index by index, eight bytes each as vr_where's: 32 for each of the nodes a port; what is
+ * lent past them stays. Refused 3, then 27 if less is lent. */
+uint32_t vr_audit(const uint8_t *mem, size_t len, uint8_t *places, size_t places_len);
+
+/* What is wrong with a memory, whatever it holds; never refused. Writes the first rule of soundness that it breaks, 1 to 7 for (a) to (g),
+ * and the first item that shows it, in the order of docs/FINDINGS.md; 0 and 0 where it is a switch state. So rule (b), item 1 is port 1's
+ * last served queue out of range. */
+void vr_find(const uint8_t *mem, size_t len, uint32_t *rule, uint64_t *item);
+
+/* Writes the starting ledger for the settings that the memory has, and keeps its map, but for entries above the last port, which become 0:
+ * also over a sound ledger, whose packets are lost. Refused 3 exactly where rule (a) is broken: a setting not in its row, or memory too
+ * short for its settings. */
+uint32_t vr_repair(uint8_t *mem, size_t len);
 
 #ifdef __cplusplus
 }

@@ -1,4 +1,4 @@
-//! Links the archive of the test and the rules, for checks and benchmarks alone.
+//! Links the archive of the test, for checks and benchmarks alone.
 
 #[path = "../ventorupo/archives.rs"]
 mod archives;

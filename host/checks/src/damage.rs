@@ -1,5 +1,5 @@
-//! Damaged memory: a state after traffic with some bytes changed, and every
-//! call on a copy of it.
+//! Damaged memory: a state after traffic with some bytes changed; what the night
+//! crew asks of it, and every call on a copy of it.
 
 use std::collections::BTreeMap;
 use std::fmt;
@@ -7,10 +7,12 @@ use std::fmt;
 use model::{size, Call, Ledger, Model, Reply, Settings, PORTS, QUEUES, ROUND_BYTES};
 use traffic::{header, Profile, Random, Traffic};
 
+use crate::changes::{apply, changes, Change};
 use crate::cut::cut_down;
-use crate::reader::{self, Tables, LISTS, LISTS_PER_PORT};
+use crate::finding::WAYS;
+use crate::night::{self, Crew};
 use crate::run::Pair;
-use crate::{changes_nothing, difference, Desk};
+use crate::{changes_nothing, difference, reader, Desk};
 
 /// A run that can be made again: traffic, and damage now and then.
 #[derive(Debug, Clone, Copy, PartialEq, Eq)]
@@ -41,49 +43,6 @@ impl Plan {
     }
 }
 
-/// One byte set anew.
-#[derive(Debug, Clone, Copy, PartialEq, Eq)]
-pub struct Change {
-    pub at: usize,
-    pub to: u8,
-}
-
-/// What is told of a memory: by the test that every call but setup asks first,
-/// and by the rules one after another. In tests one of them may have a slip.
-#[derive(Clone, Copy)]
-pub struct Rules {
-    pub is_state: fn(&[u8]) -> bool,
-    pub first_broken: fn(&[u8]) -> Option<char>,
-}
-
-/// Those of the proved library.
-pub const PROVED: Rules = Rules {
-    is_state: rules::is_state,
-    first_broken: rules::first_broken,
-};
-
-impl Rules {
-    /// The test says yes exactly where no rule is broken. The independent reader
-    /// finds one in another order, so the first comes no later than its; the
-    /// crate `damage` compares rule and item exactly.
-    fn agree(&self, memory: &[u8], judged: Option<&str>) -> Result<(), String> {
-        let (state, broken) = ((self.is_state)(memory), (self.first_broken)(memory));
-        if state != broken.is_none() {
-            return Err(format!(
-                "the test says {state}, the first broken rule is {broken:?}"
-            ));
-        }
-        // As "(c) ..".
-        let found = judged.and_then(|why| why.chars().nth(1));
-        if broken.is_none() != found.is_none() || broken > found {
-            return Err(format!(
-                "the first broken rule is {broken:?}, the reader's {judged:?}"
-            ));
-        }
-        Ok(())
-    }
-}
-
 /// What the library took the damaged memories for.
 #[derive(Debug, Clone, Default, PartialEq, Eq)]
 pub struct Verdicts {
@@ -91,8 +50,10 @@ pub struct Verdicts {
     pub no_states: u64,
     /// Calls that changed a damaged memory that is a state.
     pub acts: u64,
-    /// By the rule that the independent reader found broken.
-    pub by_rule: BTreeMap<String, u64>,
+    /// Memories that a repair has mended, of those that were no state.
+    pub repairs: u64,
+    /// By the rule that is broken first, and the way.
+    pub found: BTreeMap<(char, &'static str), u64>,
 }
 
 impl Verdicts {
@@ -104,9 +65,17 @@ impl Verdicts {
         self.states += other.states;
         self.no_states += other.no_states;
         self.acts += other.acts;
-        for (rule, times) in &other.by_rule {
-            *self.by_rule.entry(rule.clone()).or_default() += times;
+        self.repairs += other.repairs;
+        for (way, times) in &other.found {
+            *self.found.entry(*way).or_default() += times;
         }
+    }
+
+    /// The rules with the ways of breaking them that came less often.
+    pub fn too_rare(&self, least: u64) -> Vec<(char, &'static str)> {
+        let times = |way: &(char, &str)| self.found.get(way).copied().unwrap_or(0);
+        let rare = |way: &(char, &'static str)| times(way) < least;
+        WAYS.into_iter().filter(rare).collect()
     }
 }
 
@@ -114,14 +83,20 @@ impl fmt::Display for Verdicts {
     fn fmt(&self, f: &mut fmt::Formatter<'_>) -> fmt::Result {
         write!(
             f,
-            "damaged memories: {}, still a state {} ({} calls changed one), no state {}; broken:",
+            "damaged memories: {}, still a state {} ({} calls changed one), no state {} ({} repaired); found:",
             self.memories(),
             self.states,
             self.acts,
-            self.no_states
+            self.no_states,
+            self.repairs
         )?;
-        for (rule, times) in &self.by_rule {
-            write!(f, " {rule} {times}")?;
+        for rule in 'a'..='g' {
+            let of_rule = || self.found.iter().filter(|((of, _), _)| *of == rule);
+            let all: u64 = of_rule().map(|(_, times)| times).sum();
+            write!(f, "\n    ({rule}) {all}")?;
+            for (at, ((_, way), times)) in of_rule().enumerate() {
+                write!(f, "{} {way} {times}", if at == 0 { ":" } else { "," })?;
+            }
         }
         Ok(())
     }
@@ -149,163 +124,6 @@ impl fmt::Display for Failure {
         )?;
         write!(f, "fails: {}", self.message)
     }
-}
-
-/// Where to do damage: any byte, or one of a table, so that the small tables
-/// get their share.
-fn place(random: &mut Random, tables: &Tables) -> usize {
-    let starts = [
-        tables.setting.start,
-        tables.mapped.start,
-        tables.last.start,
-        tables.arrival.start,
-        tables.outward.start,
-        tables.head.start,
-        tables.tail.start,
-        tables.count.start,
-        tables.next.start,
-        tables.length.start,
-        tables.stamp.start,
-        tables.queue.start,
-        tables.dest.start,
-        tables.poisoned.start,
-        tables.transaction.start,
-        tables.price.start,
-        tables.size,
-    ];
-    let (from, to) = if random.one_in(3) {
-        (0, tables.size)
-    } else {
-        let table = random.below(16) as usize;
-        (starts[table], starts[table + 1])
-    };
-    from + random.below((to - from) as u32) as usize
-}
-
-/// A list of at least so many nodes, if one is found soon: any, or an egress
-/// list.
-fn some_list(
-    random: &mut Random,
-    memory: &[u8],
-    tables: &Tables,
-    least: u32,
-    egress: bool,
-) -> usize {
-    let mut list = 0;
-    for _ in 0..40 {
-        list = random.below(LISTS as u32) as usize;
-        let column = (list % LISTS_PER_PORT) as u32;
-        let wanted = !egress || (2..2 + QUEUES).contains(&column);
-        if wanted && tables.count.get(memory, list) >= least {
-            break;
-        }
-    }
-    list
-}
-
-/// Two whole lists changed for each other: every node still stands once.
-fn swapped(memory: &[u8], tables: &Tables, one: usize, other: usize) -> Vec<(usize, u8)> {
-    let mut changes = Vec::new();
-    for table in [tables.head, tables.tail, tables.count] {
-        for byte in 0..table.width {
-            let at = table.start + one * table.width + byte;
-            let to = table.start + other * table.width + byte;
-            changes.extend([(at, memory[to]), (to, memory[at])]);
-        }
-    }
-    changes
-}
-
-/// A list whose first node follows itself, and is its tail: one node as often
-/// as the count says, and the others in no list.
-fn stuck(memory: &[u8], tables: &Tables, list: usize, nodes: usize) -> Vec<(usize, u8)> {
-    let head = tables.head.get(memory, list) as usize;
-    let element = head / 2048 * nodes + head % 2048;
-    let two = |at: usize| [(at, (head >> 8) as u8), (at + 1, head as u8)];
-    let mut changes = two(tables.tail.start + 2 * list).to_vec();
-    // Of damage before this one, the head may be no node.
-    if tables.next.start + 2 * element + 2 <= tables.length.start {
-        changes.extend(two(tables.next.start + 2 * element));
-    }
-    changes
-}
-
-/// The first free node of a port, taken over by the free list of the port
-/// before it, under an id of that port that is past its nodes: no node's id,
-/// though it leads to the same element.
-fn renamed(memory: &[u8], tables: &Tables, port: usize, nodes: usize) -> Vec<(usize, u8)> {
-    let (from, to) = (port * LISTS_PER_PORT, (port - 1) * LISTS_PER_PORT);
-    let (count, index) = (
-        tables.count.get(memory, from),
-        tables.head.get(memory, from) as usize % 2048,
-    );
-    if count == 0 || index >= nodes || nodes + index >= 2048 {
-        return Vec::new();
-    }
-    let mut damaged = memory.to_vec();
-    let (alias, element) = ((port - 1) * 2048 + nodes + index, port * nodes + index);
-    let behind = tables.next.get(memory, element);
-    tables.head.set(&mut damaged, from, behind);
-    tables.count.set(&mut damaged, from, count - 1);
-    let others = tables.count.get(memory, to);
-    tables
-        .next
-        .set(&mut damaged, element, tables.head.get(memory, to));
-    tables.head.set(&mut damaged, to, alias as u32);
-    if others == 0 {
-        tables.tail.set(&mut damaged, to, alias as u32);
-    }
-    tables.count.set(&mut damaged, to, others.wrapping_add(1));
-    let differ = (0..memory.len()).filter(|&at| memory[at] != damaged[at]);
-    differ.map(|at| (at, damaged[at])).collect()
-}
-
-/// Changes that make a difference: flips, swaps, steps and copies, and lists
-/// that are wrong as a whole.
-fn changes(random: &mut Random, memory: &[u8], tables: &Tables, nodes: usize) -> Vec<Change> {
-    let mut changes = Vec::new();
-    let mut damaged = memory.to_vec();
-    let times = random.pick(&[1, 1, 1, 1, 2, 2, 3, 5]);
-    while changes.len() < times || damaged == memory {
-        let at = place(random, tables);
-        let other = place(random, tables);
-        let old = damaged[at];
-        let flip = 1u8 << random.below(8);
-        let new = match random.below(12) {
-            0 | 1 => vec![(at, old ^ flip)],
-            2 => vec![(at, random.word() as u8)],
-            3 => vec![(at, damaged[other]), (other, old)],
-            4 => vec![(at, old.wrapping_add(1))],
-            5 => vec![(at, old.wrapping_sub(1))],
-            6 => vec![(at, random.pick(&[0, 1, 0x80, 0xFF]))],
-            7 => {
-                let one = some_list(random, &damaged, tables, 1, false);
-                let other = some_list(random, &damaged, tables, 1, false);
-                swapped(&damaged, tables, one, other)
-            }
-            8 => {
-                // What waits for a queue in its slots: more than there are, perhaps.
-                let egress = some_list(random, &damaged, tables, 2, true);
-                let other = (egress + QUEUES as usize) % LISTS;
-                swapped(&damaged, tables, egress, other)
-            }
-            9 => {
-                let list = some_list(random, &damaged, tables, 2, false);
-                stuck(&damaged, tables, list, nodes)
-            }
-            10 => renamed(&damaged, tables, random.among(1, PORTS - 1) as usize, nodes),
-            _ => {
-                // Two bytes over two others: a number from elsewhere.
-                let (at, other) = (at & !1, other & !1);
-                vec![(at, damaged[other]), (at + 1, damaged[other + 1])]
-            }
-        };
-        for (at, to) in new {
-            damaged[at] = to;
-            changes.push(Change { at, to });
-        }
-    }
-    changes
 }
 
 /// Every kind of call, meant to succeed mostly: on the ledger before the
@@ -382,25 +200,24 @@ fn one_of_each(random: &mut Random, ledger: &Ledger) -> Vec<Call> {
     ]
 }
 
-/// All the calls, each on a copy of the same memory. `whole` is what is lent
-/// and some bytes behind it.
+/// What the night crew asks, and all the calls, each on a copy of the same
+/// memory. `whole` is what is lent and some bytes behind it.
 fn try_calls<D: Desk>(
     desk: &D,
-    rules: &Rules,
+    crew: &Crew,
     whole: &[u8],
     lent: usize,
     calls: &[Call],
     verdicts: &mut Verdicts,
 ) -> Result<(), String> {
     let judged = reader::judged(&whole[..lent]);
-    rules.agree(&whole[..lent], judged.as_ref().err().map(String::as_str))?;
-    match &judged {
-        Ok(_) => verdicts.states += 1,
-        Err(why) => {
+    let found = crew.agrees(whole, lent, &judged)?;
+    match found {
+        None => verdicts.states += 1,
+        Some(found) => {
             verdicts.no_states += 1;
-            // As "(c)".
-            let rule = why[..3].to_string();
-            *verdicts.by_rule.entry(rule).or_default() += 1;
+            verdicts.repairs += u64::from(found.rule != 'a');
+            *verdicts.found.entry((found.rule, found.way)).or_default() += 1;
         }
     }
     // A model without a ledger refuses 3, as memory that is no state must.
@@ -447,24 +264,27 @@ fn try_calls<D: Desk>(
     Ok(())
 }
 
-fn apply(memory: &[u8], changes: &[Change]) -> Vec<u8> {
-    let mut damaged = memory.to_vec();
-    for change in changes {
-        damaged[change.at] = change.to;
+/// Now and then less memory is lent than the state needs, or than its settings
+/// do.
+fn lent(random: &mut Random, all: usize, needed: usize) -> usize {
+    let short = [random.below(12), random.below(needed as u32)];
+    match random.below(40) {
+        0 => random.pick(&short) as usize,
+        1 => needed - 1,
+        _ => all,
     }
-    damaged
 }
 
 /// Make the run. Of a failing memory, the changes are cut down.
 pub fn run<D: Desk>(plan: &Plan, desk: &D, verdicts: &mut Verdicts) -> Result<(), Box<Failure>> {
-    run_with(plan, desk, &PROVED, verdicts)
+    run_with(plan, desk, &night::PROVED, verdicts)
 }
 
-/// The same with other rules.
+/// The same with another crew.
 pub fn run_with<D: Desk>(
     plan: &Plan,
     desk: &D,
-    rules: &Rules,
+    crew: &Crew,
     verdicts: &mut Verdicts,
 ) -> Result<(), Box<Failure>> {
     let mut random = Random::new(plan.seed.rotate_left(32));
@@ -492,21 +312,15 @@ pub fn run_with<D: Desk>(
             None => continue,
         };
         let nodes = ledger.settings.nodes as usize;
-        let tables = Tables::of(nodes);
-        let changes = changes(&mut random, pair.memory(), &tables, nodes);
+        let changes = changes(&mut random, pair.memory(), nodes);
         let calls = one_of_each(&mut random, ledger);
-        // Now and then less memory is lent than the state needs, too.
-        let lent = if random.one_in(24) {
-            random.below(tables.size as u32) as usize
-        } else {
-            pair.lent()
-        };
+        let lent = lent(&mut random, pair.lent(), size(ledger.settings.nodes));
         let whole = apply(pair.memory(), &changes);
-        if let Err(message) = try_calls(desk, rules, &whole, lent, &calls, verdicts) {
+        if let Err(message) = try_calls(desk, crew, &whole, lent, &calls, verdicts) {
             let mut told = message;
             let few = cut_down(&changes, |few| {
                 let whole = apply(pair.memory(), few);
-                match try_calls(desk, rules, &whole, lent, &calls, &mut Verdicts::default()) {
+                match try_calls(desk, crew, &whole, lent, &calls, &mut Verdicts::default()) {
                     Ok(()) => false,
                     Err(message) => {
                         told = message;

@@ -3,10 +3,13 @@
 
 #![forbid(unsafe_code)]
 
+pub mod changes;
 pub mod counts;
 pub mod cut;
 pub mod damage;
+pub mod finding;
 pub mod library;
+pub mod night;
 pub mod reader;
 pub mod run;
 pub mod search;

@@ -3,7 +3,9 @@
 use std::collections::VecDeque;
 
 use model::ledger::entry_id;
-use model::{size, Ledger, ListKind, Model, Packet, Settings, PORTS, QUEUES};
+use model::{size, Ledger, ListKind, Model, Packet, Settings, DESTINATIONS, PORTS, QUEUES};
+
+use crate::finding::{self, Finding};
 
 const CREDITS: usize = (PORTS * (QUEUES - 1)) as usize;
 pub const LISTS_PER_PORT: usize = 2 * QUEUES as usize + 2;
@@ -102,6 +104,38 @@ pub fn list_number(kind: ListKind) -> usize {
         ListKind::Ingress { port } => base(port) + 1,
         ListKind::Egress { port, queue } => base(port) + 2 + queue as usize,
         ListKind::Prefetch { port, queue } => base(port) + 2 + (QUEUES + queue) as usize,
+    }
+}
+
+/// A list's nodes along its links, of bytes that are a state; of others as many
+/// as can be followed, and no more than there are nodes.
+pub fn nodes_of(memory: &[u8], nodes: usize, list: usize) -> Vec<u32> {
+    let tables = Tables::of(nodes);
+    let count = tables.count.get(memory, list) as usize;
+    let mut entry = tables.head.get(memory, list);
+    let mut met = Vec::new();
+    while met.len() < count.min(PORTS as usize * nodes) {
+        let (port, index) = (entry as usize / 2048, entry as usize % 2048);
+        if port >= PORTS as usize || index >= nodes {
+            break;
+        }
+        met.push(entry);
+        entry = tables.next.get(memory, port * nodes + index);
+    }
+    met
+}
+
+/// Makes a list of these nodes.
+pub fn set_nodes(memory: &mut [u8], nodes: usize, list: usize, of: &[u32]) {
+    let tables = Tables::of(nodes);
+    tables.count.set(memory, list, of.len() as u32);
+    if let (Some(head), Some(tail)) = (of.first(), of.last()) {
+        tables.head.set(memory, list, *head);
+        tables.tail.set(memory, list, *tail);
+    }
+    for pair in of.windows(2) {
+        let slot = pair[0] as usize / 2048 * nodes + pair[0] as usize % 2048;
+        tables.next.set(memory, slot, pair[1]);
     }
 }
 
@@ -271,6 +305,29 @@ pub fn image(settings: Settings) -> Vec<u8> {
     memory
 }
 
+/// The bytes that a repair leaves of any bytes; none if it is refused, where
+/// they break rule (a).
+pub fn repaired(memory: &[u8]) -> Option<Vec<u8>> {
+    if let Some(Finding { rule: 'a', .. }) = finding::first(memory) {
+        return None;
+    }
+    let setting = |i| Tables::of(0).setting.get(memory, i);
+    let settings = Settings {
+        nodes: setting(2),
+        beat: setting(3),
+        slots: setting(4),
+        credit: setting(5),
+    };
+    let mapped = Tables::of(0).mapped;
+    let mut after = image(settings);
+    for id in 0..DESTINATIONS as usize {
+        let port = mapped.get(memory, id);
+        mapped.set(&mut after, id, if port < PORTS { port } else { 0 });
+    }
+    after.extend(&memory[after.len()..]);
+    Some(after)
+}
+
 #[cfg(test)]
 mod tests {
     use super::*;
@@ -345,5 +402,54 @@ mod tests {
         for len in [0, 1, 11, 12, 2040, 65_536] {
             assert!(judged(&vec![0; len]).is_err());
         }
+    }
+
+    #[test]
+    fn lists_that_are_set_are_read_back() {
+        let settings = Settings {
+            nodes: 3,
+            beat: 64,
+            slots: 1,
+            credit: 0,
+        };
+        let mut memory = image(settings);
+        let whole = memory.clone();
+        for of in [vec![], vec![2049], vec![4098, 1], vec![4098, 1, 2048]] {
+            set_nodes(&mut memory, 3, 7, &of);
+            assert_eq!(nodes_of(&memory, 3, 7), of);
+        }
+        memory.copy_from_slice(&whole);
+        assert_eq!(nodes_of(&memory, 3, 150), [6144, 6145, 6146]);
+        set_nodes(&mut memory, 3, 150, &[6144, 6145, 6146]);
+        assert_eq!(memory, whole);
+        // Links that turn in a circle, and one that leads nowhere.
+        set_nodes(&mut memory, 3, 150, &[6144, 6145, 6144]);
+        let tables = Tables::of(3);
+        tables.count.set(&mut memory, 150, u32::MAX);
+        assert_eq!(nodes_of(&memory, 3, 150).len(), 12);
+        tables.head.set(&mut memory, 150, 8192);
+        assert_eq!(nodes_of(&memory, 3, 150), []);
+    }
+
+    #[test]
+    fn a_repair_is_the_models() {
+        let settings = Settings {
+            nodes: 2,
+            beat: 256,
+            slots: 3,
+            credit: 9,
+        };
+        let mut memory = image(settings);
+        memory.extend([1, 2, 3]);
+        memory[12..16].copy_from_slice(&[3, 4, 1, 255]);
+        memory[20..2092].fill(7);
+        let after = repaired(&memory).unwrap();
+        let wanted = Ledger::repaired(settings, [3, 4, 1, 255]);
+        assert_eq!(judged(&after).unwrap().ledger(), Some(&wanted));
+        assert_eq!(after[2092..], [1, 2, 3]);
+        assert_eq!(repaired(&after), Some(after));
+        assert_eq!(repaired(&memory[..2091]), None);
+        memory[1] = 5;
+        assert_eq!(repaired(&memory), None);
     }
 }

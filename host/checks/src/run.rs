@@ -7,7 +7,7 @@ use traffic::{Profile, Random, Traffic};
 
 use crate::counts::Counts;
 use crate::cut::cut_down;
-use crate::{changes_nothing, difference, reader, Desk};
+use crate::{changes_nothing, difference, night, reader, Desk};
 
 /// Bytes behind the lent memory, to see that nobody writes there.
 const GUARD: usize = 64;
@@ -159,16 +159,19 @@ impl<'d, D: Desk> Pair<'d, D> {
         Ok(answer)
     }
 
-    /// The whole ledger, read off the bytes, beside the model's.
+    /// The whole ledger, read off the bytes, beside the model's; then what the
+    /// night crew is told of it.
     pub fn compare_ledgers(&self) -> Result<(), String> {
-        let pictured = reader::ledger(&self.memory()[..self.lent]);
-        match (pictured, self.model.ledger()) {
-            (Ok(pictured), Some(wanted)) if pictured == *wanted => Ok(()),
-            (Err(_), None) => Ok(()),
-            (Ok(pictured), Some(wanted)) => Err(ledger_difference(&pictured, wanted)),
-            (Ok(_), None) => Err("the memory pictures a ledger and the model has none".into()),
-            (Err(why), Some(_)) => Err(format!("the memory pictures no ledger: {why}")),
+        let memory = &self.memory()[..self.lent];
+        match (reader::ledger(memory), self.model.ledger()) {
+            (Ok(pictured), Some(wanted)) if pictured == *wanted => {}
+            (Err(_), None) => {}
+            (Ok(pictured), Some(wanted)) => return Err(ledger_difference(&pictured, wanted)),
+            (Ok(_), None) => return Err("the memory pictures a ledger, the model has none".into()),
+            (Err(why), Some(_)) => return Err(format!("the memory pictures no ledger: {why}")),
         }
+        night::PROVED.finds(memory)?;
+        night::PROVED.audits(memory, &self.model)
     }
 }
 

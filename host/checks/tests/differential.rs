@@ -200,7 +200,9 @@ fn damaged_memory_is_judged_alike_by_all() {
     }
     println!("{verdicts}");
     assert_eq!(verdicts.memories(), 2000);
-    assert!(verdicts.states > 200 && verdicts.no_states > 200);
+    assert!(verdicts.states > 100 && verdicts.no_states > 1000);
+    assert!(verdicts.repairs > 500);
+    assert_eq!(verdicts.too_rare(1), []);
 }
 
 // Would slips be found? Libraries with one, each found and cut down.
@@ -296,48 +298,4 @@ fn a_slip_in_the_test_for_a_state_is_found() {
     let failure = found.expect("the slip was not found");
     assert_eq!(failure.changes.len(), 1);
     assert_eq!(failure.changes[0].at, 16);
-}
-
-/// Rules with a slip, looked for on damaged memory.
-fn found_among_the_rules(slip: damage::Rules) -> String {
-    for number in 0..400 {
-        let plan = damage::Plan::numbered(9, number, 50);
-        let mut verdicts = damage::Verdicts::default();
-        if let Err(failure) = damage::run_with(&plan, &library::call, &slip, &mut verdicts) {
-            return failure.message;
-        }
-    }
-    panic!("the slip was not found");
-}
-
-/// A test that lets one rule's breaches through, another that refuses a state,
-/// and a first broken rule that is told too late.
-#[test]
-fn a_slip_in_the_test_or_in_the_rules_is_found() {
-    for (slip, wanted) in [
-        (
-            damage::Rules {
-                is_state: |memory| !matches!(rules::first_broken(memory), Some('a'..='f')),
-                ..damage::PROVED
-            },
-            "the test says true, the first broken rule is Some('g')",
-        ),
-        (
-            damage::Rules {
-                is_state: |memory| rules::is_state(memory) && memory[16] == 0,
-                ..damage::PROVED
-            },
-            "the test says false, the first broken rule is None",
-        ),
-        (
-            damage::Rules {
-                first_broken: |memory| rules::first_broken(memory).map(|rule| rule.max('d')),
-                ..damage::PROVED
-            },
-            "the first broken rule is Some('d'), the reader's Some(\"(",
-        ),
-    ] {
-        let message = found_among_the_rules(slip);
-        assert!(message.starts_with(wanted), "{message}");
-    }
 }

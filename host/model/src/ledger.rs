@@ -6,7 +6,7 @@ use std::collections::VecDeque;
 use crate::header;
 use crate::{
     price, Choice, ListKind, Packet, Reply, Settings, Side, DESTINATIONS, ENTRIES_PER_PORT,
-    MOST_CREDIT, PORTS, QUEUES, ROUND_BYTES, SHORTEST,
+    MOST_CREDIT, PLACE_BYTES, PORTS, QUEUES, ROUND_BYTES, SHORTEST,
 };
 
 /// What the ledger holds for one port. Lists run from the oldest (front) to
@@ -82,6 +82,15 @@ impl Ledger {
             settings,
             ports: std::array::from_fn(|port| Port::starting(port as u32, &settings)),
             map: [0; DESTINATIONS as usize],
+        }
+    }
+
+    /// The ledger that a repair writes: the starting one with the map kept,
+    /// entries above the last port set to 0.
+    pub fn repaired(settings: Settings, map: [u32; DESTINATIONS as usize]) -> Ledger {
+        Ledger {
+            map: map.map(|port| if port < PORTS { port } else { 0 }),
+            ..Ledger::starting(settings)
         }
     }
 
@@ -257,6 +266,19 @@ impl Ledger {
         Ok(Reply::Found(kind, position))
     }
 
+    /// Every node's place, port by port and index by index.
+    pub(crate) fn places(&self) -> Vec<u8> {
+        let nodes = self.settings.nodes as usize;
+        let mut places = vec![0; PLACE_BYTES * PORTS as usize * nodes];
+        for (kind, list) in self.lists() {
+            for (position, &entry) in (0..).zip(list) {
+                let at = PLACE_BYTES * (owner(entry) * nodes + index(entry));
+                places[at..at + PLACE_BYTES].copy_from_slice(&told_place(entry, kind, position));
+            }
+        }
+        places
+    }
+
     /// One stitch at each port in order, then one prefetch for each port and
     /// queue, then one turn at each port.
     pub(crate) fn round(&mut self, room: usize, choice: Choice) -> Result<Reply, u8> {
@@ -341,6 +363,19 @@ fn told_turn(turn: Result<Reply, u8>) -> [u8; 4] {
         }
         Ok(_) => [0, 1, 0, 0],
     }
+}
+
+/// A place in eight bytes: entry id (2), list kind, port, queue or 0, zero,
+/// position (2).
+fn told_place(entry: u16, kind: ListKind, position: u16) -> [u8; PLACE_BYTES] {
+    let (number, port, queue) = match kind {
+        ListKind::Free { port } => (0, port, 0),
+        ListKind::Ingress { port } => (1, port, 0),
+        ListKind::Egress { port, queue } => (2, port, queue),
+        ListKind::Prefetch { port, queue } => (3, port, queue),
+    };
+    let ([e0, e1], [p0, p1]) = (entry.to_be_bytes(), position.to_be_bytes());
+    [e0, e1, number, port as u8, queue as u8, 0, p0, p1]
 }
 
 /// The lowest set bit above the last served queue or, if there is none, the

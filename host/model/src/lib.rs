@@ -1,5 +1,5 @@
 //! An independent model of the queue manager, written from papers 01 and 02
-//! (requests) alone.
+//! (requests) alone.
 //!
 //! The model keeps plain lists and numbers; it has no memory image. The
 //! caller's memory is only a length here, so that setup can refuse a short one.
@@ -35,6 +35,9 @@ pub const LONGEST: u32 = 8191;
 
 /// The bytes that a round writes: four for each port's turn.
 pub const ROUND_BYTES: usize = 4 * PORTS as usize;
+
+/// The bytes that an audit writes for each node.
+pub const PLACE_BYTES: usize = 8;
 
 /// The numbers of the refusals.
 pub const REFUSALS: [u8; 18] = [
@@ -231,6 +234,17 @@ impl Model {
     /// The ledger; none before the first accepted setup.
     pub fn ledger(&self) -> Option<&Ledger> {
         self.ledger.as_ref()
+    }
+
+    /// The audit: every node's place, eight bytes each, into lent room. The
+    /// error is the refusal's number, and then the room is as it was; past the
+    /// answer it stays.
+    pub fn audit(&self, room: &mut [u8]) -> Result<(), u8> {
+        let places = self.ledger.as_ref().ok_or(3)?.places();
+        room.get_mut(..places.len())
+            .ok_or(27)?
+            .copy_from_slice(&places);
+        Ok(())
     }
 
     /// The model's own soundness, rules (a) to (g) in the paper's order. A

@@ -1029,6 +1029,76 @@ fn check_names_the_broken_rule() {
     assert_eq!(broken(|l| l.ports[3].arrival_credit[1] = 0), "(g)");
 }
 
+// The night crew's audit and repair.
+
+/// The eight bytes of node `entry`'s place, of what where answers.
+fn block(desk: &mut Desk, entry: u32) -> [u8; 8] {
+    let (kind, port, queue, position) = match desk.place(entry) {
+        Reply::Found(ListKind::Free { port }, position) => (0, port, 0, position),
+        Reply::Found(ListKind::Ingress { port }, position) => (1, port, 0, position),
+        Reply::Found(ListKind::Egress { port, queue }, position) => (2, port, queue, position),
+        Reply::Found(ListKind::Prefetch { port, queue }, position) => (3, port, queue, position),
+        other => panic!("{other:?}"),
+    };
+    let number = u64::from(entry) << 48
+        | kind << 40
+        | u64::from(port) << 32
+        | u64::from(queue) << 24
+        | u64::from(position);
+    number.to_be_bytes()
+}
+
+#[test]
+fn an_audit_tells_what_where_answers() {
+    let mut desk = Desk::new(SMALL);
+    desk.map(1, 2);
+    desk.bring(5, 100);
+    for queue in [3, 3, 7] {
+        desk.arrive(1, &written(1, 1, queue, 77));
+        desk.stitch(1);
+    }
+    desk.prefetch(2, 3);
+    desk.arrive(1, &written(1, 1, 9, 77));
+    let mut room = [9; 8 * 32 + 3];
+    assert_eq!(desk.0.audit(&mut room), Ok(()));
+    for (node, told) in (0..32).zip(room.chunks_exact(8)) {
+        assert_eq!(told, block(&mut desk, node / 8 * 2048 + node % 8));
+    }
+    assert_eq!(room[8 * 32..], [9; 3]);
+    // Port 1, node 1: second of queue 3, and first in egress once the other is prefetched.
+    assert_eq!(room[8 * 9..8 * 10], [8, 1, 2, 2, 3, 0, 0, 0]);
+    // Port 1, node 3: the one in ingress.
+    assert_eq!(room[8 * 11..8 * 12], [8, 3, 1, 1, 0, 0, 0, 0]);
+    // Port 3, node 5: sixth of the free list.
+    assert_eq!(room[8 * 29..8 * 30], [24, 5, 0, 3, 0, 0, 0, 5]);
+}
+
+#[test]
+fn an_audit_is_refused_3_then_27() {
+    let mut room = [9; 8 * 32];
+    for bytes in [0, 8 * 32 - 1, 8 * 32] {
+        assert_eq!(Model::new(size(8)).audit(&mut room[..bytes]), Err(3));
+    }
+    let desk = Desk::new(SMALL);
+    for bytes in 0..8 * 32 {
+        assert_eq!(desk.0.audit(&mut room[..bytes]), Err(27));
+    }
+    assert_eq!(room, [9; 8 * 32]);
+    assert_eq!(desk.0.audit(&mut room), Ok(()));
+}
+
+#[test]
+fn a_repair_keeps_the_map_alone() {
+    let repaired = crate::Ledger::repaired(SMALL, [3, 4, 1, 255]);
+    assert_eq!(repaired.map, [3, 0, 1, 0]);
+    let mut starting = crate::Ledger::starting(SMALL);
+    assert_ne!(repaired, starting);
+    starting.map = repaired.map;
+    assert_eq!(repaired, starting);
+    let model = Model::with_ledger(size(8), repaired);
+    assert_eq!(model.check(), Ok(()));
+}
+
 // The bench program.
 
 /// Bytes from hex digits; blanks don't count.

@@ -1,11 +1,12 @@
 //! How fast the proved library is on this machine, told as Markdown: beside a
 //! bare walk over the same links, and beside the model.
 //!
-//! Every public call but setup first tests whether the memory is a state. That
-//! test by itself, the acts without it, and the checksum are timed too, from
-//! archives of their own.
+//! Every public call but setup and the finding first tests whether the memory is
+//! a state. That test by itself, the acts without it, and the checksum are timed
+//! too, from archives of their own.
 
 mod acts;
+mod night;
 mod rounds;
 mod sums;
 
@@ -91,68 +92,79 @@ fn walk(memory: &[u8], tables: &Tables, nodes: usize, mut sum: u64) -> u64 {
     sum
 }
 
-/// What is timed on a memory, the bare walk last.
-const WALKS: [&str; 4] = ["test", "ready", "a walk a rule", "bare walk"];
-
-/// Nanoseconds for each of them.
-fn walks_of(memory: &[u8], nodes: u32) -> [f64; 4] {
-    let tables = Tables::of(nodes as usize);
+/// Nanoseconds for each of some works on a memory of so many nodes, at its
+/// best. They take turns, so that all meet the same weather.
+fn in_turns<const K: usize>(nodes: u32, mut works: [&mut dyn FnMut(); K]) -> [f64; K] {
     let times = 8_000 / (40 + nodes as usize);
-    let (mut least, mut sum) = ([f64::INFINITY; 4], 0);
-    let mut measure = |which: usize, work: &mut dyn FnMut()| {
-        let spent = timed(|| (0..times).for_each(|_| work()));
-        least[which] = f64::min(least[which], spent / times as f64);
-    };
-    // In turns, so that all meet the same weather.
+    let mut least = [f64::INFINITY; K];
     for _ in 0..SAMPLES {
-        measure(0, &mut || assert!(rules::is_state(memory)));
-        measure(1, &mut || {
-            let (mut word, mut count) = (0, 0);
-            assert_eq!(calls::ready(memory, 0, &mut word, &mut count), 0);
-        });
-        measure(2, &mut || assert_eq!(rules::first_broken(memory), None));
-        measure(3, &mut || sum = walk(memory, &tables, nodes as usize, sum));
+        for (least, work) in least.iter_mut().zip(&mut works) {
+            let spent = timed(|| (0..times).for_each(|_| work()));
+            *least = least.min(spent / times as f64);
+        }
     }
+    least
+}
+
+/// What lists hold counts, so several memories are taken for each N.
+const MEMORIES: u64 = 12;
+
+/// Of several memories, nanoseconds for some works: the mean of one beside that
+/// of another, and the least and the greatest ratio in one memory.
+fn beside<const K: usize>(spent: &[[f64; K]], which: usize, other: usize) -> String {
+    let ratios = || spent.iter().map(|s| s[which] / s[other]);
+    format!(
+        "{:.2} | {:.2} to {:.2}",
+        mean(spent, which) / mean(spent, other),
+        ratios().fold(f64::INFINITY, f64::min),
+        ratios().fold(0.0, f64::max)
+    )
+}
+
+fn mean<const K: usize>(spent: &[[f64; K]], which: usize) -> f64 {
+    spent.iter().map(|s| s[which]).sum::<f64>() / spent.len() as f64
+}
+
+/// Nanoseconds for the bare walk, the test and ready on a memory.
+fn walks_of(memory: &[u8], nodes: u32) -> [f64; 3] {
+    let tables = Tables::of(nodes as usize);
+    let (mut sum, mut walks) = (0, 0);
+    let spent = in_turns(
+        nodes,
+        [
+            &mut || {
+                sum = walk(memory, &tables, nodes as usize, sum);
+                walks += 1;
+            },
+            &mut || assert!(rules::is_state(memory)),
+            &mut || assert_eq!(calls::ready(memory, 0, &mut 0, &mut 0), 0),
+        ],
+    );
     // Each walk met each node once.
     let once: u32 = (0..PORTS)
         .flat_map(|port| (0..nodes).map(move |index| port * 2048 + index))
         .sum();
-    assert_eq!(sum, u64::from(once) * (SAMPLES * times) as u64);
-    least
+    assert_eq!(sum, u64::from(once) * walks);
+    spent
 }
 
-/// What the lists hold counts, so several memories are taken for each N.
 fn the_test_for_a_state() {
-    const MEMORIES: u64 = 12;
-    let [test, ready, rules, bare] = WALKS;
     println!("### The test for a state, beside a bare walk of the same links\n");
-    println!("| N | nodes in all | {bare}, ns | {test}, ns | ns a node | ratio | in one memory | {ready}, ns | ratio | in one memory | {rules}, ns | ratio | in one memory |");
-    println!("|---|---|---|---|---|---|---|---|---|---|---|---|---|");
+    println!("| N | nodes in all | bare walk, ns | test, ns | ns a node | ratio | in one memory | ready, ns | ratio | in one memory |");
+    println!("|---|---|---|---|---|---|---|---|---|---|");
     for nodes in [1, 16, 64, 256, 2048] {
-        let spent: Vec<[f64; 4]> = (1..=MEMORIES)
+        let spent: Vec<[f64; 3]> = (1..=MEMORIES)
             .map(|seed| walks_of(&used_memory(seed, nodes), nodes))
             .collect();
-        let mean = |which: usize| spent.iter().map(|s| s[which]).sum::<f64>() / MEMORIES as f64;
-        let beside = |which: usize| {
-            let ratios = || spent.iter().map(|s| s[which] / s[3]);
-            format!(
-                "{:.2} | {:.2} to {:.2}",
-                mean(which) / mean(3),
-                ratios().fold(f64::INFINITY, f64::min),
-                ratios().fold(0.0, f64::max)
-            )
-        };
         let all = f64::from(PORTS * nodes);
         println!(
-            "| {nodes} | {all} | {:.0} | {:.0} | {:.1} | {} | {:.0} | {} | {:.0} | {} |",
-            mean(3),
-            mean(0),
-            mean(0) / all,
-            beside(0),
-            mean(1),
-            beside(1),
-            mean(2),
-            beside(2)
+            "| {nodes} | {all} | {:.0} | {:.0} | {:.1} | {} | {:.0} | {} |",
+            mean(&spent, 0),
+            mean(&spent, 1),
+            mean(&spent, 1) / all,
+            beside(&spent, 1, 0),
+            mean(&spent, 2),
+            beside(&spent, 2, 0)
         );
     }
     println!();
@@ -434,6 +446,8 @@ fn main() {
     println!("On {}, in one process.\n", processor());
     the_checksum();
     the_test_for_a_state();
+    night::on_sound_images();
+    night::on_images_broken_late();
     each_call_through_c();
     println!("### Whole public calls on the same valid traffic, ns a call\n");
     beside_the_model(single, quick);

@@ -1,5 +1,6 @@
-//! The C interface's calls, with slices for pointers and lengths: each answers
-//! 0 or a refusal's number, and a refusal changes neither memory nor room.
+//! The C interface's calls, with slices for pointers and lengths: each but the
+//! size and the finding answers 0 or a refusal's number, and a refusal changes
+//! neither memory nor room.
 //!
 //! All of this crate's unsafe code is here. C asks that a pointer is valid for
 //! its length, that it is aligned, and that lent memories do not overlap. A
@@ -41,6 +42,9 @@ mod c {
             count: *mut u32,
         ) -> u32;
         pub fn vr_where(mem: *const u8, len: usize, entry: u32, place: *mut u8) -> u32;
+        pub fn vr_audit(mem: *const u8, len: usize, places: *mut u8, places_len: usize) -> u32;
+        pub fn vr_find(mem: *const u8, len: usize, rule: *mut u32, item: *mut u64);
+        pub fn vr_repair(mem: *mut u8, len: usize) -> u32;
     }
 }
 
@@ -123,4 +127,27 @@ pub fn ready(memory: &[u8], port: u32, word: &mut u64, count: &mut u32) -> u32 {
 pub fn place_of(memory: &[u8], entry: u32, place: &mut [u8; 8]) -> u32 {
     // Sound: the memory is read only; the room has the 8 bytes C asks for.
     unsafe { c::vr_where(memory.as_ptr(), memory.len(), entry, place.as_mut_ptr()) }
+}
+
+pub fn audit(memory: &[u8], places: &mut [u8]) -> u32 {
+    // Sound: the memory is read only; two slices with their lengths, apart.
+    unsafe {
+        c::vr_audit(
+            memory.as_ptr(),
+            memory.len(),
+            places.as_mut_ptr(),
+            places.len(),
+        )
+    }
+}
+
+/// Never refused: both numbers are written always.
+pub fn find(memory: &[u8], rule: &mut u32, item: &mut u64) {
+    // Sound: the memory is read only; two aligned rooms, apart from it.
+    unsafe { c::vr_find(memory.as_ptr(), memory.len(), rule, item) }
+}
+
+pub fn repair(memory: &mut [u8]) -> u32 {
+    // Sound: the slice's own pointer and length.
+    unsafe { c::vr_repair(memory.as_mut_ptr(), memory.len()) }
 }

@@ -31,13 +31,18 @@
 mod answers;
 #[allow(unsafe_code)]
 pub mod calls;
+mod night;
 mod refusal;
 
 pub use answers::{EntryId, ListKind, Place, Ready, Record, RoundTurn, Sent, Side, Turn};
+pub use night::{audit, find, repair, Finding, Rule};
 pub use refusal::Refusal;
 
 /// The bytes that a round writes: four for each port's turn.
 pub const ROUND_BYTES: usize = 16;
+
+/// The bytes that an audit writes for each node.
+pub const PLACE_BYTES: usize = 8;
 
 /// The settings, fixed at setup. Any numbers may stand here; setup refuses
 /// those that are not in their rows.
@@ -108,7 +113,8 @@ impl<M: AsRef<[u8]> + AsMut<[u8]>> Switch<M> {
     }
 
     /// Memory that may hold a state. If it holds none, every call but a setup
-    /// is refused 3.
+    /// and, where the settings are right, a repair is refused 3; [`find`] tells
+    /// why.
     pub fn over(memory: M) -> Switch<M> {
         Switch { memory }
     }
@@ -235,6 +241,37 @@ impl<M: AsRef<[u8]> + AsMut<[u8]>> Switch<M> {
             &mut place,
         ))?;
         Ok(Place::from_bytes(&place).expect("the library writes list kinds 0 to 3"))
+    }
+
+    /// What is wrong with the memory; none if it is a switch state. See [`find`].
+    pub fn find(&self) -> Option<Finding> {
+        find(self.memory.as_ref())
+    }
+
+    /// Every node's place, port by port and index by index; [`audit`] writes it
+    /// into lent room.
+    ///
+    /// ```
+    /// use ventorupo::{EntryId, ListKind, Refusal, Settings, Switch};
+    ///
+    /// let settings = Settings { nodes: 2, beat: 64, slots: 1, credit: 16 };
+    /// let mut switch = Switch::setup([0; 2092], settings).map_err(|(why, _)| why)?;
+    /// switch.arrive(0, &[0, 0, 0x30, 0, 0, 0, 0, 0, 0, 0x72])?;
+    /// let places = switch.audit()?;
+    /// assert_eq!(places.len(), 8);
+    /// assert_eq!(places[0].list, ListKind::Ingress { port: 0 });
+    /// assert_eq!(places[1].list, ListKind::Free { port: 0 });
+    /// assert_eq!(places[7].entry, EntryId(3 * 2048 + 1));
+    /// # Ok::<(), Refusal>(())
+    /// ```
+    pub fn audit(&self) -> Result<Vec<Place>, Refusal> {
+        night::places(self.memory.as_ref())
+    }
+
+    /// The starting ledger for the settings in the memory, with the map kept:
+    /// see [`repair`].
+    pub fn repair(&mut self) -> Result<(), Refusal> {
+        repair(self.memory.as_mut())
     }
 
     /// The bytes that the state lives in.

@@ -29,7 +29,7 @@ macro_rules! refusals {
 refusals! {
     ShortMemory = 1, "setup", "memory shorter than N needs";
     BadSetting = 2, "setup", "a setting not in its row";
-    NoState = 3, "all but setup", "memory is no switch state";
+    NoState = 3, "all but setup and the finding", "memory is no switch state; for repair, breaks rule (a)";
     NoPort = 4, "all with a port", "port above 3";
     NoQueue = 5, "prefetch and credit", "queue above 23; for credit also 0";
     HeaderSize = 6, "arrive", "header not ten bytes";
@@ -44,7 +44,7 @@ refusals! {
     NoSuchId = 15, "map and where", "id above 3; no such node";
     HeaderQueue = 19, "arrive", "header's queue above 23";
     ReservedBit = 20, "arrive", "header's reserved bit is 1";
-    ShortRoom = 27, "round", "room of less than four bytes a port";
+    ShortRoom = 27, "round and audit", "room of less than four bytes a port; for audit, eight a node";
 }
 
 impl Refusal {

@@ -1,9 +1,11 @@
 //! A refusal has one number and one name: in the wrapper, the ledger, the C
-//! header and the README.
+//! header and the README; and these speak of the same calls.
 
 use ventorupo::Refusal;
 
 const LEDGER: &str = include_str!("../../../crates/ledger/src/lib.rt");
+const CALLS: &str = include_str!("../src/calls.rs");
+const CAPI: &str = include_str!("../../../crates/capi/src/lib.rt");
 const HEADER: &str = include_str!("../../../include/ventorupo.h");
 const README: &str = include_str!("../../../README.md");
 
@@ -59,6 +61,43 @@ fn the_c_header_has_the_same_names_in_capitals() {
     let mut answers = vec![(0, "DONE".to_string())];
     answers.extend(wrapped(in_capitals));
     assert_eq!(listed(lines, "VR_", " = "), answers);
+}
+
+/// The calls that give a refusal, and its meaning, as the C header tells them
+/// behind its number; where N and D are meant, it has words of its own.
+#[test]
+fn the_c_header_has_the_same_meanings() {
+    let lines = between(HEADER, "enum vr_answer {", "};").lines().skip(1);
+    for (line, refusal) in lines.zip(Refusal::ALL) {
+        let (_, told) = between(line, "/* ", " */").split_once(": ").expect(line);
+        let wanted = refusal.to_string();
+        let wanted = wanted.replace("N needs", "the nodes need");
+        assert_eq!(told, wanted.replace("D slots", "all slots"), "{line}");
+    }
+}
+
+/// The calls of the C interface that a text names where it declares them.
+fn calls_in(text: &str, before: &str) -> Vec<String> {
+    let name = |rest: &str| {
+        let (name, _) = rest.split_once('(').expect("a list of arguments");
+        format!("vr_{}", name.trim())
+    };
+    let mut names: Vec<String> = text.split(before).skip(1).map(name).collect();
+    names.sort();
+    names
+}
+
+/// The proved archive, the C header and the wrapper; each once.
+#[test]
+fn all_speak_of_the_same_calls() {
+    let wrapped = calls_in(CALLS, "pub fn vr_");
+    let declared = |line: &&str| line.starts_with("uint") || line.starts_with("void");
+    let header: Vec<&str> = HEADER.lines().filter(declared).collect();
+    assert_eq!(calls_in(&header.join("\n"), " vr_"), wrapped);
+    assert_eq!(calls_in(CAPI, "pub extern \"C\" fn vr_"), wrapped);
+    for call in ["vr_audit", "vr_find", "vr_repair", "vr_where"] {
+        assert!(wrapped.iter().any(|name| name == call), "{call}");
+    }
 }
 
 #[test]

@@ -1,6 +1,9 @@
 //! The wrapper's own promises: memories of every kind, and the refusals.
 
-use ventorupo::{size, EntryId, Refusal, RoundTurn, Settings, Switch, ROUND_BYTES};
+use ventorupo::{
+    audit, find, repair, size, EntryId, Finding, ListKind, Refusal, RoundTurn, Rule, Settings,
+    Switch, PLACE_BYTES, ROUND_BYTES,
+};
 
 const SETTINGS: Settings = Settings {
     nodes: 1,
@@ -118,4 +121,122 @@ fn four_bytes_tell_of_a_turn_or_of_none() {
     ] {
         assert_eq!(turn(bytes), None);
     }
+}
+
+#[test]
+fn rules_and_their_numbers() {
+    for (number, (letter, rule)) in (1..).zip(('a'..='g').zip(Rule::ALL)) {
+        assert_eq!((rule.number(), rule.letter()), (number, letter));
+        assert_eq!(Rule::from_number(number), Some(rule));
+    }
+    for number in [0, 8, 9, 256 + 1, u32::MAX] {
+        assert_eq!(Rule::from_number(number), None);
+    }
+    let finding = Finding {
+        rule: Rule::G,
+        item: 91,
+    };
+    assert_eq!(finding.to_string(), "rule (g), item 91");
+}
+
+#[test]
+fn a_finding_is_never_refused() {
+    let too_short = Some(Finding {
+        rule: Rule::A,
+        item: 6,
+    });
+    assert_eq!(find(&[]), too_short);
+    assert_eq!(find(&[0; 11]), too_short);
+    let no_ports = Some(Finding {
+        rule: Rule::A,
+        item: 0,
+    });
+    assert_eq!(find(&[0; 12]), no_ports);
+    assert_eq!(Switch::over(vec![0; 65_536]).find(), no_ports);
+    let switch = Switch::setup(vec![0; size(1).unwrap()], SETTINGS).unwrap();
+    assert_eq!(switch.find(), None);
+    let short = size(1).unwrap() - 1;
+    assert_eq!(find(&switch.memory()[..short]), too_short);
+}
+
+#[test]
+fn an_audit_tells_every_place() {
+    for nodes in [1, 2, 16, 256, 2048] {
+        let settings = Settings { nodes, ..SETTINGS };
+        let mut switch = Switch::setup(vec![0; size(nodes).unwrap()], settings).unwrap();
+        switch.arrive(0, &SHORTEST).unwrap();
+        let places = switch.audit().unwrap();
+        assert_eq!(places.len(), 4 * nodes as usize);
+        assert_eq!(places[0].list, ListKind::Ingress { port: 0 });
+        for (at, place) in (0..).zip(&places) {
+            let entry = EntryId(at / nodes as u16 * 2048 + at % nodes as u16);
+            assert_eq!(place.entry, entry);
+            assert_eq!(switch.place_of(entry), Ok(*place));
+        }
+    }
+}
+
+#[test]
+fn an_audit_writes_into_lent_room() {
+    let switch = Switch::setup(vec![0; size(1).unwrap()], SETTINGS).unwrap();
+    for bytes in 0..4 * PLACE_BYTES {
+        let mut room = vec![9; bytes];
+        let answer = audit(switch.memory(), &mut room);
+        assert_eq!((answer, room), (Err(Refusal::ShortRoom), vec![9; bytes]));
+    }
+    let mut room = [9; 4 * PLACE_BYTES + 3];
+    assert_eq!(audit(switch.memory(), &mut room), Ok(()));
+    let told = [0, 8, 16, 24].map(|high| [high, 0, 0, high / 8, 0, 0, 0, 0]);
+    assert_eq!(room[..4 * PLACE_BYTES], told.concat());
+    assert_eq!(room[4 * PLACE_BYTES..], [9; 3]);
+    // No state: refused 3 whatever the room.
+    for bytes in [0, 4 * PLACE_BYTES] {
+        let mut room = vec![9; bytes];
+        let answer = audit(&switch.memory()[1..], &mut room);
+        assert_eq!((answer, room), (Err(Refusal::NoState), vec![9; bytes]));
+    }
+    assert_eq!(Switch::over(vec![7; 100]).audit(), Err(Refusal::NoState));
+}
+
+#[test]
+fn a_repair_keeps_settings_map_and_what_is_past_the_size() {
+    let mut memory = vec![0; size(1).unwrap() + 3];
+    memory[2040..].fill(9);
+    let mut switch = Switch::setup(memory, SETTINGS).unwrap();
+    switch.map(2, 3).unwrap();
+    let mended = switch.memory().to_vec();
+    switch.arrive(0, &SHORTEST).unwrap();
+    let mut memory = switch.into_memory();
+    memory[12] = 4;
+    memory[19] = 24;
+    assert!(find(&memory).is_some());
+    let mut switch = Switch::over(memory);
+    assert_eq!(switch.turn(0), Err(Refusal::NoState));
+    assert_eq!(switch.repair(), Ok(()));
+    assert_eq!((switch.find(), switch.memory()), (None, &mended[..]));
+    // A sound one is emptied too.
+    switch.arrive(0, &SHORTEST).unwrap();
+    assert_eq!(switch.repair(), Ok(()));
+    assert_eq!(switch.memory(), mended);
+}
+
+#[test]
+fn a_repair_is_refused_where_the_settings_are_wrong() {
+    let mut memory = Switch::setup(vec![0; size(1).unwrap()], SETTINGS)
+        .unwrap()
+        .into_memory();
+    for setting in 0..5 {
+        let kept = [memory[2 * setting], memory[2 * setting + 1]];
+        memory[2 * setting..2 * setting + 2].fill(0xFF);
+        let before = memory.clone();
+        let item = setting as u64;
+        let rule = Rule::A;
+        assert_eq!(find(&memory), Some(Finding { rule, item }));
+        assert_eq!(repair(&mut memory), Err(Refusal::NoState));
+        assert_eq!(memory, before);
+        memory[2 * setting..2 * setting + 2].copy_from_slice(&kept);
+    }
+    assert_eq!(repair(&mut memory[..2039]), Err(Refusal::NoState));
+    assert_eq!(repair(&mut memory), Ok(()));
+    assert_eq!(repair(&mut []), Err(Refusal::NoState));
 }

@@ -1,5 +1,6 @@
 //! `soak [CALLS [SEED]]`: so many calls of the library beside the model, and
-//! a damaged memory for each 50 of them, on all processors.
+//! a damaged memory for each 50 of them, with what the night crew asks of it, on
+//! all processors.
 
 use std::process::exit;
 use std::time::Instant;
@@ -13,8 +14,11 @@ const USAGE: &str = "soak [CALLS [SEED]]";
 const CALLS_A_RUN: u64 = 5000;
 const DAMAGED_A_RUN: u64 = 100;
 const CALLS_FOR_A_DAMAGED: u64 = 50;
-/// From so many calls on, each refusal must have come often enough.
+/// From so many calls on, each refusal must have come often enough, and each
+/// way of breaking a rule.
 const MANY_CALLS: u64 = 1_000_000;
+/// Of ten million calls and 200,000 damaged memories, ten times as often.
+const CALLS_FOR_A_WAY: u64 = 100_000;
 
 fn main() {
     let mut words = std::env::args().skip(1);
@@ -66,6 +70,11 @@ fn main() {
         let rare = counts.too_rare(100, 1000);
         if !rare.is_empty() || !counts.each_call_at_least(1000) {
             println!("FAILED: too rare to count, refusal and times: {rare:?}");
+            exit(1);
+        }
+        let rare = verdicts.too_rare(calls / CALLS_FOR_A_WAY);
+        if !rare.is_empty() {
+            println!("FAILED: too rarely found broken: {rare:?}");
             exit(1);
         }
     }

@@ -1,0 +1,302 @@
+//! The first rule of soundness that bytes break and the first item that shows
+//! it, read off any bytes by docs/LAYOUT.md and docs/FINDINGS.md alone: no
+//! ledger is made, and nothing is shared with the proved library.
+
+use std::cmp::Ordering;
+
+use model::{price, size, ListKind, DESTINATIONS, LONGEST, MOST_NODES, PORTS, QUEUES, SHORTEST};
+
+use crate::reader::{credit_cell, list_number, Table, Tables, LISTS, LISTS_PER_PORT};
+
+/// A broken rule.
+#[derive(Debug, Clone, Copy, PartialEq, Eq)]
+pub struct Finding {
+    /// `a` to `g`.
+    pub rule: char,
+    pub item: u64,
+    /// In which way, one of `WAYS`.
+    pub way: &'static str,
+}
+
+impl Finding {
+    /// As the C interface tells it: 1 is (a).
+    pub fn number(&self) -> u32 {
+        self.rule as u32 - 'a' as u32 + 1
+    }
+}
+
+/// Every way in which a rule can be found broken. The setting of credit is
+/// none: two bytes hold nothing that isn't in its row.
+pub const WAYS: [(char, &str); 28] = [
+    ('a', "ports"),
+    ('a', "queues"),
+    ('a', "nodes"),
+    ('a', "beat"),
+    ('a', "slots"),
+    ('a', "too short for settings"),
+    ('a', "too short for the state"),
+    ('b', "last served queue"),
+    ('b', "map entry"),
+    ('b', "too many prefetched"),
+    ('c', "an id that is no node"),
+    ('c', "a node twice in a list"),
+    ('c', "a node of an earlier list"),
+    ('c', "another tail"),
+    ('c', "a node in no list"),
+    ('d', "in a free list"),
+    ('d', "in an ingress list"),
+    ('e', "in an egress list"),
+    ('e', "in a prefetch list"),
+    ('f', "length too small"),
+    ('f', "length too great"),
+    ('f', "queue"),
+    ('f', "destination"),
+    ('f', "poisoned flag"),
+    ('f', "price"),
+    ('f', "price in queue 0"),
+    ('g', "too little"),
+    ('g', "too much"),
+];
+
+/// An item, and in which way it breaks the rule.
+type Breach = (u64, &'static str);
+
+/// A rule's first breach in an image.
+type Find<'m> = fn(&Image<'m>) -> Option<Breach>;
+
+/// The finding of any bytes; none if they are a switch state.
+pub fn first(memory: &[u8]) -> Option<Finding> {
+    let (rule, (item, way)) = match Image::open(memory) {
+        Err(breach) => ('a', breach),
+        Ok(image) => image.first()?,
+    };
+    Some(Finding { rule, item, way })
+}
+
+/// Bytes that keep rule (a): every element of every table can be read.
+struct Image<'m> {
+    memory: &'m [u8],
+    tables: Tables,
+    nodes: usize,
+    beat: u32,
+    slots: u32,
+    credit: u32,
+}
+
+/// The settings' names and rows, in the memory's order.
+fn in_its_row(setting: usize, number: u32) -> Result<(), &'static str> {
+    let (name, fits) = match setting {
+        0 => ("ports", number == PORTS),
+        1 => ("queues", number == QUEUES),
+        2 => ("nodes", (1..=MOST_NODES).contains(&number)),
+        3 => ("beat", [64, 128, 256, 512].contains(&number)),
+        4 => ("slots", (1..=8).contains(&number)),
+        _ => ("credit", number <= 65_535),
+    };
+    fits.then_some(()).ok_or(name)
+}
+
+impl<'m> Image<'m> {
+    /// Rule (a). Item 6 is that the memory is too short, for the settings too.
+    fn open(memory: &'m [u8]) -> Result<Image<'m>, Breach> {
+        if memory.len() < 12 {
+            return Err((6, "too short for settings"));
+        }
+        let setting = |i: usize| u32::from(memory[2 * i]) << 8 | u32::from(memory[2 * i + 1]);
+        for i in 0..6 {
+            in_its_row(i, setting(i)).map_err(|name| (i as u64, name))?;
+        }
+        if memory.len() < size(setting(2)) {
+            return Err((6, "too short for the state"));
+        }
+        let nodes = setting(2) as usize;
+        Ok(Image {
+            memory,
+            tables: Tables::of(nodes),
+            nodes,
+            beat: setting(3),
+            slots: setting(4),
+            credit: setting(5),
+        })
+    }
+
+    /// Rules (b) to (g): each is asked where those before it are kept.
+    fn first(&self) -> Option<(char, Breach)> {
+        let rules: [(char, Find<'m>); 6] = [
+            ('b', Self::ranges),
+            ('c', Self::once),
+            ('d', |image| image.each_node(Self::own_port)),
+            ('e', |image| image.each_node(Self::own_queue)),
+            ('f', |image| image.each_node(Self::record)),
+            ('g', Self::paid),
+        ];
+        let broken = |(rule, find): (char, Find<'m>)| Some((rule, find(self)?));
+        rules.into_iter().find_map(broken)
+    }
+
+    fn get(&self, table: Table, i: usize) -> u32 {
+        table.get(self.memory, i)
+    }
+
+    /// Rule (b): last served queues, then map entries, then prefetch lists, port
+    /// by port and queue by queue. Credits are in range in any two bytes.
+    fn ranges(&self) -> Option<Breach> {
+        for port in 0..PORTS {
+            if self.get(self.tables.last, port as usize) >= QUEUES {
+                return Some((port.into(), "last served queue"));
+            }
+        }
+        for id in 0..DESTINATIONS {
+            if self.get(self.tables.mapped, id as usize) >= PORTS {
+                return Some(((PORTS + id).into(), "map entry"));
+            }
+        }
+        for (port, queue) in (0..PORTS).flat_map(|p| (0..QUEUES).map(move |q| (p, q))) {
+            let list = list_number(ListKind::Prefetch { port, queue });
+            if self.get(self.tables.count, list) > self.slots {
+                let item = PORTS + DESTINATIONS + port * QUEUES + queue;
+                return Some((item.into(), "too many prefetched"));
+            }
+        }
+        None
+    }
+
+    /// A node's element in the tables of nodes; none if the id is no node's.
+    fn slot(&self, entry: u32) -> Option<usize> {
+        let (port, index) = (entry as usize / 2048, entry as usize % 2048);
+        (port < PORTS as usize && index < self.nodes).then(|| port * self.nodes + index)
+    }
+
+    /// Rule (c), a list: of each node it is noted in which list it was met.
+    fn list_once(&self, list: usize, met: &mut [Option<usize>]) -> Result<(), &'static str> {
+        let mut entry = self.get(self.tables.head, list);
+        let mut last = None;
+        for _ in 0..self.get(self.tables.count, list) {
+            let slot = self.slot(entry).ok_or("an id that is no node")?;
+            match met[slot].replace(list) {
+                None => {}
+                Some(before) if before == list => return Err("a node twice in a list"),
+                Some(_) => return Err("a node of an earlier list"),
+            }
+            last = Some(entry);
+            entry = self.get(self.tables.next, slot);
+        }
+        let tail = self.get(self.tables.tail, list);
+        // An empty list's tail is not read.
+        match last.map_or(true, |last| last == tail) {
+            true => Ok(()),
+            false => Err("another tail"),
+        }
+    }
+
+    /// Rule (c): the first list that is wrong; behind the lists' numbers, the
+    /// first node that stands in none.
+    fn once(&self) -> Option<Breach> {
+        let mut met = vec![None; PORTS as usize * self.nodes];
+        for list in 0..LISTS {
+            if let Err(way) = self.list_once(list, &mut met) {
+                return Some((list as u64, way));
+            }
+        }
+        let slot = met.iter().position(Option::is_none)?;
+        Some(((LISTS + slot) as u64, "a node in no list"))
+    }
+
+    /// Every node with its list and its slot, list by list and from the head:
+    /// read where rule (c) is kept.
+    fn nodes(&self) -> Vec<(usize, u32, usize)> {
+        let mut nodes = Vec::new();
+        for list in 0..LISTS {
+            let mut entry = self.get(self.tables.head, list);
+            for _ in 0..self.get(self.tables.count, list) {
+                if let Some(slot) = self.slot(entry) {
+                    nodes.push((list, entry, slot));
+                    entry = self.get(self.tables.next, slot);
+                }
+            }
+        }
+        nodes
+    }
+
+    /// Rules (d) to (f): the entry id of the first node that fails the test of
+    /// its list's port and column, its id and its slot.
+    fn each_node(
+        &self,
+        test: fn(&Self, usize, usize, u32, usize) -> Result<(), &'static str>,
+    ) -> Option<Breach> {
+        self.nodes().into_iter().find_map(|(list, entry, slot)| {
+            let (port, column) = (list / LISTS_PER_PORT, list % LISTS_PER_PORT);
+            let way = test(self, port, column, entry, slot).err()?;
+            Some((entry.into(), way))
+        })
+    }
+
+    /// Rule (d), of free and ingress lists.
+    fn own_port(
+        &self,
+        port: usize,
+        column: usize,
+        entry: u32,
+        _: usize,
+    ) -> Result<(), &'static str> {
+        match (entry as usize / 2048 == port, column) {
+            (false, 0) => Err("in a free list"),
+            (false, 1) => Err("in an ingress list"),
+            _ => Ok(()),
+        }
+    }
+
+    /// Rule (e), of egress and prefetch lists.
+    fn own_queue(&self, _: usize, column: usize, _: u32, slot: usize) -> Result<(), &'static str> {
+        let (queue, queues) = (self.get(self.tables.queue, slot) as usize, QUEUES as usize);
+        match column {
+            0 | 1 => Ok(()),
+            _ if column < 2 + queues && queue != column - 2 => Err("in an egress list"),
+            _ if column >= 2 + queues && queue != column - 2 - queues => Err("in a prefetch list"),
+            _ => Ok(()),
+        }
+    }
+
+    /// Rule (f), of all but free lists.
+    fn record(&self, _: usize, column: usize, _: u32, slot: usize) -> Result<(), &'static str> {
+        let field = |table: Table| self.get(table, slot);
+        let (length, queue) = (field(self.tables.length), field(self.tables.queue));
+        let paid = field(self.tables.price);
+        match column {
+            0 => Ok(()),
+            _ if length < SHORTEST => Err("length too small"),
+            _ if length > LONGEST => Err("length too great"),
+            _ if queue >= QUEUES => Err("queue"),
+            // As wide as the header's field.
+            _ if field(self.tables.dest) > 3 => Err("destination"),
+            _ if field(self.tables.poisoned) > 1 => Err("poisoned flag"),
+            _ if paid == price(length, queue, self.beat) => Ok(()),
+            _ if queue == 0 => Err("price in queue 0"),
+            _ => Err("price"),
+        }
+    }
+
+    /// Rule (g): the first credit that is not K together with the prices of its
+    /// port's nodes of its queue that aren't free.
+    fn paid(&self) -> Option<Breach> {
+        let mut owed = [[0; QUEUES as usize]; PORTS as usize];
+        for (list, entry, slot) in self.nodes() {
+            if list % LISTS_PER_PORT != 0 {
+                let queue = self.get(self.tables.queue, slot) as usize;
+                owed[entry as usize / 2048][queue] += self.get(self.tables.price, slot);
+            }
+        }
+        for (port, queue) in
+            (0..PORTS as usize).flat_map(|p| (1..QUEUES as usize).map(move |q| (p, q)))
+        {
+            let cell = credit_cell(port, queue);
+            let both = self.get(self.tables.arrival, cell) + owed[port][queue];
+            match both.cmp(&self.credit) {
+                Ordering::Less => return Some((cell as u64, "too little")),
+                Ordering::Greater => return Some((cell as u64, "too much")),
+                Ordering::Equal => {}
+            }
+        }
+        None
+    }
+}

@@ -1,0 +1,111 @@
+//! The examples of docs/FINDINGS.md, through library and independent reader.
+
+use checks::finding::{self, Finding};
+use checks::library;
+use checks::night::PROVED;
+use checks::reader;
+use model::{size, Call, Reply, Settings};
+use traffic::header;
+
+const PAGE: &str = include_str!("../../../docs/FINDINGS.md");
+
+/// The numbers among a text's words, commas in and behind them left out.
+fn numbers(text: &str) -> Vec<u32> {
+    let number = |word: &str| word.replace(',', "").parse().ok();
+    text.split_whitespace().filter_map(number).collect()
+}
+
+/// A line of the page that tells of a call.
+fn call(line: &str) -> Call {
+    let name = line.split_whitespace().next();
+    match (name, &numbers(line)[..]) {
+        (Some("setup"), &[nodes, beat, slots, credit]) => Call::Setup(Settings {
+            nodes,
+            beat,
+            slots,
+            credit,
+        }),
+        (Some("map"), &[id, port]) => Call::Map { id, port },
+        (Some("arrive"), &[port, to, queue, length]) => Call::Arrive {
+            port,
+            header: header(to, port, queue, length, false, false, 0, 0, 0).to_vec(),
+        },
+        (Some("stitch"), &[port]) => Call::Stitch { port },
+        (Some("prefetch"), &[port, queue]) => Call::Prefetch { port, queue },
+        _ => panic!("no call: {line}"),
+    }
+}
+
+/// The state that the page's calls leave on zero bytes.
+fn state() -> Vec<u8> {
+    let mut memory = vec![0; size(2)];
+    let lines = PAGE.lines().filter(|line| line.starts_with("    "));
+    let calls: Vec<Call> = lines.map(call).collect();
+    assert_eq!(calls.len(), 8);
+    for call in &calls {
+        let reply = library::call(&mut memory, call).unwrap();
+        assert!(!matches!(reply, Reply::Refused(_)), "{call:?}: {reply:?}");
+    }
+    memory
+}
+
+/// The rows of the examples: finding and what is changed.
+fn rows() -> Vec<(&'static str, &'static str)> {
+    let (_, table) = PAGE
+        .split_once("| finding | changed | in words |\n")
+        .unwrap();
+    let row = |line: &'static str| {
+        let mut cells = line.split(" | ");
+        let finding = cells.next()?.trim_start_matches("| ");
+        Some((finding, cells.next()?))
+    };
+    let rows = table.lines().skip(1).map(row);
+    rows.map(|row| row.expect("a row of three cells")).collect()
+}
+
+/// The state's bytes as a row has them.
+fn changed(state: &[u8], row: &str) -> Vec<u8> {
+    let mut memory = state.to_vec();
+    for change in row.split(", ") {
+        match numbers(change)[..] {
+            [at, to] if change.starts_with("byte ") => memory[at as usize] = to as u8,
+            [lent] if change.ends_with(" bytes lent") => memory.truncate(lent as usize),
+            _ => panic!("no change: {change}"),
+        }
+    }
+    assert_ne!(memory, state, "{row}");
+    memory
+}
+
+/// "(c) 157", or "none".
+fn told(found: Option<Finding>) -> String {
+    found.map_or("none".into(), |found| {
+        format!("({}) {}", found.rule, found.item)
+    })
+}
+
+#[test]
+fn the_pages_examples_are_found_so() {
+    let state = state();
+    assert_eq!(PROVED.finds(&state), Ok(None));
+    for (wanted, row) in rows() {
+        let memory = changed(&state, row);
+        assert_eq!(told(finding::first(&memory)), wanted, "{row}");
+        let judged = reader::judged(&memory);
+        let found = PROVED.agrees(&memory, memory.len(), &judged);
+        assert_eq!(found.map(told), Ok(wanted.into()), "{row}");
+    }
+}
+
+/// Every rule has its example, and every kind of item.
+#[test]
+fn the_page_has_an_example_for_each_rule() {
+    let rows = rows();
+    let examples = |rule: &str| {
+        rows.iter()
+            .filter(|(found, _)| found.starts_with(rule))
+            .count()
+    };
+    let counts = ["none", "(a)", "(b)", "(c)", "(d)", "(e)", "(f)", "(g)"].map(examples);
+    assert_eq!(counts, [1, 7, 3, 5, 1, 2, 3, 2]);
+}

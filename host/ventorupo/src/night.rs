@@ -1,0 +1,148 @@
+//! The night crew's calls, on any bytes: what is wrong with an image, where
+//! every node stands, and a repair.
+
+use std::fmt;
+
+use crate::{calls, done, Place, Refusal, PLACE_BYTES};
+
+/// A rule of soundness. docs/FINDINGS.md says what each item is.
+#[derive(Debug, Clone, Copy, PartialEq, Eq, Hash, PartialOrd, Ord)]
+pub enum Rule {
+    /// The settings are in their rows, and the memory is long enough.
+    A = 1,
+    /// Last served queues and map entries are in range, and no prefetch list
+    /// exceeds D.
+    B,
+    /// Every node of every port stands once in one list.
+    C,
+    /// Free and ingress lists hold only their own port's nodes.
+    D,
+    /// A node in an egress or prefetch list has that list's queue.
+    E,
+    /// What is recorded for a node that isn't free is in range, its price right.
+    F,
+    /// Arrival credit and the prices outstanding are K together.
+    G,
+}
+
+impl Rule {
+    /// Every rule, in the order in which they are tested.
+    pub const ALL: [Rule; 7] = [
+        Rule::A,
+        Rule::B,
+        Rule::C,
+        Rule::D,
+        Rule::E,
+        Rule::F,
+        Rule::G,
+    ];
+
+    /// 1 for (a), 2 for (b), and so on, as the C interface tells it.
+    pub fn number(self) -> u32 {
+        self as u32
+    }
+
+    /// The rule of a number, if it is one of a rule.
+    pub fn from_number(number: u32) -> Option<Rule> {
+        Rule::ALL.into_iter().find(|rule| rule.number() == number)
+    }
+
+    /// `a` to `g`.
+    pub fn letter(self) -> char {
+        char::from(b'a' + (self as u8 - Rule::A as u8))
+    }
+}
+
+/// The first rule that an image breaks, and the first item that shows it.
+#[derive(Debug, Clone, Copy, PartialEq, Eq, Hash, PartialOrd, Ord)]
+pub struct Finding {
+    pub rule: Rule,
+    /// What it counts is the rule's matter: docs/FINDINGS.md.
+    pub item: u64,
+}
+
+impl fmt::Display for Finding {
+    fn fmt(&self, f: &mut fmt::Formatter<'_>) -> fmt::Result {
+        write!(f, "rule ({}), item {}", self.rule.letter(), self.item)
+    }
+}
+
+/// What is wrong with an image; none if it is a switch state. Any bytes are
+/// taken, and it is never refused.
+///
+/// ```
+/// use ventorupo::{find, Rule, Settings, Switch};
+///
+/// let settings = Settings { nodes: 2, beat: 64, slots: 1, credit: 16 };
+/// let mut image = Switch::setup([0; 2092], settings).unwrap().into_memory();
+/// assert_eq!(find(&image), None);
+/// // Port 1 has served queue 200.
+/// image[17] = 200;
+/// let found = find(&image).unwrap();
+/// assert_eq!((found.rule, found.item), (Rule::B, 1));
+/// assert_eq!(found.to_string(), "rule (b), item 1");
+/// ```
+pub fn find(memory: &[u8]) -> Option<Finding> {
+    let (mut number, mut item) = (0, 0);
+    calls::find(memory, &mut number, &mut item);
+    match number {
+        0 => None,
+        _ => {
+            let rule = Rule::from_number(number).expect("the library tells of a rule or of none");
+            Some(Finding { rule, item })
+        }
+    }
+}
+
+/// Where every node stands, written into lent room: port by port and index by
+/// index, eight bytes each, as [`Place::from_bytes`] reads them. Refused 27 if
+/// there is less room; what is past them stays.
+///
+/// ```
+/// use ventorupo::{audit, Refusal, Settings, Switch};
+///
+/// let settings = Settings { nodes: 2, beat: 64, slots: 1, credit: 16 };
+/// let image = Switch::setup([0; 2092], settings).unwrap().into_memory();
+/// let mut room = [9; 4 * 2 * 8 + 1];
+/// assert_eq!(audit(&image, &mut room[..63]), Err(Refusal::ShortRoom));
+/// assert_eq!(audit(&image, &mut room), Ok(()));
+/// // Port 3, node 1: second of its free list.
+/// assert_eq!(room[56..], [24, 1, 0, 3, 0, 0, 0, 1, 9]);
+/// ```
+pub fn audit(memory: &[u8], room: &mut [u8]) -> Result<(), Refusal> {
+    done(calls::audit(memory, room))
+}
+
+/// Writes the starting ledger for the settings that an image has, with its map;
+/// entries above the last port become 0. Packets are lost, also of a sound
+/// image. Refused 3 where rule (a) is broken: settings out of their rows, or
+/// memory too short for them.
+///
+/// ```
+/// use ventorupo::{find, repair, Refusal, Settings, Switch};
+///
+/// let settings = Settings { nodes: 2, beat: 64, slots: 1, credit: 16 };
+/// let mut image = Switch::setup([0; 2092], settings).unwrap().into_memory();
+/// image[12] = 3; // Destination 0 goes to port 3.
+/// image[17] = 200;
+/// repair(&mut image)?;
+/// assert_eq!(find(&image), None);
+/// assert_eq!(image[12], 3);
+/// assert_eq!(repair(&mut [0; 2092]), Err(Refusal::NoState));
+/// # Ok::<(), Refusal>(())
+/// ```
+pub fn repair(memory: &mut [u8]) -> Result<(), Refusal> {
+    done(calls::repair(memory))
+}
+
+/// The bytes of an audit of the most nodes: 2,048 at each of four ports.
+const MOST_PLACES: usize = PLACE_BYTES * 4 * 2048;
+
+/// Every node's place, read.
+pub(crate) fn places(memory: &[u8]) -> Result<Vec<Place>, Refusal> {
+    // No kind of list: so a block that isn't written reads as none.
+    let mut room = vec![0xFF; MOST_PLACES];
+    audit(memory, &mut room)?;
+    let place = |block: &[u8]| Place::from_bytes(block.try_into().ok()?);
+    Ok(room.chunks_exact(PLACE_BYTES).map_while(place).collect())
+}
