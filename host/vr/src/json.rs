@@ -1,6 +1,7 @@
 //! An image as JSON: a program may listen. What could not be read is null.
 
-use crate::layout::{Entry, Image, Kind, Table, IDS, ROWS};
+use crate::image::{Entry, Image, Kind};
+use crate::layout::{Table, IDS, ROWS};
 use crate::lists::Walk;
 use crate::view::View;
 
@@ -63,9 +64,10 @@ fn row(elements: impl Iterator<Item = String>) -> String {
 /// An array of a line each.
 fn lines(elements: impl Iterator<Item = String>) -> String {
     let elements: Vec<String> = elements.map(|element| format!("    {element}")).collect();
-    match elements.is_empty() {
-        true => "[]".into(),
-        false => format!("[\n{}\n  ]", elements.join(",\n")),
+    if elements.is_empty() {
+        "[]".into()
+    } else {
+        format!("[\n{}\n  ]", elements.join(",\n"))
     }
 }
 

@@ -6,6 +6,7 @@
 
 pub mod args;
 mod files;
+pub mod image;
 pub mod json;
 pub mod layout;
 pub mod lists;
@@ -20,7 +21,7 @@ use std::path::Path;
 
 use args::Command;
 use files::Start;
-use layout::Image;
+use image::Image;
 pub use trouble::Trouble;
 use view::View;
 
@@ -63,9 +64,10 @@ pub fn explain(view: &View) -> Answer {
 }
 
 fn dump(view: &View, json: bool) -> Answer {
-    let text = match json {
-        true => json::json(view),
-        false => table::table(view),
+    let text = if json {
+        json::json(view)
+    } else {
+        table::table(view)
     };
     let status = view.status();
     Answer { text, status }

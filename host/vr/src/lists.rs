@@ -2,7 +2,8 @@
 
 use std::fmt;
 
-use crate::layout::{Entry, Image, Kind, List, Table};
+use crate::image::{Entry, Image, Kind, List};
+use crate::layout::Table;
 
 /// A position in a list, from 0.
 #[derive(Debug, Clone, Copy, PartialEq, Eq)]
@@ -143,15 +144,16 @@ impl Lists {
     /// The nodes that aren't free, in the order of the lists.
     pub fn taken(&self) -> impl Iterator<Item = Entry> + '_ {
         let taken = |walk: &&Walk| walk.list.kind != Kind::Free;
-        let nodes = |walk: &'_ Walk| walk.nodes.clone();
-        self.walks.iter().filter(taken).flat_map(nodes)
+        let walks = self.walks.iter().filter(taken);
+        walks.flat_map(|walk| walk.nodes.iter().copied())
     }
 }
 
 fn last_is_tail(last: Entry, tail: Entry) -> Result<(), Flaw> {
-    match last == tail {
-        true => Ok(()),
-        false => Err(Flaw::Tail { last, tail }),
+    if last == tail {
+        Ok(())
+    } else {
+        Err(Flaw::Tail { last, tail })
     }
 }
 
@@ -204,9 +206,10 @@ fn no_node(image: &Image, entry: Entry) -> String {
 impl Spot {
     /// As one speaks of it in this list.
     fn in_words(self, here: List) -> String {
-        match self.list == here {
-            true => format!("position {} of the same list", self.position),
-            false => self.to_string(),
+        if self.list == here {
+            format!("position {} of the same list", self.position)
+        } else {
+            self.to_string()
         }
     }
 }

@@ -1,6 +1,7 @@
 //! What a repair keeps and drops, told.
 
-use crate::layout::{Image, Kind, Table, IDS};
+use crate::image::{Image, Kind};
+use crate::layout::{Table, IDS};
 use crate::lists::Walk;
 use crate::view::{number, View};
 

@@ -1,6 +1,7 @@
 //! An image as a table that a person can read.
 
-use crate::layout::{Entry, Image, Kind, Table, IDS};
+use crate::image::{Entry, Image, Kind};
+use crate::layout::{Table, IDS};
 use crate::lists::Walk;
 use crate::view::{number, View};
 
@@ -102,24 +103,24 @@ fn lists(view: &View) -> String {
 }
 
 fn port_lists(view: &View, port: usize) -> String {
-    let walks = view
-        .lists
-        .walks
-        .iter()
-        .filter(|walk| walk.list.port == port);
-    let (shown, empty): (Vec<&Walk>, Vec<&Walk>) = walks.partition(|walk| worth_showing(walk));
-    if shown.is_empty() && empty.is_empty() {
+    let all = view.lists.walks.iter();
+    let walks: Vec<&Walk> = all.filter(|walk| walk.list.port == port).collect();
+    if walks.is_empty() {
         return String::new();
     }
+    let counted = |count| walks.iter().filter(|walk| walk.count == count).count();
+    let (empty, cut) = (counted(Some(0)), counted(None));
     let mut text = format!("\nport {port}\n");
-    for walk in shown {
-        text += &list(&view.image, walk);
+    for walk in &walks {
+        if walk.count.unwrap_or(0) > 0 {
+            text += &list(&view.image, walk);
+        }
     }
-    text + &format!("  empty lists: {}\n", empty.len())
-}
-
-fn worth_showing(walk: &Walk) -> bool {
-    walk.count != Some(0)
+    text += &format!("  empty lists: {empty}\n");
+    if cut > 0 {
+        text += &format!("  lists cut off: {cut}\n");
+    }
+    text
 }
 
 fn list(image: &Image, walk: &Walk) -> String {
@@ -134,10 +135,7 @@ fn list(image: &Image, walk: &Walk) -> String {
     };
     if let Some(flaw) = walk.flaw {
         let what = flaw.words(image, walk.list);
-        let start = match flaw.stops() {
-            true => "reading stops: ",
-            false => "",
-        };
+        let start = if flaw.stops() { "reading stops: " } else { "" };
         text += &format!("    {start}{what}\n");
     }
     text
@@ -146,10 +144,10 @@ fn list(image: &Image, walk: &Walk) -> String {
 /// How many nodes a list has, and how many were read if these are not all.
 fn how_many(walk: &Walk) -> String {
     let read = walk.nodes.len();
-    match walk.count {
-        Some(1) if read == 1 => "1 node".into(),
-        Some(count) if count as usize == read => format!("{count} nodes"),
-        count => format!("{} by its count, {read} read", number(count)),
+    match walk.count.unwrap_or(0) as usize {
+        1 if read == 1 => "1 node".into(),
+        count if count == read => format!("{count} nodes"),
+        count => format!("{count} by its count, {read} read"),
     }
 }
 

@@ -1,6 +1,7 @@
 //! An image with all that vr knows of it.
 
-use crate::layout::{Image, NODES, PORTS, QUEUES, ROWS, SETTINGS_BYTES};
+use crate::image::Image;
+use crate::layout::{NODES, PORTS, QUEUES, ROWS, SETTINGS_BYTES};
 use crate::lists::Lists;
 use crate::words;
 

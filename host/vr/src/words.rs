@@ -1,7 +1,7 @@
 //! A finding in words: the rule's letter, the item, and what its bytes say.
 
-use crate::layout::{price, Entry, Image, Kind, Record, Row, Table};
-use crate::layout::{BEAT, CREDIT, IDS, ROWS, SETTINGS_BYTES, SLOTS};
+use crate::image::{price, Entry, Image, Kind, Record};
+use crate::layout::{Row, Table, BEAT, CREDIT, IDS, ROWS, SETTINGS_BYTES, SLOTS};
 use crate::lists::Lists;
 
 use ventorupo::{Finding, Rule};

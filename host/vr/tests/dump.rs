@@ -159,10 +159,28 @@ fn an_image_cut_anywhere() {
         };
         assert!(table.out.starts_with("(a) the image is too short: "));
         assert!(table.out.ends_with(&format!("\nreading stops: {ends}\n")));
+        assert_eq!(cut_off(&table.out), lists_behind(there));
         let dump = Json::read(&json.out);
         assert_eq!(dump.of("stops").text(), ends);
         assert_eq!(dump.of("finding").of("rule").text(), "a");
         assert_eq!(dump.of("finding").of("item").number(), 6);
+    }
+}
+
+/// How many lists a table says are cut off.
+fn cut_off(table: &str) -> usize {
+    let said = table
+        .lines()
+        .filter_map(|line| line.strip_prefix("  lists cut off: "));
+    said.map(|number| number.parse::<usize>().unwrap()).sum()
+}
+
+/// The lists whose counts stand behind a byte; of an image without the number
+/// of its nodes nothing is told.
+fn lists_behind(there: usize) -> usize {
+    match there {
+        0..=5 => 0,
+        _ => 200 - (there.saturating_sub(at::COUNT) / 4).min(200),
     }
 }
 
