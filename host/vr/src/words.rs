@@ -2,7 +2,7 @@
 
 use crate::image::{price, Entry, Image, Kind, Record};
 use crate::layout::{Row, Table, BEAT, CREDIT, IDS, ROWS, SETTINGS_BYTES, SLOTS};
-use crate::lists::Lists;
+use crate::lists::{Lists, Spot};
 
 use ventorupo::{Finding, Rule};
 
@@ -134,7 +134,8 @@ fn own_queue(image: &Image, lists: &Lists, entry: Entry) -> Option<String> {
 }
 
 fn record(image: &Image, lists: &Lists, entry: Entry) -> Option<String> {
-    let spot = lists.spot(image, entry)?;
+    let taken = |spot: &Spot| spot.list.kind != Kind::Free;
+    let spot = lists.spot(image, entry).filter(taken)?;
     let record = image.record(image.slot(entry)?);
     let why = out_of_range(image, record).or_else(|| wrong_price(image, record))?;
     Some(format!("{entry} at {spot}: {why}"))

@@ -7,9 +7,9 @@ use std::collections::BTreeMap;
 use std::ops::Range;
 
 use common::reading::{nodes_of_json, Json};
-use common::{busy, on, vr, Folder};
+use common::{busy, on, small, vr, Folder};
 use traffic::Random;
-use ventorupo::Rule;
+use ventorupo::{Finding, Rule};
 use vr::json::json;
 use vr::layout::{Shape, Table, TABLES};
 use vr::table::table;
@@ -146,6 +146,27 @@ fn any_bytes_at_all() {
         let len = random.below(3000) as usize;
         let memory: Vec<u8> = (0..len).map(|_| random.below(256) as u8).collect();
         assert!(looked_at(&memory).is_some());
+    }
+}
+
+/// Of a finding that the bytes do not show, vr says so: never a wrong reason.
+#[test]
+fn findings_that_are_not_there() {
+    let sound = small();
+    for memory in [&sound[..], &[], &sound[..2091], &[0; 4000]] {
+        for rule in Rule::ALL {
+            for item in (0..300).chain([4096, 4097, 6145, 65_536, u64::MAX]) {
+                let view = View::new(memory, 0, Some(Finding { rule, item }));
+                let seen = !vr::explain(&view).text.contains(UNSEEN);
+                // Too short, or no ports: that alone is so.
+                let so = match memory.len() {
+                    2092 => false,
+                    4000 => rule == Rule::A && item < 5,
+                    _ => rule == Rule::A && item == 6,
+                };
+                assert!(seen == so || memory.len() == 2091, "{rule:?} {item}");
+            }
+        }
     }
 }
 
