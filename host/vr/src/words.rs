@@ -37,6 +37,8 @@ fn item_words(image: &Image, lists: &Lists, rule: Rule, item: usize) -> Option<S
     match rule {
         Rule::A if item == ROWS.len() => too_short(image),
         Rule::A => setting(image, item),
+        // The others speak of tables, whose places must be known.
+        _ if image.needed().is_none() => None,
         Rule::B => range(image, item),
         Rule::C => once(image, lists, item),
         Rule::D => own_port(image, lists, entry),
