@@ -164,7 +164,7 @@ fn findings_that_are_not_there() {
                     4000 => rule == Rule::A && item < 5,
                     _ => rule == Rule::A && item == 6,
                 };
-                assert!(seen == so || memory.len() == 2091, "{rule:?} {item}");
+                assert_eq!(seen, so, "{rule:?} {item}");
             }
         }
     }
