@@ -14,6 +14,21 @@ fn session() -> Vec<(String, String)> {
     parts.map(owned).collect()
 }
 
+/// Whether a text is as written, with any lines for each `...`.
+fn fits(text: &str, wanted: &str) -> bool {
+    let (start, rest) = match wanted.split_once("...\n") {
+        Some(parts) => parts,
+        None => return text == wanted,
+    };
+    let behind = match text.strip_prefix(start) {
+        Some(behind) => behind,
+        None => return false,
+    };
+    let ends = behind.match_indices('\n').map(|(end, _)| end + 1);
+    let mut lines = std::iter::once(0).chain(ends);
+    lines.any(|line| fits(&behind[line..], rest))
+}
+
 #[test]
 fn the_session_is_as_written() {
     let folder = Folder::new("readme");
@@ -24,13 +39,7 @@ fn the_session_is_as_written() {
         let words = line.split_whitespace();
         let output = command().args(words).current_dir(folder.path("")).output();
         let said = Said::from(output.unwrap());
-        match wanted.split_once("...\n") {
-            Some((start, end)) => {
-                assert!(said.out.starts_with(start), "{}", said.out);
-                assert!(said.out.ends_with(end), "{}", said.out);
-            }
-            None => assert_eq!(said.out, wanted),
-        }
+        assert!(fits(&said.out, &wanted), "{}", said.out);
         assert_eq!(said.err, "");
     }
 }
