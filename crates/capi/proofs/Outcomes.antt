@@ -25,6 +25,9 @@ use Rattle.capi.proofs.vr_turn
 use Rattle.capi.proofs.vr_ready
 use Rattle.capi.proofs.vr_where
 use Rattle.capi.proofs.vr_round
+use Rattle.capi.proofs.vr_audit
+use Rattle.capi.proofs.vr_find
+use Rattle.capi.proofs.vr_repair
 
 pub vr-size-one : OneOutcome vr_size.ended vr_size.Reads.Learnt
 vr-size-one κs a r r₂ left left₂ p q = (p ∙ sym q, refl)
@@ -53,12 +56,21 @@ vr-turn-one κs a r r₂ left left₂ p q = roomed (λ m x. (m, (tt, (x, tt)))) 
 pub vr-round-one : OneOutcome vr_round.ended vr_round.Reads.Learnt
 vr-round-one κs a r r₂ left left₂ p q = roomed (λ m x. (m, (x, tt))) p q
 
--- the memory of these two is lent for reading only: what is left is the rooms
+pub vr-repair-one : OneOutcome vr_repair.ended vr_repair.Reads.Learnt
+vr-repair-one κs a r r₂ left left₂ p q = parted (λ m. (m, left .1)) p q
+
+-- the memory of these is lent for reading only: what is left is the rooms
 pub vr-ready-one : OneOutcome vr_ready.ended vr_ready.Reads.Learnt
 vr-ready-one κs a r r₂ left left₂ p q = parted (λ x. (tt, (tt, (x .0, (x .1, tt))))) p q
 
 pub vr-where-one : OneOutcome vr_where.ended vr_where.Reads.Learnt
 vr-where-one κs a r r₂ left left₂ p q = parted (λ x. (tt, (tt, (x, tt)))) p q
+
+pub vr-audit-one : OneOutcome vr_audit.ended vr_audit.Reads.Learnt
+vr-audit-one κs a r r₂ left left₂ p q = parted (λ x. (tt, (x, tt))) p q
+
+pub vr-find-one : OneOutcome vr_find.ended vr_find.Reads.Learnt
+vr-find-one κs a r r₂ left left₂ p q = (refl, ap (λ (x : ℕ × ℕ). (tt, (x .0, (x .1, tt)))) (p ∙ sym q))
 
 -- a contract of turn that says the number and the memory alone would not do: any sixteen bytes might stand in the room
 abbrev pub room-unsaid : Contract vr_turn.ended

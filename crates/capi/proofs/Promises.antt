@@ -14,9 +14,13 @@ use Rattle.ledger.specs.declared.Refusal.the-variants.{NoCredit, NoFreeNode, No
 use Rattle.ledger.specs.declared.Refusal.the-variants.{ReservedBit, ShortRoom}
 use Rattle.memory.specs.Memory.{M}
 use Rattle.memory.specs.Rounds.{roundOn}
+use Rattle.memory.specs.Audit.{auditOn}
+use Rattle.memory.specs.Repair.{repaired}
 use Rattle.memory.proofs.Square.{refusal-keeps-bytes}
 use Rattle.memory.proofs.Rounds.{refused-round-keeps}
-use Rattle.rooms.specs.Rooms.{numberIn, toldIn, toldRound, entryRoom, recordRoom, sentRoom, readyRoom}
+use Rattle.memory.proofs.Audit.{refused-audit-keeps}
+use Rattle.memory.proofs.Door.{refused-repair-keeps}
+use Rattle.rooms.specs.Rooms.{numberIn, told, toldIn, toldRound, entryRoom, recordRoom, sentRoom, readyRoom}
 use Rattle.ledger.specs.Audit.{placeRoom}
 
 -- 0 is no refusal's number: an answer of 0 says that the call was done
@@ -69,6 +73,16 @@ pub nothing-differs-round : (m room : List ℕ) → (numberIn (roundOn m room .0
 nothing-differs-round m room h =
     let l = refused-round-keeps m room (refusal-only (λ x old. old) (λ n old. refl) (roundOn m room .0) room h .0) in
     rw (l .0, l .1)
+
+-- nor of an audit the room
+pub nothing-differs-audit : (m room : List ℕ) → (numberIn (auditOn m room .0) ≡ 0 → ⊥) → told (auditOn m room) ≡ (numberIn (auditOn m room .0), room)
+nothing-differs-audit m room h =
+    rw (refused-audit-keeps m room (refusal-only (λ x old. old) (λ n old. refl) (auditOn m room .0) room h .0))
+
+-- nor of a repair the memory
+pub nothing-differs-repair : (m : List ℕ) → (numberIn (repaired m .0) ≡ 0 → ⊥) → told (repaired m) ≡ (numberIn (repaired m .0), m)
+nothing-differs-repair m h =
+    rw (refused-repair-keeps m (refusal-only (λ x old. old) (λ n old. refl) (repaired m .0) m h .0))
 
 -- the other settings do not count: memory of this size is never too short for setup
 pub size-any : (n b d k : ℕ) → size (settings n b d k) ≡ size (settings n 64 1 0)

@@ -11,7 +11,10 @@ ghost use Rattle.ledger.specs.Settings.{settings};
 ghost use Rattle.ledger.specs.Desk.{setup, act};
 ghost use Rattle.memory.specs.Memory.{M};
 ghost use Rattle.memory.specs.Rounds.{roundOn};
-ghost use Rattle.rooms.specs.Rooms.{told, toldIn, toldRound, shown, entryRoom, recordRoom, sentRoom, readyRoom};
+ghost use Rattle.memory.specs.Audit.{auditOn};
+ghost use Rattle.memory.specs.Repair.{repaired};
+ghost use Rattle.sound.specs.Sound.{brokenIn};
+ghost use Rattle.rooms.specs.Rooms.{told, toldIn, toldRound, shown, entryRoom, recordRoom, sentRoom, readyRoom, foundNumbers};
 ghost use Rattle.ledger.specs.Audit.{placeRoom};
 ghost use Rattle.capi.specs.Size.{sizeFor};
 
@@ -115,4 +118,25 @@ pub extern "C" fn vr_round(mem: &mut [u8], turns: &mut [u8]) -> u32
     ensures { λ r. ⌜ _≡_ {A = ℕ × List ℕ × List ℕ} (r, now (mem .exit), now (turns .exit)) (toldRound (roundOn (now (mem .entry)) (now (turns .entry)))) ⌝ }
 {
     rooms::plain(switch::round(mem, turns))
+}
+
+#[no_mangle]
+pub extern "C" fn vr_audit(mem: &[u8], places: &mut [u8]) -> u32
+    ensures { λ r. ⌜ _≡_ {A = ℕ × List ℕ} (r, now (places .exit)) (told (auditOn (now (mem .entry)) (now (places .entry)))) ⌝ }
+{
+    rooms::plain(switch::audit(mem, places))
+}
+
+#[no_mangle]
+pub extern "C" fn vr_find(mem: &[u8], rule: &mut u32, item: &mut u64)
+    ensures { λ _. ⌜ _≡_ {A = ℕ × ℕ} (now (rule .exit), now (item .exit)) (foundNumbers (brokenIn (now (mem .entry)))) ⌝ }
+{
+    rooms::put_found(switch::find(mem), rule, item)
+}
+
+#[no_mangle]
+pub extern "C" fn vr_repair(mem: &mut [u8]) -> u32
+    ensures { λ r. ⌜ _≡_ {A = ℕ × List ℕ} (r, now (mem .exit)) (told (repaired (now (mem .entry)))) ⌝ }
+{
+    rooms::plain(switch::repair(mem))
 }

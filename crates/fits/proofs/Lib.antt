@@ -1,3 +1,4 @@
 pub mod Prices
 pub mod Means
 pub mod Walk
+pub mod FirstItem

@@ -125,7 +125,7 @@ list-step : {P R : Type 0} (F G : Finding) → (F ≡ Whole) ↔ P → (G ≡ Wh
 list-step Whole G f g = (λ e. (f .0 refl, g .0 e), λ a. g .1 (a .1))
 list-step (At x) G f g = (λ e. absurd (none x e), λ a. absurd (none x (f .1 (a .0))))
 
-first-means : {A : Type 0} (t : ℕ → Bool) (P : A → Type 0) (f : ℕ → A) → ((x : ℕ) → (t x ≡ true) ↔ P (f x)) → (xs : List ℕ)
+pub first-means : {A : Type 0} (t : ℕ → Bool) (P : A → Type 0) (f : ℕ → A) → ((x : ℕ) → (t x ≡ true) ↔ P (f x)) → (xs : List ℕ)
     → (firstBad t xs ≡ Whole) ↔ All P (map f xs)
 unfolding firstBad
 first-means t P f h [] = (λ e. tt, λ a. refl)

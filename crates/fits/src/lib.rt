@@ -5,12 +5,12 @@ use layout::Table;
 use ledger::EntryId;
 use ledger::Finding;
 ghost use mathlib.Core.Path.{_≡_};
-ghost use Prim.Native.Nat.{_^_, _≤_, _<_};
+ghost use Prim.Native.Nat.{_-_, _^_, _≤_, _<_};
 ghost use lib.Dec.{eqb};
 ghost use Rattle.ledger.specs.Header.{price as priceOf};
-ghost use Rattle.layout.specs.Tables.{settingsOf, Laid};
+ghost use Rattle.layout.specs.Tables.{lists, settingsOf, Laid};
 ghost use Rattle.layout.specs.Picture.{packetAt};
-ghost use Rattle.fits.specs.Fits.{spared, queueAt, rangeTest, fieldsTest, properTest, ruleTest, listFound, fitsFound};
+ghost use Rattle.fits.specs.Fits.{spared, queueAt, rangeTest, fieldsTest, properTest, ruleTest, listFound, fitsFrom};
 ghost use Rattle.fits.specs.Walk.{NodeOf, RecordOf, NoteOf, Spoken, Walkable, ListOf};
 
 // Which of the three rules is tested.
@@ -162,13 +162,13 @@ fn list_fits(m: &[u8], s: Shape, rule: NodeRule, l: usize) -> Finding
     Finding::Whole
 }
 
-// The first node that fails, lists in their order, each from its head.
-pub fn fits(m: &[u8], s: Shape, rule: NodeRule) -> Finding
+// The first node that fails, lists in their order from this one on, each from its head.
+pub fn fits(m: &[u8], s: Shape, rule: NodeRule, from: usize) -> Finding
     requires { ⌜ Walkable s (now m) ⌝ }
-    ensures { λ r. ⌜ r ≡ fitsFound rule (settingsOf s) (now (m .entry)) ⌝ }
+    ensures { λ r. ⌜ r ≡ fitsFrom rule (settingsOf s) (now (m .entry)) from (lists (settingsOf s) - from) ⌝ }
 {
     let lists = s.lists;
-    let mut l = 0;
+    let mut l = from;
     while l < lists {
         let found = list_fits(m, s, rule, l);
         if let Finding::At(_) = found {

@@ -189,7 +189,7 @@ module _ (S : Settings) (roomy : Roomy S) (L : Ledger) (s : Orderly S L) where
 
   -- ---- a column that is no arrival credit
 
-  keep-changed : (c : Column) → c ≢ arrival → (f : List ℕ → List ℕ) → length (f (L .numbers c)) ≡ length (L .numbers c)
+  pub keep-changed : (c : Column) → c ≢ arrival → (f : List ℕ → List ℕ) → length (f (L .numbers c)) ≡ length (L .numbers c)
       → ((i : ℕ) → i < tall S c → getD (f (L .numbers c)) i 0 < bound S c) → Orderly S (change c f L)
   keep-changed c other f same low = record {
     shaped = record {

@@ -10,6 +10,7 @@ pub mod Passes
 pub mod Steps
 pub mod Find
 pub mod Start
+pub mod Repair
 pub mod Decide
 pub mod Promises
 pub mod Courses

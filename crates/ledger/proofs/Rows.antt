@@ -1,6 +1,6 @@
 -- Settings that are in their rows: which beats there are, what each row says, and the bytes that a state takes. Assumes nothing.
 use mathlib.Core.Path.{_≡_, refl}
-use mathlib.Core.Logic.{_⊎_, inl, inr}
+use mathlib.Core.Logic.{_⊎_, inl, inr, _≢_}
 use mathlib.Core.Bool.{Bool, true, false, cond, _&&_, _||_}
 use Prim.Native.Nat.{ℕ, zero, suc, _+_, _-_, _*_, _≤_, _<_}
 use native.Mathlib.Nat.{not-suc-le-zero}
@@ -10,7 +10,10 @@ use lib.Dec.{eqb, leb}
 use lib.Count.{ones}
 use Rattle.ledger.specs.Settings.{Settings, isBeat, inRow, inRows, firstOut, row, size}
 use Rattle.ledger.specs.Sound.{Roomy}
-use Rattle.ledger.proofs.Tests.{is-false, leb-yes, leb-is, eqb-yes, eqb-is, eqb-not, and-left, and-right}
+use Rattle.ledger.proofs.Tests.{is-false, leb-yes, leb-is, leb-not, eqb-yes, eqb-is, eqb-not, and-left, and-right}
+
+leb-and : (m n : ℕ) (b : Bool) → (leb m n && b) ≡ true → (m ≤ n) × (b ≡ true)
+leb-and m n b e = (leb-yes m n (and-left (leb m n) b e), and-right (leb m n) b e)
 
 eqb-and : (m n : ℕ) (b : Bool) → (eqb m n && b) ≡ true → (m ≡ n) × (b ≡ true)
 eqb-and m n b e = (eqb-yes m n (and-left (eqb m n) b e), and-right (eqb m n) b e)
@@ -86,40 +89,24 @@ pub and-true : (a : Bool) → (a && true) ≡ a
 and-true true = refl
 and-true false = refl
 
--- where the other settings are in their rows, the beat decides
-pub rows-beat : (S : Settings) → S .ports ≡ 4 → S .queues ≡ 24 → 1 ≤ S .nodes → S .nodes ≤ 2048 → 1 ≤ S .slots → S .slots ≤ 8 → S .credit ≤ 65535
-    → inRows S ≡ isBeat (S .beat)
-unfolding inRows
-rows-beat S p q n n′ d d′ k =
-    rw (
-      eqb-is (S .ports) 4 p,
-      eqb-is (S .queues) 24 q,
-      leb-is 1 (S .nodes) n,
-      leb-is (S .nodes) 2048 n′,
-      leb-is 1 (S .slots) d,
-      leb-is (S .slots) 8 d′,
-      leb-is (S .credit) 65535 k,
-    )
-    (and-true (isBeat (S .beat)))
-
 module _ (S : Settings) (h : inRows S ≡ true) where
   pub rows : Rows S
   unfolding inRows
   rows =
       let p = eqb-and (S .ports) 4 _ h in
       let q = eqb-and (S .queues) 24 _ (p .1) in
-      let n = and-left (inRow S 2) _ (q .1) in
+      let n = leb-and 1 (S .nodes) _ (and-left (inRow S 2) _ (q .1)) in
       let b = and-right (inRow S 2) _ (q .1) in
       let k = and-right (isBeat (S .beat)) _ b in
-      let d = and-left (inRow S 4) _ k in
+      let d = leb-and 1 (S .slots) _ (and-left (inRow S 4) _ k) in
       record {
         four-ports = p .0;
         all-queues = q .0;
-        some-nodes = leb-yes 1 (S .nodes) (and-left (leb 1 (S .nodes)) _ n);
-        few-nodes = leb-yes (S .nodes) 2048 (and-right (leb 1 (S .nodes)) _ n);
+        some-nodes = n .0;
+        few-nodes = leb-yes (S .nodes) 2048 (n .1);
         is-beat = and-left (isBeat (S .beat)) _ b;
-        some-slots = leb-yes 1 (S .slots) (and-left (leb 1 (S .slots)) _ d);
-        few-slots = leb-yes (S .slots) 8 (and-right (leb 1 (S .slots)) _ d);
+        some-slots = d .0;
+        few-slots = leb-yes (S .slots) 8 (d .1);
         low-credit = leb-yes (S .credit) 65535 (and-right (inRow S 4) _ k);
       }
 
@@ -138,9 +125,6 @@ module _ (S : Settings) (h : inRows S ≡ true) where
   pub size-bound : size S ≤ 65536 + 64 * (S .nodes - 256)
   size-bound = let r = rows in omega (arith, size-is)
 
-pub rows-not : (S : Settings) → (Rows S → ⊥) → inRows S ≡ false
-rows-not S n = is-false (inRows S) (λ h. n (rows S h))
-
 -- each is in its row exactly if none is the first that is not
 pub rows-out : (S : Settings) → inRows S ≡ eqb (firstOut S) 6
 unfolding inRows firstOut
@@ -155,6 +139,59 @@ rows-out S = go (inRow S 0) (inRow S 1) (inRow S 2) (inRow S 3) (inRow S 4) (inR
     go true true true true false f = refl
     go true true true true true false = refl
     go true true true true true true = refl
+
+-- a number is not in a row of two bounds
+off-row : (a n b : ℕ) → (a ≤ n → n ≤ b → ⊥) → (leb a n && leb n b) ≡ false
+off-row a n b out = is-false (leb a n && leb n b) (λ e. let h = leb-and a n _ e in out (h .0) (leb-yes n b (h .1)))
+
+-- the first setting that is not in its row, one after another
+module _ (S : Settings) where
+  pub out-ports : S .ports ≢ 4 → firstOut S ≡ 0
+  unfolding firstOut
+  out-ports n = rw (eqb-not (S .ports) 4 n)
+
+  module _ (p : S .ports ≡ 4) where
+    pub out-queues : S .queues ≢ 24 → firstOut S ≡ 1
+    unfolding firstOut
+    out-queues n = rw (eqb-is (S .ports) 4 p, eqb-not (S .queues) 24 n)
+
+    module _ (q : S .queues ≡ 24) where
+      pub out-nodes : (1 ≤ S .nodes → S .nodes ≤ 2048 → ⊥) → firstOut S ≡ 2
+      unfolding firstOut
+      out-nodes n = rw (eqb-is (S .ports) 4 p, eqb-is (S .queues) 24 q, off-row 1 (S .nodes) 2048 n)
+
+      module _ (n : 1 ≤ S .nodes) (n′ : S .nodes ≤ 2048) where
+        pub out-beat : isBeat (S .beat) ≡ false → firstOut S ≡ 3
+        unfolding firstOut
+        out-beat b = rw (eqb-is (S .ports) 4 p, eqb-is (S .queues) 24 q, leb-is 1 (S .nodes) n, leb-is (S .nodes) 2048 n′, b)
+
+        module _ (b : isBeat (S .beat) ≡ true) where
+          pub out-slots : (1 ≤ S .slots → S .slots ≤ 8 → ⊥) → firstOut S ≡ 4
+          unfolding firstOut
+          out-slots d =
+              rw (eqb-is (S .ports) 4 p, eqb-is (S .queues) 24 q, leb-is 1 (S .nodes) n, leb-is (S .nodes) 2048 n′, b, off-row 1 (S .slots) 8 d)
+
+          module _ (d : 1 ≤ S .slots) (d′ : S .slots ≤ 8) where
+            -- where all before it are, the credit decides
+            out-last : (c : Bool) → leb (S .credit) 65535 ≡ c → firstOut S ≡ cond c 6 5
+            unfolding firstOut
+            out-last c k =
+                rw (
+                  eqb-is (S .ports) 4 p,
+                  eqb-is (S .queues) 24 q,
+                  leb-is 1 (S .nodes) n,
+                  leb-is (S .nodes) 2048 n′,
+                  b,
+                  leb-is 1 (S .slots) d,
+                  leb-is (S .slots) 8 d′,
+                  k,
+                )
+
+            pub out-credit : 65535 < S .credit → firstOut S ≡ 5
+            out-credit k = out-last false (leb-not (S .credit) 65535 k)
+
+            pub out-none : S .credit ≤ 65535 → firstOut S ≡ 6
+            out-none k = out-last true (leb-is (S .credit) 65535 k)
 
 pub size-rises : (S S′ : Settings) → inRows S ≡ true → inRows S′ ≡ true → S .nodes ≤ S′ .nodes → size S ≤ size S′
 size-rises S S′ h h′ k = omega (arith, size-is S h, size-is S′ h′)

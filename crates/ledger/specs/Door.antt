@@ -1,5 +1,5 @@
 -- Paper 02, Q-12, from door to door, as statements: how soon a packet comes from its ingress list to a line, and out of the switch, when
--- rounds come among the calls. Assumes nothing.
+-- rounds and looks come among the calls. Assumes nothing.
 use mathlib.Core.Path.{_≡_}
 use mathlib.Core.Bool.{cond}
 use mathlib.Core.List.{List, [], _∷_, _++_}
@@ -154,7 +154,7 @@ module _ {X : Type 0} (call : X → Call → Reply × X) (shows : X → Desk) wh
       → length ahead + 1 ≤ roundsIn (doneFrom x deeds)
       → DoorToDoor S r k (length ahead) x (doneFrom x deeds)
 
-  -- Demand 3 when rounds come among the calls: a round has a turn of each port, and it counts.
+  -- Demand 3 when rounds and looks come among the calls: a round has a turn of each port, and it counts; a look has none.
   abbrev pub NobodyStarvesInRoundsFrom : Settings → Ledger → X → Type 0
   NobodyStarvesInRoundsFrom S L x =
       (p q : ℕ) → p < S .ports → q < S .queues

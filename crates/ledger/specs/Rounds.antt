@@ -1,4 +1,4 @@
--- Paper 02, Q-12: the round, and what is done at a desk when rounds come among the calls. Assumes nothing.
+-- Paper 02, Q-12: the round, and what is done at a desk when rounds and looks come among the calls. Assumes nothing.
 use mathlib.Core.Bool.{Bool, true, false}
 use mathlib.Core.List.{List, [], _∷_, _++_, map}
 use Prim.Native.Nat.{ℕ, zero, suc, _*_, _/_, _%_}
@@ -60,11 +60,13 @@ bytesOf (r ∷ rs) = answerBytes r ++ bytesOf rs
 unfoldable pub answersIn : List Reply → List ℕ → List ℕ
 answersIn rs room = bytesOf rs ++ drop (4 * length rs) room
 
--- ---- what is done at a desk: a call, or a round with so many bytes lent for its turns
+-- ---- what is done at a desk: a call, a round with so many bytes lent for its turns, or a look, which changes nothing: an audit, a
+-- finding, a repair that is refused
 
 pub data Deed : Type 0 where
   one : Call → Deed
   round : ℕ → Deed
+  look : Deed
 
 -- the calls that a deed is, one by one; and whether it is a round, a refused one being none
 pub record Carried : Type 0 where
@@ -82,6 +84,7 @@ abbrev pub doneBy : Desk → Deed → Carried
 doneBy D (one c) = record { a-round = false; calls = c ∷ [] }
 doneBy none (round n) = nothing
 doneBy (has S L) (round n) = guard (roundRules S n) (λ r. nothing) (wholeRound S)
+doneBy D look = nothing
 
 -- of a call and its answer: the answer, if the call is a turn
 abbrev pub ofTurn : Call → Reply → List Reply

@@ -1,18 +1,21 @@
 -- From door to door, on memory: what is proved of the desk holds of memory, by the square. Assumes nothing.
 use mathlib.Core.Path.{_≡_, refl, sym, ap, _∙_}
-use mathlib.Core.List.{List, [], _∷_, map}
+use mathlib.Core.Bool.{Bool, true, false, cond}
+use mathlib.Core.List.{List, [], _∷_}
 use Prim.Native.Nat.{ℕ}
-use Rattle.ledger.specs.Calls.{Reply}
+use Rattle.ledger.specs.Calls.{Reply, refused, done, isRefused}
 use Rattle.ledger.specs.Desk.{afterCalls}
-use Rattle.ledger.specs.Door.{callsOf, doneFrom}
+use Rattle.ledger.proofs.Tests.{true≢false}
 use Rattle.ledger.proofs.Rows.{roomy}
 use Rattle.ledger.proofs.Courses.{calls-append}
 use Rattle.ledger.proofs.Door.{leaves-soon-from, door-to-door-from, nobody-starves-in-rounds-from}
 use lib.ListN.{length}
-use Rattle.memory.specs.Memory.{picture, M}
+use Rattle.layout.specs.Picture.{settingsIn, opens}
+use Rattle.memory.specs.Memory.{picture}
 use Rattle.memory.specs.Demands.{onMemory}
-use Rattle.memory.specs.Rounds.{roundOn, roundCalls, RoundIsCalls, lent-call, lent-round, deedOf, DeedsAreCalls}
-use Rattle.memory.specs.Rounds.{LeavesSoonInMemory, DoorToDoorInMemory, NobodyStarvesInRoundsInMemory}
+use Rattle.memory.specs.Repair.{repairMem, repaired}
+use Rattle.memory.specs.Rounds.{roundOn, roundCalls, RoundIsCalls, LentDeed, lent-call, lent-round, lent-audit, lent-find, lent-repair}
+use Rattle.memory.specs.Rounds.{leftBy, callsBy, callsIn, isRepair, DeedsAreCalls, LeavesSoonInMemory, DoorToDoorInMemory, NobodyStarvesInRoundsInMemory}
 use Rattle.memory.proofs.Demands.{pictured-state, memory-faithful}
 use Rattle.memory.proofs.Rounds.{round-is-calls}
 
@@ -20,17 +23,36 @@ left-by-round : (m room : List ℕ) → roundOn m room .1 ≡ afterCalls onMemor
 unfolding RoundIsCalls
 left-by-round m room = ap (λ (out : Reply × List ℕ × List ℕ). out .1) (round-is-calls m room)
 
--- deeds leave what their calls leave one by one
+-- a refused repair leaves memory as it was
+pub refused-repair-keeps : (m : List ℕ) → isRefused (repaired m .0) ≡ true → repaired m .1 ≡ m
+unfolding repaired
+refused-repair-keeps m = go (opens m)
+  where
+    out : Bool → Reply × List ℕ
+    out b = cond b (done, repairMem (settingsIn m) m) (refused 3, m)
+
+    go : (b : Bool) → isRefused (out b .0) ≡ true → out b .1 ≡ m
+    go true e = absurd (true≢false (sym e))
+    go false e = refl
+
+-- a deed that is no repair that stands leaves what its calls leave one by one
+pub deed-is-calls : (m : List ℕ) (d : LentDeed) → (isRepair d ≡ true → isRefused (repaired m .0) ≡ true)
+    → leftBy m d ≡ afterCalls onMemory m (callsBy m d)
+deed-is-calls m (lent-call c) r = refl
+deed-is-calls m (lent-round room) r = left-by-round m room
+deed-is-calls m (lent-audit room) r = refl
+deed-is-calls m lent-find r = refl
+deed-is-calls m lent-repair r = refused-repair-keeps m (r refl)
+
+-- and so do deeds
 pub deeds-are-calls : DeedsAreCalls
 unfolding DeedsAreCalls
-deeds-are-calls m [] = refl
-deeds-are-calls m (lent-call c ∷ ds) = deeds-are-calls (M c m .1) ds
-deeds-are-calls m (lent-round room ∷ ds) =
-    let cs = roundCalls m room in
-    let later = callsOf (doneFrom onMemory picture (afterCalls onMemory m cs) (map deedOf ds)) in
-    deeds-are-calls (roundOn m room .1) ds
-    ∙ ap (λ (n : List ℕ). afterCalls onMemory n (callsOf (doneFrom onMemory picture n (map deedOf ds)))) (left-by-round m room)
-    ∙ sym (calls-append onMemory m cs later)
+deeds-are-calls m [] r = refl
+deeds-are-calls m (d ∷ ds) r =
+    let cs = callsBy m d in
+    deeds-are-calls (leftBy m d) ds (r .1)
+    ∙ ap (λ (n : List ℕ). afterCalls onMemory n (callsIn n ds)) (deed-is-calls m d (r .0))
+    ∙ sym (calls-append onMemory m cs (callsIn (afterCalls onMemory m cs) ds))
 
 pub leaves-soon-in-memory : LeavesSoonInMemory
 unfolding LeavesSoonInMemory

@@ -7,9 +7,13 @@ pub mod Fill
 pub mod Written
 pub mod Picture
 pub mod Image
+pub mod Repair
 pub mod Square
 pub mod Demands
 pub mod Past
 pub mod Judged
 pub mod Rounds
 pub mod Door
+pub mod Audit
+pub mod Deeds
+pub mod Afresh

@@ -1,14 +1,17 @@
 -- The audit on memory: auditOn, the function that its contract names. Block by block it is what where answers. Assumes nothing.
+use mathlib.Core.Path.{_≡_}
 use mathlib.Core.List.{List, [], _++_}
-use Prim.Native.Nat.{ℕ, zero, suc, _*_}
-use lib.ListN.{length, take, drop}
+use Prim.Native.Nat.{ℕ, zero, suc, _+_, _*_, _≤_, _<_}
+use lib.ListN.{length, getD, take, drop}
 use Rattle.ledger.specs.Settings.{Settings}
 use Rattle.ledger.specs.Rules.{guard}
-use Rattle.ledger.specs.Calls.{whereIs, Reply, refused, done}
-use Rattle.ledger.specs.Audit.{placeRoom, nodeAt, auditRules}
+use Rattle.ledger.specs.Ledger.{entryId, placeOf, Ledger}
+use Rattle.ledger.specs.Calls.{whereIs, Reply, refused, done, found, position, which}
+use Rattle.ledger.specs.Desk.{has, act}
+use Rattle.ledger.specs.Audit.{placeBytes, placeRoom, nodeAt, auditRules}
 use Rattle.layout.specs.Tables.{all}
 use Rattle.layout.specs.Picture.{settingsIn, State}
-use Rattle.memory.specs.Memory.{state-dec, acted}
+use Rattle.memory.specs.Memory.{state-dec, picture, acted, M}
 
 -- block i of a room
 abbrev pub block : ℕ → List ℕ → List ℕ
@@ -35,3 +38,14 @@ auditTested m (no n) room = (refused 3, room)
 -- of any memory, into any room
 unfoldable pub auditOn : List ℕ → List ℕ → Reply × List ℕ
 auditOn m room = auditTested m (state-dec m) room
+
+-- ---- what the night crew reads
+
+-- Of node i of port p, which stands in list l at position j: that is what `where` answers, and what the node's eight bytes tell.
+unfoldable pub AuditTells : Type 0
+AuditTells =
+    (m room : List ℕ) (S : Settings) (L : Ledger) (p i : ℕ) → picture m ≡ has S L → 8 * all S ≤ length room → p < S .ports → i < S .nodes
+    → let y = entryId p i in
+    let l = which y (L .lists) in
+    let j = position y (getD (L .lists) l []) in
+    (M (act (whereIs y)) m .0 ≡ found (placeOf S l) j) × (block (p * S .nodes + i) (auditOn m room .1) ≡ placeBytes y (placeOf S l) j)

@@ -3,7 +3,8 @@ pub mod Writes
 pub mod Image
 pub mod Memory
 pub mod Demands
-pub mod Rounds
 pub mod Audit
 pub mod Repair
+pub mod Rounds
+pub mod Deeds
 pub mod Judged

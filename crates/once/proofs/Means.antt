@@ -10,7 +10,8 @@ use lib.ListN.{length, getD, set, replicate, length-replicate}
 use lib.Seq.{getD-set-same, getD-set-other}
 use lib.Dec.{eqb, ltb}
 use Rattle.ledger.specs.Settings.{Settings, size}
-use Rattle.ledger.specs.Ledger.{owner, index, entryId, isNode}
+use Rattle.ledger.specs.Ledger.{owner, index, isNode}
+use Rattle.ledger.specs.Audit.{nodeAt}
 use Rattle.ledger.specs.Ready.{bit}
 use Rattle.ledger.specs.Sound.{sum, weigh, one, Once, Roomy}
 use Rattle.ledger.specs.declared.Finding.{Finding}
@@ -44,16 +45,16 @@ all-marked n [] h = refl
 all-marked n (k ∷ ks) h = rw (ltb-is 0 k (h 0 (omega arith))) (all-marked (suc n) ks (λ i l. h (suc i) (omega arith)))
 
 module _ (S : Settings) where
-  length-all : (xs ms : List ℕ) → length (markAll S ms xs) ≡ length ms
+  pub length-all : (xs ms : List ℕ) → length (markAll S ms xs) ≡ length ms
   unfolding markAll
   length-all [] ms = refl
   length-all (x ∷ xs) ms = length-all xs (mark S ms x) ∙ length-mark S ms x
 
   -- how often the marks say that y was met
-  seen : List ℕ → ℕ → ℕ
+  pub seen : List ℕ → ℕ → ℕ
   seen ms y = cond (isNode S y) (getD ms (slot S y) 0) 0
 
-  seen-node : (ms : List ℕ) (y : ℕ) → isNode S y ≡ true → seen ms y ≡ getD ms (slot S y) 0
+  pub seen-node : (ms : List ℕ) (y : ℕ) → isNode S y ≡ true → seen ms y ≡ getD ms (slot S y) 0
   unfolding seen
   seen-node ms y e = rw e
 
@@ -62,16 +63,15 @@ module _ (S : Settings) where
   seen-none ms y e = rw e
 
   -- every mark is a node's
-  node-at : Roomy S → (i : ℕ) → i < all S → (y : ℕ) × (isNode S y ≡ true) × (slot S y ≡ i)
+  pub node-at : Roomy S → (i : ℕ) → i < all S → (isNode S (nodeAt S i) ≡ true) × (slot S (nodeAt S i) ≡ i)
   unfolding slot
   node-at R i h =
       let pos : 0 < S .nodes = omega (arith, R .some-nodes) in
       let p : i / S .nodes < S .ports = div-lt-iff-lt-mul pos .1 h in
       let r : i % S .nodes < S .nodes = mod-lt i pos in
-      let y : ℕ = entryId (i / S .nodes) (i % S .nodes) in
-      let o : owner y ≡ i / S .nodes = row-div 2048 (i / S .nodes) (i % S .nodes) (omega (arith, R .few-nodes)) in
-      let x : index y ≡ i % S .nodes = row-mod 2048 (i / S .nodes) (i % S .nodes) (omega (arith, R .few-nodes)) in
-      (y, node-is S y (record { home = rw o p; low = rw x r }), rw (o, x) (div-add-mod' i (S .nodes)))
+      let o : owner (nodeAt S i) ≡ i / S .nodes = row-div 2048 (i / S .nodes) (i % S .nodes) (omega (arith, R .few-nodes)) in
+      let x : index (nodeAt S i) ≡ i % S .nodes = row-mod 2048 (i / S .nodes) (i % S .nodes) (omega (arith, R .few-nodes)) in
+      (node-is S (nodeAt S i) (record { home = rw o p; low = rw x r }), rw (o, x) (div-add-mod' i (S .nodes)))
 
   -- ---- nodes that are met in turn
 
@@ -97,7 +97,7 @@ module _ (S : Settings) where
           (omega (arith, seen-node ms′ y e, seen-node ms y e, bit-other x y d), λ h. omega (arith, seen-node ms′ y e, seen-node ms y e))
       go (no d) false e = (omega (arith, seen-none ms′ y e, seen-none ms y e, bit-other x y d), λ h. omega (arith, seen-none ms′ y e))
 
-  all-adds : (xs ms : List ℕ) → length ms ≡ all S → allNew S ms xs ≡ true → (y : ℕ)
+  pub all-adds : (xs ms : List ℕ) → length ms ≡ all S → allNew S ms xs ≡ true → (y : ℕ)
       → (seen (markAll S ms xs) y ≡ seen ms y + times y xs) × (seen ms y ≤ bit (isNode S y) → seen (markAll S ms xs) y ≤ bit (isNode S y))
   unfolding allNew markAll
   all-adds [] ms long e y = (omega arith, λ h. h)
@@ -107,7 +107,7 @@ module _ (S : Settings) where
       (omega (arith, f .0, r .0), λ h. r .1 (f .1 h))
 
   -- where none is met too often, each is new
-  all-new : (xs ms : List ℕ) → length ms ≡ all S → ((y : ℕ) → seen ms y + times y xs ≤ bit (isNode S y)) → allNew S ms xs ≡ true
+  pub all-new : (xs ms : List ℕ) → length ms ≡ all S → ((y : ℕ) → seen ms y + times y xs ≤ bit (isNode S y)) → allNew S ms xs ≡ true
   unfolding allNew
   all-new [] ms long b = refl
   all-new (x ∷ xs) ms long b =
@@ -124,18 +124,18 @@ module _ (S : Settings) (m : List ℕ) where
   times-items y k l (x ∷ xs) = omega (arith, ap (λ (z : ℕ). bit (eqb z y)) (item-node S m l x), times-items y k l xs)
 
   -- how often y stands in n lists from l on
-  stands : ℕ → ℕ → ℕ → ℕ
+  unfoldable pub stands : ℕ → ℕ → ℕ → ℕ
   stands y l n = weigh (one y) (tabulate (shown S m) l n)
 
-  stands-more : (y l n : ℕ) → stands y l (suc n) ≡ times y (nodesOf S m l) + stands y (suc l) n
+  pub stands-more : (y l n : ℕ) → stands y l (suc n) ≡ times y (nodesOf S m l) + stands y (suc l) n
   unfolding stands
   stands-more y l n = omega (arith, times-items y 0 l (nodesOf S m l))
 
-  right-says : (ms : List ℕ) (l : ℕ) → right S m ms l ≡ true → (allNew S ms (nodesOf S m l) ≡ true) × Hangs S m l
+  pub right-says : (ms : List ℕ) (l : ℕ) → right S m ms l ≡ true → (allNew S ms (nodesOf S m l) ≡ true) × Hangs S m l
   unfolding right ends
   right-says ms l e = (and-left (allNew S ms (nodesOf S m l)) _ e, eqb-yes _ _ (and-right (allNew S ms (nodesOf S m l)) _ e))
 
-  right-is : (ms : List ℕ) (l : ℕ) → allNew S ms (nodesOf S m l) ≡ true → Hangs S m l → right S m ms l ≡ true
+  pub right-is : (ms : List ℕ) (l : ℕ) → allNew S ms (nodesOf S m l) ≡ true → Hangs S m l → right S m ms l ≡ true
   unfolding right ends
   right-is ms l a h = rw (a, eqb-is _ _ h)
 
@@ -152,8 +152,9 @@ module _ (S : Settings) (m : List ℕ) where
   each-marked : Roomy S → (ms : List ℕ) → ((y : ℕ) → seen S ms y ≡ bit (isNode S y)) → (i : ℕ) → i < all S → 1 ≤ getD ms i 0
   each-marked R ms c i k =
       let f = node-at S R i k in
-      let h : 1 ≤ getD ms (slot S (f .0)) 0 = omega (arith, c (f .0), ap bit (f .1), seen-node S ms (f .0) (f .1)) in
-      rw (f .2) at h
+      let y : ℕ = nodeAt S i in
+      let h : 1 ≤ getD ms (slot S y) 0 = omega (arith, c y, ap bit (f .0), seen-node S ms y (f .0)) in
+      rw (f .1) at h
 
   -- a scan that finds nothing: the lists hang together, and each node was met once
   scan-says : (n l : ℕ) (ms : List ℕ) → length ms ≡ all S → ((y : ℕ) → seen S ms y ≤ bit (isNode S y)) → scan S m ms l n ≡ Whole
@@ -185,14 +186,14 @@ module _ (S : Settings) (m : List ℕ) where
 
   -- ---- the walk from marks that are all clear
 
-  clear : (y : ℕ) → seen S (replicate (all S) 0) y ≡ 0
+  pub clear : (y : ℕ) → seen S (replicate (all S) 0) y ≡ 0
   clear y = go (isNode S y) refl
     where
       go : (c : Bool) → isNode S y ≡ c → seen S (replicate (all S) 0) y ≡ 0
       go true n = seen-node S (replicate (all S) 0) y n ∙ zeros (all S) (slot S y)
       go false n = seen-none S (replicate (all S) 0) y n
 
-  stands-all : (y : ℕ) → stands y 0 (lists S) ≡ weigh (one y) (ledgerIn S m .lists)
+  pub stands-all : (y : ℕ) → stands y 0 (lists S) ≡ weigh (one y) (ledgerIn S m .lists)
   unfolding stands ledgerIn
   stands-all y = refl
 

@@ -134,7 +134,7 @@ AllPaid S m = (p q : ℕ) → p < S .ports → 0 < q → q < S .queues → arriv
 
 module _ (S : Settings) (m : List ℕ) (R : Roomy S) (P : Payable S m) where
   -- what is said of port p and queue r + 1 is what is tested at its cell
-  at-cell : (p r : ℕ) → p < S .ports → suc r < S .queues
+  pub at-cell : (p r : ℕ) → p < S .ports → suc r < S .queues
       → arrivalOf S (ledgerIn S m) p (suc r) + weigh (owed S p (suc r)) (ledgerIn S m .lists) ≡ get S m Arrival (cell S p r) + getD (sumsOf S m) (cell S p r) 0
   unfolding creditAt ledgerIn
   at-cell p r hp hr =

@@ -1,18 +1,17 @@
--- What the passes over nodes, lists and cells ask and give. Assumes nothing.
+-- What adding a price and the pass over the cells ask. Assumes nothing.
 use mathlib.Core.Path.{_≡_}
 use mathlib.Core.Bool.{true}
 use mathlib.Core.List.{List}
 use Prim.Native.Nat.{ℕ, _*_, _^_, _≤_, _<_}
-use lib.ListN.{length, replicate}
+use lib.ListN.{length}
 use Rattle.ledger.specs.Settings.{Settings, size}
 use Rattle.ledger.specs.Ledger.{owner, isNode, placeOf, creditAt}
 use Rattle.ledger.specs.Sound.{Everywhere, WellRecorded}
 use Rattle.layout.specs.declared.Shape.{Shape}
-use Rattle.layout.specs.declared.Table.the-variants.{Next, Queue}
+use Rattle.layout.specs.declared.Table.the-variants.{Queue}
 use Rattle.layout.specs.Tables.{cells, lists, get, settingsOf, Laid}
 use Rattle.layout.specs.Picture.{slot, ledgerIn}
 use Rattle.memory.specs.Ends.{Tidy}
-use Rattle.paid.specs.Paid.{addNode}
 
 -- a memory that keeps rules (c) and (f), with the tails
 pub record Payable (S : Settings) (m : List ℕ) : Type 0 where
@@ -40,29 +39,6 @@ pub record AddsPrice (s : Shape) (sums : List ℕ) (x queue price : ℕ) : Type 
 pub record Counted (S : Settings) (m : List ℕ) (x : ℕ) : Type 0 where
   pub node : isNode S x ≡ true
   pub queue-in : get S m Queue (slot S x) < S .queues
-
-pub record Adds (s : Shape) (m sums : List ℕ) (x : ℕ) : Type 0 where
-  pub laid : Laid s
-  pub long : size (settingsOf s) ≤ length m
-  pub counted : Counted (settingsOf s) m x
-  pub held : Sums (settingsOf s) sums (2 ^ 63)
-
-pub record Added (S : Settings) (m sums : List ℕ) (x : ℕ) (sums′ : List ℕ) (next : ℕ) : Type 0 where
-  pub sums-are : sums′ ≡ addNode S m sums x
-  pub next-is : next ≡ get S m Next (slot S x)
-
--- ---- a list, and all lists
-
-pub record AddsList (s : Shape) (m sums : List ℕ) (l : ℕ) : Type 0 where
-  pub laid : Laid s
-  pub payable : Payable (settingsOf s) m
-  pub inside : l < lists (settingsOf s)
-  pub held : Sums (settingsOf s) sums (listMost * l)
-
-pub record Pays (s : Shape) (m sums : List ℕ) : Type 0 where
-  pub laid : Laid s
-  pub payable : Payable (settingsOf s) m
-  pub zeros : sums ≡ replicate (cells (settingsOf s)) 0
 
 -- ---- the cells
 

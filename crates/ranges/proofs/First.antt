@@ -46,6 +46,21 @@ module _ (ok : ℕ → Bool) where
   pub first-all : (n : ℕ) → (first ok n ≡ Whole) ↔ ((k : ℕ) → k < n → ok k ≡ true)
   first-all n = (λ e k h. all-pass n 0 e k (omega arith) (omega arith), λ h. none-found n 0 (λ k low high. h k (omega arith)))
 
+  -- the first of some numbers is the first of more
+  more-from : (n k i x : ℕ) → n ≤ k → firstFrom ok i n ≡ At x → firstFrom ok i k ≡ At x
+  unfolding firstFrom
+  more-from zero k i x h e = absurd (let z : _≡_ {A = ℕ} 0 1 = cc in omega arith)
+  more-from (suc n) zero i x h e = absurd (omega arith)
+  more-from (suc n) (suc k) i x h e = go (ok i) (more-from n k (suc i) x (omega arith)) e
+    where
+      go : (b : Bool) → (firstFrom ok (suc i) n ≡ At x → firstFrom ok (suc i) k ≡ At x)
+          → cond b (firstFrom ok (suc i) n) (At i) ≡ At x → cond b (firstFrom ok (suc i) k) (At i) ≡ At x
+      go true rest d = rest d
+      go false rest d = d
+
+  pub first-more : (n k x : ℕ) → n ≤ k → first ok n ≡ At x → first ok k ≡ At x
+  first-more n k x h e = more-from n k 0 x h e
+
 -- where a search below n stands at i
 pub record Searching (ok : ℕ → Bool) (n i : ℕ) : Type 0 where
   pub low : i ≤ n

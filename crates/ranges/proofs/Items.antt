@@ -67,7 +67,7 @@ module _ (S : Settings) (m : List ℕ) where
 
   -- ---- rule (b)
 
-  shown : (c : Column) (i : ℕ) → i < tall S c → getD (ledgerIn S m .numbers c) i 0 ≡ get S m (tableOf c) i
+  pub shown : (c : Column) (i : ℕ) → i < tall S c → getD (ledgerIn S m .numbers c) i 0 ≡ get S m (tableOf c) i
   unfolding ledgerIn
   shown c i h = getD-table (get S m (tableOf c)) (tall S c) i 0 h
 

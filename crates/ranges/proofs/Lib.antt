@@ -2,3 +2,4 @@ pub mod First
 pub mod Opening
 pub mod Items
 pub mod Slots
+pub mod FirstItem

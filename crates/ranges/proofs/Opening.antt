@@ -1,20 +1,20 @@
 -- What opening a memory comes to in each case, and what it means. Assumes nothing.
-use mathlib.Core.Path.{_≡_, refl, subst}
+use mathlib.Core.Path.{_≡_, refl, subst, _∙_}
 use mathlib.Core.Bool.{Bool, true, false, cond, _&&_}
 use mathlib.Core.List.{List}
 use Prim.Native.Nat.{ℕ, _≤_, _<_}
 use native.Mathlib.Omega.{arith}
 use lib.ListN.{length}
 use lib.Dec.{leb}
-use Rattle.ledger.specs.Settings.{Settings, inRows, size}
+use Rattle.ledger.specs.Settings.{Settings, inRows, firstOut, size}
 use Rattle.ledger.specs.Sound.{Roomy}
-use Rattle.ledger.proofs.Tests.{leb-yes, leb-is, leb-not, and-left, and-right}
-use Rattle.ledger.proofs.Rows.{roomy}
+use Rattle.ledger.proofs.Tests.{leb-yes, leb-is, leb-not, ltb-is, ltb-not, eqb-not, and-left, and-right}
+use Rattle.ledger.proofs.Rows.{roomy, rows-out}
 use Rattle.layout.specs.declared.Shape.{Shape}
 use Rattle.layout.specs.Tables.{settingsOf, Laid}
-use Rattle.layout.specs.Picture.{settingsIn}
+use Rattle.layout.specs.Picture.{settingsIn, opens}
 use Rattle.ranges.specs.declared.Opened.the-variants.{Fine, Wrong}
-use Rattle.ranges.specs.Opening.{shapeFor, opened, Open}
+use Rattle.ranges.specs.Opening.{shapeFor, outAt, opened, Open}
 use Rattle.ranges.specs.Ranges.{Held}
 
 -- ---- shapes
@@ -47,38 +47,60 @@ and-false true = refl
 and-false false = refl
 
 module _ (m : List ℕ) where
-  pub opened-outside : inRows (settingsIn m) ≡ false → opened m ≡ Wrong
+  -- rule (a) is broken, and what shows it
+  shut : opens m ≡ false → opened m ≡ Wrong (outAt m)
   unfolding opened
-  opened-outside e = rw e
+  shut e = rw e
 
-  pub opened-short : length m < size (settingsIn m) → opened m ≡ Wrong
-  unfolding opened
-  opened-short h = rw (leb-not (size (settingsIn m)) (length m) h, and-false)
+  pub opened-outside : 12 ≤ length m → (firstOut (settingsIn m) ≡ 6 → ⊥) → opened m ≡ Wrong (firstOut (settingsIn m))
+  unfolding outAt
+  opened-outside h n =
+      let rows : inRows (settingsIn m) ≡ false = rows-out (settingsIn m) ∙ eqb-not (firstOut (settingsIn m)) 6 n in
+      rw (ltb-not (length m) 12 h) at (shut (rw rows))
+
+  short : length m < size (settingsIn m) → opens m ≡ false
+  short h = rw (leb-not (size (settingsIn m)) (length m) h, and-false)
+
+  pub opened-short : 12 ≤ length m → firstOut (settingsIn m) ≡ 6 → length m < size (settingsIn m) → opened m ≡ Wrong 6
+  unfolding outAt
+  opened-short t e h = rw (ltb-not (length m) 12 t, e) at (shut (short h))
 
   -- too short for the settings themselves
-  pub opened-tiny : length m < 12 → opened m ≡ Wrong
-  unfolding size
-  opened-tiny h = opened-short (omega arith)
+  pub opened-tiny : length m < 12 → opened m ≡ Wrong 6
+  unfolding outAt size
+  opened-tiny h = rw (ltb-is (length m) 12 h) at (shut (short (omega arith)))
 
   pub opened-is : inRows (settingsIn m) ≡ true → size (settingsIn m) ≤ length m → opened m ≡ Fine (shapeFor (settingsIn m))
   unfolding opened
   opened-is e h = rw (e, leb-is (size (settingsIn m)) (length m) h)
 
+  pub opens-means : opens m ≡ true → (inRows (settingsIn m) ≡ true) × (size (settingsIn m) ≤ length m)
+  opens-means t =
+      let S = settingsIn m in
+      (and-left (inRows S) (leb (size S) (length m)) t, leb-yes (size S) (length m) (and-right (inRows S) _ t))
+
   pub opened-fine : (s : Shape) → opened m ≡ Fine s → Open m s
   unfolding opened
-  opened-fine s = go (inRows (settingsIn m) && leb (size (settingsIn m)) (length m)) refl
+  opened-fine s = go (opens m) refl
     where
-      go : (b : Bool) → (inRows (settingsIn m) && leb (size (settingsIn m)) (length m)) ≡ b → cond b (Fine (shapeFor (settingsIn m))) Wrong ≡ Fine s → Open m s
+      go : (b : Bool) → opens m ≡ b → cond b (Fine (shapeFor (settingsIn m))) (Wrong (outAt m)) ≡ Fine s → Open m s
       go true t e =
           let p : shapeFor (settingsIn m) ≡ s = cc in
-          let r = and-left (inRows (settingsIn m)) (leb (size (settingsIn m)) (length m)) t in
-          let h = leb-yes (size (settingsIn m)) (length m) (and-right (inRows (settingsIn m)) _ t) in
+          let r = opens-means t in
           subst (Open m) p
-          (record { laid = laid-for (settingsIn m) (roomy (settingsIn m) r); settings-are = refl; rows = r; long = h })
+          (record { laid = laid-for (settingsIn m) (roomy (settingsIn m) (r .0)); settings-are = refl; rows = r .0; long = r .1 })
       go false t e = absurd (let z : _≡_ {A = ℕ} 0 1 = cc in omega arith)
 
-  pub opened-wrong : opened m ≡ Wrong → inRows (settingsIn m) ≡ true → size (settingsIn m) ≤ length m → ⊥
-  opened-wrong e r h = let i = opened-is r h in let z : _≡_ {A = ℕ} 0 1 = cc in omega arith
+  pub opened-wrong : (i : ℕ) → opened m ≡ Wrong i → (opens m ≡ false) × (outAt m ≡ i)
+  unfolding opened
+  opened-wrong i = go (opens m) refl
+    where
+      go : (b : Bool) → opens m ≡ b → cond b (Fine (shapeFor (settingsIn m))) (Wrong (outAt m)) ≡ Wrong i → (opens m ≡ false) × (outAt m ≡ i)
+      go true t e = absurd (let z : _≡_ {A = ℕ} 0 1 = cc in omega arith)
+      go false t e = let p : outAt m ≡ i = cc in (t, p)
+
+pub open-opens : {m : List ℕ} {s : Shape} → Open m s → opens m ≡ true
+open-opens {m} o = rw (o .rows, leb-is (size (settingsIn m)) (length m) (o .long))
 
 -- what the other rules ask
 pub open-held : {m : List ℕ} {s : Shape} → Open m s → Held s m

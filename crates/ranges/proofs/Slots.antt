@@ -7,7 +7,7 @@ use native.Mathlib.Nat.{div-add-mod', div-lt-iff-lt-mul, mod-lt}
 use native.Mathlib.Decide.{decLt}
 use native.Mathlib.Omega.{arith}
 use lib.Dec.{ltb, leb}
-use Rattle.ledger.specs.declared.Finding.the-variants.{Whole}
+use Rattle.ledger.specs.declared.Finding.the-variants.{Whole, At}
 use Rattle.ledger.specs.Settings.{Settings, row}
 use Rattle.ledger.specs.Ledger.{place#}
 use Rattle.ledger.specs.Sound.{Roomy}
@@ -17,7 +17,7 @@ use Rattle.layout.specs.declared.Table.the-variants.{Count}
 use Rattle.layout.specs.Tables.{lists, get}
 use Rattle.ranges.specs.First.{first}
 use Rattle.ranges.specs.Ranges.{prefetchAt, low, items, fitsAt, fewAt, fewIn, rangesFound}
-use Rattle.ranges.proofs.First.{first-all}
+use Rattle.ranges.proofs.First.{first-all, first-more}
 use Rattle.ranges.proofs.Items.{fits-list, prefetch-lt, prefetch-is}
 
 module _ (S : Settings) (m : List ℕ) (R : Roomy S) where
@@ -48,6 +48,11 @@ module _ (S : Settings) (m : List ℕ) (R : Roomy S) where
       go : (k : ℕ) → k < items S → Dec (k < low S) → fitsAt S m k ≡ true
       go k h (yes a) = first-all (fitsAt S m) (low S) .0 e k a
       go k h (no a) = fits-list S m k (k - low S) (omega arith) ∙ few-item f (k - low S) (omega arith)
+
+  -- what is found of the marks and the map is found of all
+  pub low-found : (i : ℕ) → first (fitsAt S m) (low S) ≡ At i → rangesFound S m ≡ At i
+  unfolding rangesFound
+  low-found i e = first-more (fitsAt S m) (low S) (items S) i (omega arith) e
 
   pub ranges-low : rangesFound S m ≡ Whole → Low
   unfolding rangesFound

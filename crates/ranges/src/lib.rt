@@ -46,7 +46,7 @@ pub fn open(m: &[u8]) -> Opened
     }
     let told = read(m);
     let out = settings::first_out(told);
-    if out < 6 {
+    if out != 6 {
         return Opened::Wrong(out);
     }
     let s = layout::shape_of(told);

@@ -4,6 +4,8 @@ use mathlib.Core.List.{List, [], _∷_}
 use Prim.Native.Nat.{ℕ, _/_, _%_, _^_}
 use lib.ListN.{set}
 use Rattle.ledger.specs.Ledger.{Packet}
+use Rattle.ledger.specs.declared.Broken.{Broken}
+use Rattle.ledger.specs.declared.Broken.the-variants.{Nothing, A, B, C, D, E, F, G}
 use Rattle.ledger.specs.Calls.{Side, inside, outside, Reply, refused, done, entry, stitched, idle, leaves, word, found}
 
 -- the refusal's number; 0 for any other reply
@@ -92,3 +94,28 @@ readyRoom idle old = old
 readyRoom (leaves k s) old = old
 readyRoom (word w n) old = (w, n)
 readyRoom (found v i) old = old
+
+-- ---- find: the rule's number, 1 for (a) and so on, and the item; 0 and 0 where no rule is broken
+
+abbrev pub ruleNumber : Broken → ℕ
+ruleNumber Nothing = 0
+ruleNumber (A i) = 1
+ruleNumber (B i) = 2
+ruleNumber (C i) = 3
+ruleNumber (D i) = 4
+ruleNumber (E i) = 5
+ruleNumber (F i) = 6
+ruleNumber (G i) = 7
+
+abbrev pub itemNumber : Broken → ℕ
+itemNumber Nothing = 0
+itemNumber (A i) = i
+itemNumber (B i) = i
+itemNumber (C i) = i
+itemNumber (D i) = i
+itemNumber (E i) = i
+itemNumber (F i) = i
+itemNumber (G i) = i
+
+abbrev pub foundNumbers : Broken → ℕ × ℕ
+foundNumbers b = (ruleNumber b, itemNumber b)

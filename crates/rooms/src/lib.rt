@@ -1,5 +1,6 @@
 // What each answer leaves in the room that a caller of C lends for it: 0 and the answer's values, or the number of the refusal and the
 // room as it was.
+use ledger::Broken;
 use ledger::Entry;
 use ledger::EntryId;
 use ledger::Exit;
@@ -15,6 +16,7 @@ ghost use Prim.Native.Nat.{ℕ};
 ghost use Rattle.ledger.specs.Answers.{numberOf, kindOf, exitOf, sentOf, plainReply, stitchReply, entryReply, turnReply, readyReply, whereReply};
 ghost use Rattle.ledger.specs.Ledger.{portOf};
 ghost use Rattle.rooms.specs.Rooms.{numberIn, entryRoom, recordRoom, sideByte, sentBytes, sentRoom, readyRoom};
+ghost use Rattle.rooms.specs.Rooms.{ruleNumber, itemNumber, foundNumbers};
 ghost use Rattle.ledger.specs.Audit.{kindByte, queueByte, placeBytes, placeRoom};
 
 fn refusal(no: Refusal) -> u32
@@ -185,4 +187,41 @@ pub fn put_place(answer: Whereabouts, x: EntryId, room: &mut [u8; 8]) -> u32
         }
         Whereabouts::No(no) => refusal(no),
     }
+}
+
+fn rule_number(found: Broken) -> u32
+    ensures { λ r. ⌜ r ≡ ruleNumber found ⌝ }
+{
+    match found {
+        Broken::Nothing => 0,
+        Broken::A(_) => 1,
+        Broken::B(_) => 2,
+        Broken::C(_) => 3,
+        Broken::D(_) => 4,
+        Broken::E(_) => 5,
+        Broken::F(_) => 6,
+        Broken::G(_) => 7,
+    }
+}
+
+fn item_number(found: Broken) -> usize
+    ensures { λ r. ⌜ r ≡ itemNumber found ⌝ }
+{
+    match found {
+        Broken::Nothing => 0,
+        Broken::A(i) => i,
+        Broken::B(i) => i,
+        Broken::C(i) => i,
+        Broken::D(i) => i,
+        Broken::E(i) => i,
+        Broken::F(i) => i,
+        Broken::G(i) => i,
+    }
+}
+
+pub fn put_found(found: Broken, rule: &mut u32, item: &mut u64)
+    ensures { λ _. ⌜ _≡_ {A = ℕ × ℕ} (now (rule .exit), now (item .exit)) (foundNumbers found) ⌝ }
+{
+    *rule = rule_number(found);
+    *item = item_number(found) as u64;
 }

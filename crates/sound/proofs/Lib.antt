@@ -1,2 +1,3 @@
 pub mod Lent
 pub mod Means
+pub mod Walks

@@ -1,28 +1,30 @@
 -- No rule is broken exactly where the memory is a switch state. Assumes nothing.
 use mathlib.Core.Path.{_≡_, refl, sym, ap, subst, _∙_}
-use mathlib.Core.Bool.{Bool, true, false}
+use mathlib.Core.Bool.{Bool, true, false, cond}
 use mathlib.Core.List.{List}
 use Prim.Native.Nat.{ℕ}
+use lib.ListN.{length}
 use native.Mathlib.Omega.{arith}
 use Rattle.ledger.specs.declared.Finding.{Finding}
 use Rattle.ledger.specs.declared.Finding.the-variants.{Whole as whole, At}
-use Rattle.ledger.specs.Settings.{Settings}
+use Rattle.ledger.specs.declared.Broken.{Broken}
+use Rattle.ledger.specs.declared.Broken.the-variants.{Nothing, A, B, C, D, E, F, G}
+use Rattle.ledger.specs.Settings.{Settings, size}
 use Rattle.ledger.specs.Sound.{Shaped}
-use Rattle.ledger.proofs.Tests.{true≢false}
+use Rattle.ledger.proofs.Tests.{true≢false, leb-is}
 use Rattle.ledger.proofs.Rows.{roomy}
 use Rattle.layout.specs.declared.Shape.{Shape}
 use Rattle.layout.specs.Tables.{get, settingsOf, tableOf}
 use Rattle.layout.specs.Picture as picture
-use Rattle.layout.specs.Picture.{settingsIn, ledgerIn, StateOf}
+use Rattle.layout.specs.Picture.{settingsIn, opens, ledgerIn, StateOf}
 use Rattle.memory.specs.Ends.{Tidy}
 use Rattle.memory.specs.Memory.{state-dec}
 use Rattle.memory.specs.Judged.{Works}
 use Rattle.memory.proofs.Chains.{length-tabulate, length-lists, state-tidy}
-use Rattle.ranges.specs.declared.Opened.{Opened}
-use Rattle.ranges.specs.declared.Opened.the-variants.{Fine, Wrong}
-use Rattle.ranges.specs.Opening.{shapeFor, opened, Open}
+use Rattle.ranges.specs.declared.Opened.the-variants.{Wrong}
+use Rattle.ranges.specs.Opening.{shapeFor, outAt, opened, Open}
 use Rattle.ranges.specs.Ranges.{rangesFound}
-use Rattle.ranges.proofs.Opening.{shape-is, opened-is, opened-fine}
+use Rattle.ranges.proofs.Opening.{shape-is, opened-is, opened-fine, opens-means}
 use Rattle.ranges.proofs.Items.{ranges-means}
 use Rattle.once.specs.Once.{onceFound}
 use Rattle.once.proofs.Means.{found-whole, found-tidy, whole-found}
@@ -32,33 +34,32 @@ use Rattle.fits.specs.Fits.{fitsFound}
 use Rattle.fits.proofs.Means.{fits-means}
 use Rattle.paid.specs.Paid.{paidFound}
 use Rattle.paid.proofs.Owing.{paid-means}
-use Rattle.sound.specs.declared.Broken.{Broken}
-use Rattle.sound.specs.declared.Broken.the-variants.{Whole, A, B, C, D, E, F, G}
+use Rattle.whole.specs.Whole.{Listed}
 use Rattle.sound.specs.declared.Tested.the-variants.{State, NoState}
-use Rattle.sound.specs.Sound.{Clean, orNext, nodesBroken, openBroken, brokenBy, brokenIn, testedBy, testedIn, testOf}
+use Rattle.sound.specs.Sound.{Clean, orNext, nodesBroken, openBroken, brokenIn, testedBy, testedIn}
 use Rattle.ledger.specs.Ledger.{tall}
 
 -- ---- one rule and the next
 
-isWhole : Broken → Bool
-isWhole (Whole s) = true
-isWhole A = false
-isWhole (B i) = false
-isWhole (C i) = false
-isWhole (D i) = false
-isWhole (E i) = false
-isWhole (F i) = false
-isWhole (G i) = false
+isNothing : Broken → Bool
+isNothing Nothing = true
+isNothing (A i) = false
+isNothing (B i) = false
+isNothing (C i) = false
+isNothing (D i) = false
+isNothing (E i) = false
+isNothing (F i) = false
+isNothing (G i) = false
 
-not-whole : (b : Broken) (s : Shape) → isWhole b ≡ false → b ≡ Whole s → ⊥
-unfolding isWhole
-not-whole b s n e = true≢false (sym (ap isWhole e) ∙ n)
+not-nothing : (b : Broken) → isNothing b ≡ false → b ≡ Nothing → ⊥
+unfolding isNothing
+not-nothing b n e = true≢false (sym (ap isNothing e) ∙ n)
 
 -- where no rule is broken, the first has found nothing, and nor have the next
-or-passed : (f : Finding) (rule : ℕ → Broken) (next : Broken) (s : Shape) → ((i : ℕ) → isWhole (rule i) ≡ false) → orNext f rule next ≡ Whole s
-    → (f ≡ whole) × (next ≡ Whole s)
-or-passed whole rule next s n e = (refl, e)
-or-passed (At i) rule next s n e = absurd (not-whole (rule i) s (n i) e)
+or-passed : (f : Finding) (rule : ℕ → Broken) (next : Broken) → ((i : ℕ) → isNothing (rule i) ≡ false) → orNext f rule next ≡ Nothing
+    → (f ≡ whole) × (next ≡ Nothing)
+or-passed whole rule next n e = (refl, e)
+or-passed (At i) rule next n e = absurd (not-nothing (rule i) (n i) e)
 
 -- ---- what the rules say together
 
@@ -70,30 +71,39 @@ shaped S m = record {
 }
 
 -- the three rules that are asked of nodes
-by-rule : (S : Settings) (m : List ℕ) → fitsFound OwnPort S m ≡ whole → fitsFound OwnQueue S m ≡ whole → fitsFound Record S m ≡ whole
+pub by-rule : (S : Settings) (m : List ℕ) → fitsFound OwnPort S m ≡ whole → fitsFound OwnQueue S m ≡ whole → fitsFound Record S m ≡ whole
     → (rule : NodeRule) → fitsFound rule S m ≡ whole
 by-rule S m d e f OwnPort = d
 by-rule S m d e f OwnQueue = e
 by-rule S m d e f Record = f
 
-module _ (m : List ℕ) (s : Shape) where
-  clean-whole : Clean (settingsOf s) m → openBroken s m ≡ Whole s
+module _ (S : Settings) (m : List ℕ) where
+  pub clean-whole : Clean S m → openBroken S m ≡ Nothing
   unfolding openBroken nodesBroken
   clean-whole k = rw (k .ranges, k .once, k .fits OwnPort, k .fits OwnQueue, k .fits Record, k .paid)
 
-  whole-clean : (t : Shape) → openBroken s m ≡ Whole t → Clean (settingsOf s) m × (s ≡ t)
-  unfolding openBroken nodesBroken isWhole
-  whole-clean t e =
-      let S : Settings = settingsOf s in
-      let b = or-passed (rangesFound S m) B _ t (λ i. refl) e in
-      let c = or-passed (onceFound S m) C _ t (λ i. refl) (b .1) in
-      let d = or-passed (fitsFound OwnPort S m) D _ t (λ i. refl) (c .1) in
-      let f = or-passed (fitsFound OwnQueue S m) E _ t (λ i. refl) (d .1) in
-      let g = or-passed (fitsFound Record S m) F _ t (λ i. refl) (f .1) in
-      let h = or-passed (paidFound S m) G _ t (λ i. refl) (g .1) in
-      let same : s ≡ t = cc (h .1) in
-      (record { ranges = b .0; once = c .0; fits = by-rule S m (d .0) (f .0) (g .0); paid = h .0 }, same)
+  -- (g) alone is broken
+  pub due-broken : (c : ℕ) → rangesFound S m ≡ whole → Listed S m → paidFound S m ≡ At c → openBroken S m ≡ G c
+  unfolding openBroken nodesBroken
+  due-broken c b k e = rw (b, k .once, k .fits OwnPort, k .fits OwnQueue, k .fits Record, e)
 
+  -- (b) is broken
+  pub range-broken : (i : ℕ) → rangesFound S m ≡ At i → openBroken S m ≡ B i
+  unfolding openBroken
+  range-broken i e = rw e
+
+  whole-clean : openBroken S m ≡ Nothing → Clean S m
+  unfolding openBroken nodesBroken isNothing
+  whole-clean e =
+      let b = or-passed (rangesFound S m) B _ (λ i. refl) e in
+      let c = or-passed (onceFound S m) C _ (λ i. refl) (b .1) in
+      let d = or-passed (fitsFound OwnPort S m) D _ (λ i. refl) (c .1) in
+      let f = or-passed (fitsFound OwnQueue S m) E _ (λ i. refl) (d .1) in
+      let g = or-passed (fitsFound Record S m) F _ (λ i. refl) (f .1) in
+      let h = or-passed (paidFound S m) G _ (λ i. refl) (g .1) in
+      record { ranges = b .0; once = c .0; fits = by-rule S m (d .0) (f .0) (g .0); paid = h .0 }
+
+module _ (m : List ℕ) (s : Shape) where
   module _ (o : Open m s) where
     pub passed-once : onceFound (settingsOf s) m ≡ whole → Tidy (settingsOf s) m
     passed-once e = found-tidy (settingsOf s) m (rw (o .settings-are) (o .long)) e
@@ -135,21 +145,22 @@ state-clean S m t =
 -- ---- no rule is broken exactly in a switch state
 
 module _ (m : List ℕ) where
-  pub whole-state : (s : Shape) → brokenIn m ≡ Whole s → Works s m
-  unfolding brokenIn isWhole
-  whole-state s = go (opened m) refl
+  pub whole-state : brokenIn m ≡ Nothing → picture.State m
+  unfolding brokenIn isNothing
+  whole-state = go (opens m) refl
     where
-      go : (o : Opened) → opened m ≡ o → brokenBy o m ≡ Whole s → Works s m
-      go (Fine t) p e =
-          let o = opened-fine m t p in
-          let k = whole-clean m t s e in
-          subst (λ (r : Shape). Works r m) (k .1)
-          (record { laid = o .laid; settings-are = o .settings-are; state = clean-state m t o (k .0) })
-      go Wrong p e = absurd (not-whole A s refl e)
+      go : (b : Bool) → opens m ≡ b → cond b (openBroken (settingsIn m) m) (A (outAt m)) ≡ Nothing → picture.State m
+      go true t e =
+          let r = opens-means m t in
+          let o = opened-fine m _ (opened-is m (r .0) (r .1)) in
+          clean-state m (shapeFor (settingsIn m)) o (whole-clean (settingsIn m) m e)
+      go false t e = absurd (not-nothing (A (outAt m)) refl e)
 
-  pub state-whole : picture.State m → brokenIn m ≡ Whole (shapeFor (settingsIn m))
+  pub state-whole : picture.State m → brokenIn m ≡ Nothing
   unfolding brokenIn
-  state-whole t = rw (opened-is m (t .sound .rows) (t .long)) (clean-whole m (shapeFor (settingsIn m)) (state-clean (settingsIn m) m t))
+  state-whole t =
+      let S = settingsIn m in
+      rw (t .sound .rows, leb-is (size S) (length m) (t .long)) (clean-whole S m (state-clean S m t))
 
   -- ---- what is told of a memory
 
@@ -179,8 +190,8 @@ module _ (m : List ℕ) where
   pub unclean-tested : (s : Shape) → Open m s → (Clean (settingsOf s) m → ⊥) → NoState ≡ testedIn m
   unclean-tested s o n = tested-not (λ t. n (rw (o .settings-are) (state-clean (settingsIn m) m t)))
 
-  pub unopened-tested : opened m ≡ Wrong → NoState ≡ testedIn m
-  unopened-tested e = tested-not (λ t. let p = opened-is m (t .sound .rows) (t .long) in let z : _≡_ {A = ℕ} 0 1 = cc in omega arith)
+  pub unopened-tested : (i : ℕ) → opened m ≡ Wrong i → NoState ≡ testedIn m
+  unopened-tested i e = tested-not (λ t. let p = opened-is m (t .sound .rows) (t .long) in let z : _≡_ {A = ℕ} 0 1 = cc in omega arith)
 
   pub tested-state : (s : Shape) → testedIn m ≡ State s → Works s m
   unfolding testedIn
@@ -200,22 +211,3 @@ module _ (m : List ℕ) where
       go : (d : Dec (picture.State m)) → testedBy m d ≡ NoState → ⊥
       go (yes t) e = let z : _≡_ {A = ℕ} 0 1 = cc in omega arith
       go (no n) e = n t
-
-  -- ---- the test and the first broken rule agree
-
-  broken : (b : Broken) → isWhole b ≡ false → brokenIn m ≡ b → testedIn m ≡ NoState
-  broken b n e = sym (tested-not (λ t. not-whole b (shapeFor (settingsIn m)) n (sym e ∙ state-whole t)))
-
-  pub test-agrees : testedIn m ≡ testOf (brokenIn m)
-  unfolding isWhole
-  test-agrees = go (brokenIn m) refl
-    where
-      go : (b : Broken) → brokenIn m ≡ b → testedIn m ≡ testOf b
-      go (Whole s) e = sym (tested-is s (whole-state s e))
-      go A e = broken A refl e
-      go (B i) e = broken (B i) refl e
-      go (C i) e = broken (C i) refl e
-      go (D i) e = broken (D i) refl e
-      go (E i) e = broken (E i) refl e
-      go (F i) e = broken (F i) refl e
-      go (G i) e = broken (G i) refl e

@@ -10,7 +10,6 @@ use Rattle.layout.specs.declared.Shape.{Shape}
 use Rattle.layout.specs.Tables.{settingsOf}
 use Rattle.layout.specs.Picture as picture
 use Rattle.layout.specs.Picture.{settingsIn, opens}
-use Rattle.memory.specs.Ends.{Tidy}
 use Rattle.memory.specs.Memory.{state-dec}
 use Rattle.ranges.specs.Opening.{shapeFor, outAt, Open}
 use Rattle.ranges.specs.Ranges.{rangesFound}
@@ -19,7 +18,8 @@ use Rattle.fits.specs.declared.NodeRule.{NodeRule}
 use Rattle.fits.specs.declared.NodeRule.the-variants.{OwnPort, OwnQueue, Record}
 use Rattle.fits.specs.Fits.{fitsFound}
 use Rattle.paid.specs.Paid.{paidFound}
-use Rattle.paid.specs.Passes.{Payable}
+use Rattle.whole.specs.declared.Walk.the-variants.{Stuck}
+use Rattle.whole.specs.Whole.{Tells}
 use Rattle.ledger.specs.declared.Broken.{Broken}
 use Rattle.ledger.specs.declared.Broken.the-variants.{Nothing, A, B, C, D, E, F, G}
 use Rattle.sound.specs.declared.Tested.{Tested}
@@ -65,12 +65,13 @@ testedIn m = testedBy m (state-dec m)
 
 -- ---- what the functions ask
 
--- a memory of shape s that keeps rules (a) to (c)
-pub record Tied (s : Shape) (m : List ℕ) : Type 0 where
+-- a memory of shape s, of which the one walk stuck at port p
+pub record StuckAt (s : Shape) (m : List ℕ) (p : ℕ) : Type 0 where
   pub opens : Open m s
-  pub tidy : Tidy (settingsOf s) m
+  pub stuck : Tells (settingsOf s) m (Stuck p)
 
--- and one that keeps rule (f) too
-pub record Recorded (s : Shape) (m : List ℕ) : Type 0 where
-  pub opens : Open m s
-  pub payable : Payable (settingsOf s) m
+-- and that keeps rules (b) and (c)
+pub record Tied (s : Shape) (m : List ℕ) (p : ℕ) : Type 0 where
+  pub stuck : StuckAt s m p
+  pub ranges : rangesFound (settingsOf s) m ≡ whole
+  pub once : onceFound (settingsOf s) m ≡ whole

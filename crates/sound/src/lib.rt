@@ -1,29 +1,20 @@
-// Is a memory of any bytes a switch state? For a call, all seven rules by one walk of the lists; for whoever asks what is wrong, the rules in
-// the paper's order, a walk each, up to the first that is broken.
+// Is a memory of any bytes a switch state? For a call, all seven rules by one walk of the lists; for whoever asks what is wrong, that walk
+// first, and where it doesn't tell, the rules in the paper's order, a walk each, up to the first that is broken.
 use fits::NodeRule;
 use layout::Shape;
+use ledger::Broken;
 use ledger::Finding;
 use ranges::Opened;
+use whole::Walk;
 ghost use mathlib.Core.Path.{_≡_};
 ghost use Prim.Native.Nat.{_≤_};
 ghost use Rattle.layout.specs.Tables.{settingsOf};
 ghost use Rattle.ranges.specs.Opening.{Open};
 ghost use Rattle.once.specs.Once.{onceFound};
-ghost use Rattle.paid.specs.Paid.{paidFound};
-ghost use Rattle.whole.specs.Whole.{Says, Kept};
-ghost use Rattle.sound.specs.Sound.{Clean, Tied, Recorded, nodesBroken, openBroken, brokenIn, testedIn};
-
-// The first rule that a memory breaks, with the first item that shows it; or none, with the memory's shape.
-pub enum Broken {
-    Whole(Shape),
-    A,
-    B(usize),
-    C(usize),
-    D(usize),
-    E(usize),
-    F(usize),
-    G(usize),
-}
+ghost use Rattle.ranges.specs.First.{first};
+ghost use Rattle.ranges.specs.Ranges.{low, fitsAt};
+ghost use Rattle.whole.specs.Whole.{Says, Tells};
+ghost use Rattle.sound.specs.Sound.{Clean, Tied, StuckAt, nodesBroken, openBroken, brokenIn, testedIn};
 
 // What a call needs to know of a memory.
 pub enum Tested {
@@ -62,64 +53,10 @@ fn once_in(m: &[u8], s: Shape) -> Finding
     once_among_all(m, s)
 }
 
-// Rule (g), with a sum for each port and queue but 0.
-fn paid_in(m: &[u8], s: Shape) -> Finding
-    requires { ⌜ Recorded s (now m) ⌝ }
-    ensures { λ r. ⌜ r ≡ paidFound (settingsOf s) (now (m .entry)) ⌝ }
-{
-    let mut sums = [0u64; 92];
-    let cells = s.cells;
-    paid::paid(m, s, &mut sums[..cells])
-}
-
-// Rules (d) to (g).
-fn nodes_broken(m: &[u8], s: Shape) -> Broken
-    requires { ⌜ Tied s (now m) ⌝ }
-    ensures { λ r. ⌜ r ≡ nodesBroken s (now (m .entry)) ⌝ }
-{
-    if let Finding::At(x) = fits::fits(m, s, NodeRule::OwnPort) {
-        return Broken::D(x);
-    }
-    if let Finding::At(x) = fits::fits(m, s, NodeRule::OwnQueue) {
-        return Broken::E(x);
-    }
-    if let Finding::At(x) = fits::fits(m, s, NodeRule::Record) {
-        return Broken::F(x);
-    }
-    if let Finding::At(c) = paid_in(m, s) {
-        return Broken::G(c);
-    }
-    Broken::Whole(s)
-}
-
-// Rules (b) to (g).
-fn open_broken(m: &[u8], s: Shape) -> Broken
-    requires { ⌜ Open (now m) s ⌝ }
-    ensures { λ r. ⌜ r ≡ openBroken s (now (m .entry)) ⌝ }
-{
-    if let Finding::At(i) = ranges::ranges(m, s) {
-        return Broken::B(i);
-    }
-    if let Finding::At(i) = once_in(m, s) {
-        return Broken::C(i);
-    }
-    nodes_broken(m, s)
-}
-
-// The first rule that is broken.
-pub fn first_broken(m: &[u8]) -> Broken
-    ensures { λ r. ⌜ r ≡ brokenIn (now (m .entry)) ⌝ }
-{
-    match ranges::open(m) {
-        Opened::Fine(s) => open_broken(m, s),
-        Opened::Wrong => Broken::A,
-    }
-}
-
-// The rules of lists in one walk where there are few nodes, with marks for 1,024.
-fn whole_among_few(m: &[u8], s: Shape) -> bool
+// The rules of lists and of credits in one walk where there are few nodes, with marks for 1,024.
+fn whole_among_few(m: &[u8], s: Shape) -> Walk
     requires { ⌜ Open (now m) s × (s .all ≤ 1024) ⌝ }
-    ensures { λ r. ⌜ Says (Kept (settingsOf s) (now (m .entry))) r ⌝ }
+    ensures { λ r. ⌜ Tells (settingsOf s) (now (m .entry)) r ⌝ }
 {
     let mut marks = [0u8; 1024];
     let mut sums = [0u64; 92];
@@ -128,10 +65,10 @@ fn whole_among_few(m: &[u8], s: Shape) -> bool
     whole::whole(m, s, &mut marks[..all], &mut sums[..cells])
 }
 
-// The rules of lists in one walk, with marks for as many nodes as a state may have.
-fn whole_among_all(m: &[u8], s: Shape) -> bool
+// The same with marks for as many nodes as a state may have.
+fn whole_among_all(m: &[u8], s: Shape) -> Walk
     requires { ⌜ Open (now m) s ⌝ }
-    ensures { λ r. ⌜ Says (Kept (settingsOf s) (now (m .entry))) r ⌝ }
+    ensures { λ r. ⌜ Tells (settingsOf s) (now (m .entry)) r ⌝ }
 {
     let mut marks = [0u8; 8192];
     let mut sums = [0u64; 92];
@@ -140,19 +77,37 @@ fn whole_among_all(m: &[u8], s: Shape) -> bool
     whole::whole(m, s, &mut marks[..all], &mut sums[..cells])
 }
 
-// Whether rules (b) to (g) are kept: of (b) the marks and the map first, and the prefetch lists where the lists are walked.
-fn whole_in(m: &[u8], s: Shape) -> bool
+fn one_walk(m: &[u8], s: Shape) -> Walk
     requires { ⌜ Open (now m) s ⌝ }
-    ensures { λ r. ⌜ Says (Clean (settingsOf s) (now (m .entry))) r ⌝ }
+    ensures { λ r. ⌜ Tells (settingsOf s) (now (m .entry)) r ⌝ }
 {
-    if let Finding::At(_) = ranges::first_outside(m, s, ranges::numbers(s)) {
-        return false;
-    }
     let all = s.all;
     if all <= 1024 {
         return whole_among_few(m, s);
     }
     whole_among_all(m, s)
+}
+
+// The first of the marks and the map's entries that is out of range: of (b), what the walk doesn't meet.
+fn number_outside(m: &[u8], s: Shape) -> Finding
+    requires { ⌜ Open (now m) s ⌝ }
+    ensures { λ r. ⌜ r ≡ first (fitsAt (settingsOf s) (now (m .entry))) (low (settingsOf s)) ⌝ }
+{
+    ranges::first_outside(m, s, ranges::numbers(s))
+}
+
+// Whether rules (b) to (g) are kept: of (b) the marks and the map first, and the prefetch lists where the lists are walked.
+fn whole_in(m: &[u8], s: Shape) -> bool
+    requires { ⌜ Open (now m) s ⌝ }
+    ensures { λ r. ⌜ Says (Clean (settingsOf s) (now (m .entry))) r ⌝ }
+{
+    if let Finding::At(_) = number_outside(m, s) {
+        return false;
+    }
+    if let Walk::Kept = one_walk(m, s) {
+        return true;
+    }
+    false
 }
 
 // Whether a memory is a switch state. Which rule it breaks isn't asked, so that one walk of the lists decides.
@@ -165,4 +120,62 @@ pub fn test(m: &[u8]) -> Tested
         }
     }
     Tested::NoState
+}
+
+// Rules (d) to (f), each by a walk from the lists of the port at which the one walk stuck: before them nothing breaks these rules.
+fn nodes_broken(m: &[u8], s: Shape, port: usize) -> Broken
+    requires { ⌜ Tied s (now m) port ⌝ }
+    ensures { λ r. ⌜ r ≡ nodesBroken (settingsOf s) (now (m .entry)) ⌝ }
+{
+    let from = port * s.row;
+    if let Finding::At(x) = fits::fits(m, s, NodeRule::OwnPort, from) {
+        return Broken::D(x);
+    }
+    if let Finding::At(x) = fits::fits(m, s, NodeRule::OwnQueue, from) {
+        return Broken::E(x);
+    }
+    if let Finding::At(x) = fits::fits(m, s, NodeRule::Record, from) {
+        return Broken::F(x);
+    }
+    // Never so: the walk was stuck.
+    Broken::Nothing
+}
+
+// Rules (b) to (f) in their order, where the one walk stuck at a port.
+fn stuck_broken(m: &[u8], s: Shape, port: usize) -> Broken
+    requires { ⌜ StuckAt s (now m) port ⌝ }
+    ensures { λ r. ⌜ r ≡ openBroken (settingsOf s) (now (m .entry)) ⌝ }
+{
+    if let Finding::At(i) = ranges::ranges(m, s) {
+        return Broken::B(i);
+    }
+    if let Finding::At(i) = once_in(m, s) {
+        return Broken::C(i);
+    }
+    nodes_broken(m, s, port)
+}
+
+// Rules (b) to (g). The one walk is asked first: it decides where none is broken, or (g) alone.
+fn open_broken(m: &[u8], s: Shape) -> Broken
+    requires { ⌜ Open (now m) s ⌝ }
+    ensures { λ r. ⌜ r ≡ openBroken (settingsOf s) (now (m .entry)) ⌝ }
+{
+    if let Finding::At(i) = number_outside(m, s) {
+        return Broken::B(i);
+    }
+    match one_walk(m, s) {
+        Walk::Kept => Broken::Nothing,
+        Walk::Stuck(port) => stuck_broken(m, s, port),
+        Walk::Due(c) => Broken::G(c),
+    }
+}
+
+// The first rule that is broken, and the first item that shows it.
+pub fn first_broken(m: &[u8]) -> Broken
+    ensures { λ r. ⌜ r ≡ brokenIn (now (m .entry)) ⌝ }
+{
+    match ranges::open(m) {
+        Opened::Fine(s) => open_broken(m, s),
+        Opened::Wrong(i) => Broken::A(i),
+    }
 }

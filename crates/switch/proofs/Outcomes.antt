@@ -31,6 +31,9 @@ use Rattle.switch.proofs.turn
 use Rattle.switch.proofs.ready
 use Rattle.switch.proofs.where_is
 use Rattle.switch.proofs.round
+use Rattle.switch.proofs.audit
+use Rattle.switch.proofs.find
+use Rattle.switch.proofs.repair
 
 -- what equals the same pair has equal parts; `at` puts the second where the function's parameters have it
 pub parted : {A B C : Type 0} (at : B → C) {x y : A} {m n : B} {out : A × B} → (x, m) ≡ out → (y, n) ≡ out → (x ≡ y) × (at m ≡ at n)
@@ -69,7 +72,16 @@ turn-one κs a r r₂ left left₂ p q = fixed turn-inj (left .1) p q
 pub round-one : OneOutcome round.ended round.Reads.Learnt
 round-one κs a r r₂ left left₂ p q = let t = roomed {B = List ℕ × (List ℕ × Unit {0})} (λ m x. (m, (x, tt))) p q in (plain-inj r r₂ (t .0), t .1)
 
--- the memory of these two is lent for reading only: nothing is left that could differ
+pub repair-one : OneOutcome repair.ended repair.Reads.Learnt
+repair-one κs a r r₂ left left₂ p q = fixed plain-inj (left .1) p q
+
+-- the memory of these is lent for reading only: nothing is left that could differ but the audit's room
+pub audit-one : OneOutcome audit.ended audit.Reads.Learnt
+audit-one κs a r r₂ left left₂ p q = let t = parted {C = Unit {0} × (List ℕ × Unit {0})} (λ x. (tt, (x, tt))) p q in (plain-inj r r₂ (t .0), t .1)
+
+pub find-one : OneOutcome find.ended find.Reads.Learnt
+find-one κs a r r₂ left left₂ p q = (p ∙ sym q, refl)
+
 pub ready-one : OneOutcome ready.ended ready.Reads.Learnt
 ready-one κs a r r₂ left left₂ p q = (ready-inj r r₂ (p ∙ sym q), refl)
 

@@ -1,6 +1,7 @@
-// The nine calls of the queue manager and the round, for any memory and any numbers: nothing has to be checked by the caller. Each contract
-// is an equation that fixes answer and memory: (reply, memory after) is M of the call and the memory before; of the round, roundOn of the
-// memory and the room.
+// The nine calls of the queue manager, the round, and the night crew's audit, finding and repair, for any memory and any numbers: nothing has
+// to be checked by the caller. Each contract is an equation that fixes answer and memory: (reply, memory after) is M of the call and the memory
+// before; of the round, roundOn of the memory and the room; of the audit auditOn, of the finding brokenIn, of the repair repaired.
+use ledger::Broken;
 use ledger::Entry;
 use ledger::EntryId;
 use ledger::Plain;
@@ -19,6 +20,9 @@ ghost use Rattle.ledger.specs.Calls.{Reply, arrive, stitch, prefetch, credit, m
 ghost use Rattle.ledger.specs.Desk.{act};
 ghost use Rattle.memory.specs.Memory.{M};
 ghost use Rattle.memory.specs.Rounds.{roundOn};
+ghost use Rattle.memory.specs.Audit.{auditOn};
+ghost use Rattle.memory.specs.Repair.{repaired};
+ghost use Rattle.sound.specs.Sound.{brokenIn};
 ghost use Rattle.ledger.specs.Answers.{recordIn};
 ghost use Rattle.setup.specs.Told.{callOf};
 
@@ -128,4 +132,28 @@ pub fn round(m: &mut [u8], turns: &mut [u8]) -> Plain
         Tested::State(s) => rounds::round(m, s, turns),
         Tested::NoState => Plain::No(Refusal::NoState),
     }
+}
+
+// Audit: writes every node's place, eight bytes each, port by port and index by index.
+pub fn audit(m: &[u8], places: &mut [u8]) -> Plain
+    ensures { λ r. ⌜ _≡_ {A = Reply × List ℕ} (plainReply r, now (places .exit)) (auditOn (now (m .entry)) (now (places .entry))) ⌝ }
+{
+    match sound::test(m) {
+        Tested::State(s) => audits::audit(m, s, places),
+        Tested::NoState => Plain::No(Refusal::NoState),
+    }
+}
+
+// Find: the first rule of soundness that a memory breaks, and the first item that shows it. Never refused.
+pub fn find(m: &[u8]) -> Broken
+    ensures { λ r. ⌜ r ≡ brokenIn (now (m .entry)) ⌝ }
+{
+    sound::first_broken(m)
+}
+
+// Repair: the starting ledger for the memory's own settings, with the map kept.
+pub fn repair(m: &mut [u8]) -> Plain
+    ensures { λ r. ⌜ _≡_ {A = Reply × List ℕ} (plainReply r, now (m .exit)) (repaired (now (m .entry))) ⌝ }
+{
+    repairs::repair(m)
 }

@@ -1,3 +1,3 @@
 pub mod SetMarks
-pub mod Walk
+pub mod Walking
 pub mod Lists

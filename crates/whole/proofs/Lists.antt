@@ -29,7 +29,7 @@ use Rattle.paid.specs.Passes.{Sums, Payable}
 use Rattle.paid.proofs.Adding.{sums-more}
 use Rattle.paid.proofs.Passing.{list-start}
 use Rattle.ranges.specs.Ranges.{fewIn}
-use Rattle.whole.specs.Whole.{ListKept, Kept}
+use Rattle.whole.specs.Whole.{ListKept, Listed}
 use Rattle.whole.specs.Walks.{countMost, setMarks, AtList, AllLent, ListPassed}
 use Rattle.whole.proofs.SetMarks.{set-none, set-all, all-set, list-more}
 
@@ -61,7 +61,7 @@ module _ (S : Settings) (p c : ℕ) {r : ℕ} (is : r ≡ row S) (hc : c < r) wh
 module _ {S : Settings} {m ms sums : List ℕ} {l n : ℕ} (W : AtList S m ms sums l n) where
   module _ (some : l < lists S) where
     -- where a list is not kept, nor is the whole
-    pub lists-no : (ListKept S m ms l → ⊥) → Kept S m → ⊥
+    pub lists-no : (ListKept S m ms l → ⊥) → Listed S m → ⊥
     lists-no n k = n (record { once = once (right S m ms l) refl; fits = λ rule. fits rule (listFound rule S m l) refl })
       where
         once : (b : Bool) → right S m ms l ≡ b → right S m ms l ≡ true
@@ -73,7 +73,7 @@ module _ {S : Settings} {m ms sums : List ℕ} {l n : ℕ} (W : AtList S m ms su
         fits rule (At x) e = absurd (none x (sym (fits-stop rule S m l some x e) ∙ W .fits rule ∙ k .fits rule))
 
     -- nor where it has too many nodes
-    pub lists-many : fewIn S m l ≡ false → Kept S m → ⊥
+    pub lists-many : fewIn S m l ≡ false → Listed S m → ⊥
     lists-many e k = true≢false (sym (k .slots l some) ∙ e)
 
     next : fewIn S m l ≡ true → ListKept S m ms l → (ms′ sums′ : List ℕ) → length ms′ ≡ length ms
@@ -111,7 +111,7 @@ module _ {S : Settings} {m ms sums : List ℕ} {l n : ℕ} (W : AtList S m ms su
     pub end-once : n ≡ all S → onceFound S m ≡ Whole
     end-once e = scan-end (W .scan) past ∙ set-all (lists S) ms (W .met ∙ e ∙ sym (W .scan .fits))
 
-    pub end-left : (n ≡ all S → ⊥) → Kept S m → ⊥
+    pub end-left : (n ≡ all S → ⊥) → Listed S m → ⊥
     end-left d k = d (sym (W .met) ∙ all-set (lists S) ms (sym (scan-end (W .scan) past) ∙ k .once) ∙ W .scan .fits)
 
 -- rules (c) and (f) make the prices payable

@@ -19,7 +19,7 @@ use Rattle.paid.specs.Paid.{addList, addFrom, sumsOf}
 use Rattle.paid.specs.Passes.{Sums}
 use Rattle.nodes.specs.Passes.{Lent}
 use Rattle.ranges.specs.Ranges.{fewIn}
-use Rattle.whole.specs.Whole.{Says, ListKept, Kept}
+use Rattle.whole.specs.Whole.{Says, ListKept, Listed}
 
 -- what the nodes of a list may add, before it is known that none stands twice: 2^32 prices of a byte
 abbrev pub countMost : ℕ
@@ -74,4 +74,4 @@ pub record ListPassed (S : Settings) (m : List ℕ) (l : ℕ) (ms sums ms′ sum
 -- after port p the walk stands at the first list of the next, or some rule is broken
 pub record PortPassed (S : Settings) (m : List ℕ) (p : ℕ) (ms sums : List ℕ) (n : ℕ) (r : Bool) : Type 0 where
   pub yes : r ≡ true → AtList S m ms sums ((p + 1) * row S) n
-  pub no : r ≡ false → Kept S m → ⊥
+  pub no : r ≡ false → Listed S m → ⊥

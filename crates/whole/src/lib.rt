@@ -1,13 +1,21 @@
-// Rules (c) to (g) of a switch state together, and of (b) what is said of prefetch lists, for a call that only asks whether all are kept: one
-// walk of the lists, in marks and sums that the caller lends. Which rule is broken first, and where, say the crates of the rules. docs/LAYOUT.md
-// has a table of what is tested where.
+// Rules (c) to (g) of a switch state together, and of (b) what is said of prefetch lists: one walk of the lists, in marks and sums that the
+// caller lends, tells whether all are kept. Which rule is broken first, and where, say the crates of the rules; the walk tells them where to
+// begin. docs/LAYOUT.md has a table of what is tested where.
 use layout::Shape;
 use layout::Table;
 use ledger::EntryId;
 use ledger::Finding;
 ghost use Rattle.layout.specs.Tables.{settingsOf};
-ghost use Rattle.whole.specs.Whole.{Says, Kept};
+ghost use Rattle.whole.specs.Whole.{Tells};
 ghost use Rattle.whole.specs.Walks.{ListLent, PortLent, AllLent, ListPassed, PortPassed};
+
+// What the walk tells: every rule is kept; or one before (g) is broken, and (d) to (f) are kept in the lists of the ports before this one;
+// or (g) alone is broken, first at this cell.
+pub enum Walk {
+    Kept,
+    Stuck(usize),
+    Due(usize),
+}
 
 // Walks list l, a port's column, from its head to its count, and answers whether each node passed and the last is the tail. The node after x
 // is read before anything of x is written: a processor then fetches it while it tests x.
@@ -76,26 +84,25 @@ fn port_passes(
     true
 }
 
-// Whether rules (c) to (g) are kept, and of (b) what is said of prefetch lists. Where each node that was met was new, as many were met as there
-// are exactly if none was left out.
-pub fn whole(m: &[u8], s: Shape, marks: &mut [u8], sums: &mut [u64]) -> bool
+// All lists, and then the credits. Where each node that was met was new, as many were met as there are exactly if none was left out.
+pub fn whole(m: &[u8], s: Shape, marks: &mut [u8], sums: &mut [u64]) -> Walk
     requires { ⌜ AllLent s (now m) (now marks) (now sums) ⌝ }
-    ensures { λ r. ⌜ Says (Kept (settingsOf s) (now (m .entry))) r ⌝ }
+    ensures { λ r. ⌜ Tells (settingsOf s) (now (m .entry)) r ⌝ }
 {
     let ports = s.ports;
     let mut met: u32 = 0;
     let mut port: usize = 0;
     while port < ports {
         if !port_passes(m, s, port, marks, sums, &mut met) {
-            return false;
+            return Walk::Stuck(port);
         }
         port += 1;
     }
     if met as usize != s.all {
-        return false;
+        return Walk::Stuck(port);
     }
-    if let Finding::At(_) = paid::first_due(m, s, sums) {
-        return false;
+    if let Finding::At(c) = paid::first_due(m, s, sums) {
+        return Walk::Due(c);
     }
-    true
+    Walk::Kept
 }

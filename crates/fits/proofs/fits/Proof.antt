@@ -1,24 +1,24 @@
 -- `fits::fits` meets its contract. The loop's invariant: the lists that are left say what all say. The measure is their count.
 -- Assumes nothing.
 use Prim.Native.Nat.{_-_}
-use mathlib.Core.Path.{_≡_, sym, _∙_}
+use mathlib.Core.Path.{_≡_, refl, sym, _∙_}
 use native.Mathlib.Omega.{arith}
 use borrow.Author.Needs.{needs}
 use Rattle.layout.specs.Tables.{lists, settingsOf}
-use Rattle.fits.specs.Fits.{fitsFrom, fitsFound}
-use Rattle.fits.proofs.Walk.{fits-start, fits-end, fits-stop, fits-next}
+use Rattle.fits.specs.Fits.{fitsFrom}
+use Rattle.fits.proofs.Walk.{fits-end, fits-stop, fits-next}
 use Rattle.fits.proofs.fits.Statement.{statement}
 use Rattle.fits.proofs.fits.Tie as tie
 
 abbrev Inv-loop : tie.InvT-loop
-Inv-loop m s rule number l₀ l =
-    fitsFrom rule (settingsOf s) m l (lists (settingsOf s) - l) ≡ fitsFound rule (settingsOf s) m
+Inv-loop m s rule from number l₀ l =
+    fitsFrom rule (settingsOf s) m l (lists (settingsOf s) - l) ≡ fitsFrom rule (settingsOf s) m from (lists (settingsOf s) - from)
 
 abbrev μ-loop : tie.MeasureT-loop
-μ-loop m s rule number l₀ l = number - l
+μ-loop m s rule from number l₀ l = number - l
 
 loop-holds : tie.Need-loop-holds Inv-loop μ-loop
-loop-holds c = fits-start _ _ _
+loop-holds c = refl
 
 list-fits-requires : tie.Need-list-fits-requires Inv-loop μ-loop
 list-fits-requires c κs = search needs

@@ -2,14 +2,14 @@
 use mathlib.Core.Path.{_≡_, sym, ap, _∙_}
 use mathlib.Core.Bool.{true}
 use native.Mathlib.Omega.{arith}
-use borrow.Author.Tests.{not-true, not-false}
 use borrow.Author.Needs.{needs}
-use Rattle.ledger.specs.Settings.{inRows, size}
-use Rattle.ledger.proofs.Rows.{roomy}
+use Rattle.ledger.specs.Settings.{inRows, firstOut, size}
+use Rattle.ledger.proofs.Tests.{eqb-is}
+use Rattle.ledger.proofs.Rows.{roomy, rows-out}
 use Rattle.settings.specs.Told.{toldSettings}
 use Rattle.layout.specs.Tables.{settingsOf}
 use Rattle.layout.specs.Picture.{settingsIn}
-use Rattle.ranges.specs.declared.Opened.the-variants.{Fine}
+use Rattle.ranges.specs.declared.Opened.the-variants.{Fine, Wrong}
 use Rattle.ranges.specs.Opening.{shapeFor}
 use Rattle.ranges.proofs.Opening.{shape-is, opened-outside, opened-short, opened-tiny, opened-is}
 use Rattle.ranges.proofs.open.Statement.{statement}
@@ -22,9 +22,16 @@ read c = c .before .before .before
 told : (c : tie.After-shape-of) → settingsOf (c .shape-of .result) ≡ settingsIn (read c .before .before .before .args .m .now)
 told c = c .shape-of .ensures .settings-are ∙ read c .read .ensures
 
--- the test of the rows was passed
+-- the first setting out of its row
+out : (c : tie.After-first-out) → c .first-out .result ≡ firstOut (settingsIn (c .before .before .before .before .args .m .now))
+out c = c .first-out .ensures ∙ ap firstOut (c .before .read .ensures)
+
+-- there is none
 passed : (c : tie.Else2) → inRows (toldSettings (c .before .before .read .result)) ≡ true
-passed c = sym (c .before .in-rows .ensures) ∙ not-false _ (c .if2 .left)
+passed c = rows-out _ ∙ eqb-is _ 6 (sym (c .before .first-out .ensures) ∙ c .if2 .left)
+
+none-out : (c : tie.Else2) → firstOut (settingsIn (c .before .before .before .before .before .args .m .now)) ≡ 6
+none-out c = sym (out (c .before)) ∙ c .if2 .left
 
 returns : tie.Need-returns
 returns c = sym (opened-tiny _ (c .if1 .taken))
@@ -32,11 +39,13 @@ returns c = sym (opened-tiny _ (c .if1 .taken))
 read-requires : tie.Need-read-requires
 read-requires c κs = search needs
 
-in-rows-requires : tie.Need-in-rows-requires
-in-rows-requires c κs = search needs
+first-out-requires : tie.Need-first-out-requires
+first-out-requires c κs = search needs
 
 returns-2 : tie.Need-returns-2
-returns-2 c = sym (opened-outside _ (ap inRows (sym (c .before .before .read .ensures)) ∙ sym (c .before .in-rows .ensures) ∙ not-true _ (c .if2 .taken)))
+returns-2 c =
+    let e = out (c .before) in
+    ap Wrong e ∙ sym (opened-outside _ (omega arith) (λ n. c .if2 .taken (e ∙ n)))
 
 shape-of-requires : tie.Need-shape-of-requires
 shape-of-requires c κs = roomy _ (passed c)
@@ -45,7 +54,7 @@ size-of-requires : tie.Need-size-of-requires
 size-of-requires c κs = search needs
 
 returns-3 : tie.Need-returns-3
-returns-3 c = sym (opened-short _ (omega (arith, c .before .size-of .ensures, ap size (told (c .before .before)))))
+returns-3 c = sym (opened-short _ (omega arith) (none-out (c .before .before .before)) (omega (arith, c .before .size-of .ensures, ap size (told (c .before .before)))))
 
 returns-4 : tie.Need-returns-4
 returns-4 c =
@@ -61,7 +70,7 @@ open-spec =
     (tie.spec
     returns
     read-requires
-    in-rows-requires
+    first-out-requires
     returns-2
     shape-of-requires
     size-of-requires

@@ -1,76 +1,64 @@
--- `sound::open_broken` meets its contract: a rule that finds nothing leaves the answer to the next. Assumes nothing.
-use mathlib.Core.Path.{_≡_, sym, _∙_}
+-- `sound::open_broken` meets its contract: the marks and the map, then what the one walk tells. Assumes nothing.
+use mathlib.Core.Path.{sym, subst, _∙_}
 use borrow.Author.Needs.{needs}
-use Rattle.ledger.specs.declared.Finding.the-variants.{Whole}
 use Rattle.layout.specs.Tables.{settingsOf}
-use Rattle.ranges.specs.Ranges.{rangesFound}
-use Rattle.ranges.proofs.Opening.{open-held}
-use Rattle.once.specs.Once.{onceFound}
-use Rattle.sound.specs.Sound.{openBroken}
-use Rattle.sound.proofs.Means.{passed-once}
+use Rattle.ranges.proofs.Slots.{Low, low-found}
+use Rattle.whole.specs.Whole.{Tells}
+use Rattle.sound.proofs.Means.{range-broken}
+use Rattle.sound.proofs.Walks.{kept-broken, due-told}
 use Rattle.sound.proofs.open_broken.Statement.{statement}
 use Rattle.sound.proofs.open_broken.Tie as tie
 
--- ---- the moments: the next rule is tested where one has found nothing
+-- ---- the moments
 
 abbrev start : tie.After-enum-told → tie.Start
 start c = c .before .before .before .before
 
-abbrev in-range : tie.After-enum-told2 → tie.After-enum-told
-in-range c = c .before .before .before
-
--- ---- what each rule has found there
-
-ranged : (c : tie.After-enum-told) → let a = start c .args in rangesFound (settingsOf (a .s)) (a .m .now) ≡ Whole
-ranged c = sym (c .before .before .ranges .ensures) ∙ c .enum-told .given .1
-
-met : (c : tie.After-enum-told2) → let a = start (in-range c) .args in onceFound (settingsOf (a .s)) (a .m .now) ≡ Whole
-met c = sym (c .before .before .once-in .ensures) ∙ c .enum-told2 .given .1
-
-ranges-requires : tie.Need-ranges-requires
-ranges-requires c κs = open-held (c .before .pre)
-
-enum-known-i : tie.Need-enum-known-i
-enum-known-i c = search needs
+-- the marks and the map are in range
+low : (c : tie.After-enum-told) → let b = start c in Low (settingsOf (b .args .s)) (b .args .m .now) (b .pre .laid .roomy)
+low c = sym (c .before .before .number-outside .ensures) ∙ c .enum-told .given .1
 
 returns : tie.Need-returns
-unfolding openBroken
-returns c = rw (sym (c .before .before .before .ranges .ensures) ∙ c .before .i .given .1)
+returns c =
+    let w = c .before .before .before in
+    let R = w .before .before .pre .laid .roomy in
+    sym (range-broken _ _ _ (low-found _ _ R _ (sym (w .number-outside .ensures) ∙ c .before .i .given .1)))
 
-enum-told : tie.Need-enum-told
-enum-told c = search needs
-
-once-in-requires : tie.Need-once-in-requires
-once-in-requires c κs = search needs
-
-enum-known-i-2 : tie.Need-enum-known-i-2
-enum-known-i-2 c = search needs
+stuck-broken-requires : tie.Need-stuck-broken-requires
+stuck-broken-requires c κs =
+    let w = c .before .before .before in
+    let b = start (w .before) in
+    record { opens = b .pre; stuck = subst (Tells (settingsOf (b .args .s)) (b .args .m .now)) (c .before .port .given .1) (w .one-walk .ensures) }
 
 returns-2 : tie.Need-returns-2
-unfolding openBroken
-returns-2 c = rw (ranged (c .before .before .before .before), sym (c .before .before .before .once-in .ensures) ∙ c .before .i2 .given .1)
+returns-2 c =
+    let w = c .before .before in
+    let b = start (w .before) in
+    sym
+    (kept-broken _ _ (b .pre .laid .roomy) (low (w .before))
+    (subst (Tells (settingsOf (b .args .s)) (b .args .m .now)) (c .enum-told2 .given .1) (w .one-walk .ensures)))
 
-enum-told-2 : tie.Need-enum-told-2
-enum-told-2 c = search needs
-
-nodes-broken-requires : tie.Need-nodes-broken-requires
-nodes-broken-requires c κs = let o = start (in-range c) .pre in record { opens = o; tidy = passed-once _ _ o (met c) }
-
-returns-3 : tie.Need-returns-3
-unfolding openBroken
-returns-3 c = rw (ranged (in-range (c .before)), met (c .before)) (c .nodes-broken .ensures)
+returns-4 : tie.Need-returns-4
+returns-4 c =
+    let w = c .before .before .before in
+    let b = start (w .before) in
+    sym
+    (due-told _ _ (b .pre .laid .roomy) (low (w .before)) _
+    (subst (Tells (settingsOf (b .args .s)) (b .args .m .now)) (c .before .c .given .1) (w .one-walk .ensures)))
 
 pub open-broken-spec : {M : Type 1} → statement M
 open-broken-spec =
     tie.close
     (tie.spec
-    ranges-requires
-    enum-known-i
+    (λ c κs. search needs)
+    (λ c. search needs)
     returns
-    enum-told
-    once-in-requires
-    enum-known-i-2
+    (λ c. search needs)
+    (λ c κs. search needs)
+    (λ c. search needs)
+    (λ c. search needs)
+    stuck-broken-requires
+    (λ c. search needs)
     returns-2
-    enum-told-2
-    nodes-broken-requires
-    returns-3)
+    (λ c. search needs)
+    returns-4)

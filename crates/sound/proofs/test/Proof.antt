@@ -29,7 +29,7 @@ returns-2 : tie.Need-returns-2
 returns-2 c = unclean-tested _ _ (opens (c .before .before)) (c .before .whole-in .ensures .no (c .if1 .left))
 
 returns-3 : tie.Need-returns-3
-returns-3 c = unopened-tested _ (sym (c .before .before .open .ensures) ∙ c .enum-told .given .1)
+returns-3 c = unopened-tested _ _ (sym (c .before .before .open .ensures) ∙ c .enum-told .given .1)
 
 pub test-spec : {M : Type 1} → statement M
 test-spec =

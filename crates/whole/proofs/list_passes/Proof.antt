@@ -18,7 +18,7 @@ use Rattle.memory.proofs.Chains.{slot-lt}
 use Rattle.once.specs.Once.{isNew}
 use Rattle.once.proofs.Walk.{walk-start}
 use Rattle.nodes.specs.Nodes.{fitsHere}
-use Rattle.whole.proofs.Walk.{Passing, pass-start, pass-held, pass-lent, pass-not, pass-step, pass-end}
+use Rattle.whole.proofs.Walking.{Passing, pass-start, pass-held, pass-lent, pass-not, pass-step, pass-end}
 use Rattle.whole.proofs.list_passes.Statement.{statement}
 use Rattle.whole.proofs.list_passes.Tie as tie
 

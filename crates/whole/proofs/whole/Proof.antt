@@ -1,6 +1,5 @@
 -- `whole::whole` meets its contract. The loop's invariant: the walk stands at the first list of the port. Assumes nothing.
 use mathlib.Core.Path.{_≡_, refl, sym, ap, _∙_}
-use mathlib.Core.Bool.{false≢true}
 use Prim.Native.Nat.{_-_, _*_, _≤_}
 use native.Mathlib.Nat.{mul-le-mul-right}
 use native.Mathlib.Omega.{arith}
@@ -14,16 +13,16 @@ use Rattle.once.specs.Once.{onceFound}
 use Rattle.fits.specs.declared.NodeRule.{NodeRule}
 use Rattle.fits.specs.declared.NodeRule.the-variants.{Record}
 use Rattle.fits.specs.Fits.{fitsFound}
-use Rattle.fits.proofs.Means.{none}
 use Rattle.paid.specs.Paid.{sumsOf, dueFound, paidFound}
 use Rattle.paid.proofs.Passing.{sums-held}
+use Rattle.whole.specs.Whole.{Listed, FitsUpTo}
 use Rattle.whole.specs.Walks.{AtList}
 use Rattle.whole.proofs.Lists.{lists-start, end-fits, end-sums, end-slots, end-once, end-left, payable}
 use Rattle.whole.proofs.whole.Statement.{statement}
 use Rattle.whole.proofs.whole.Tie as tie
 
 abbrev Inv-loop : tie.InvT-loop
-Inv-loop m s marks₀ sums₀ ports met₀ port₀ marks sums met port = AtList (settingsOf s) m marks sums (port * row (settingsOf s)) met
+Inv-loop m s marks₀ sums₀ ports met₀ port₀ marks sums met port = (port ≤ ports) × AtList (settingsOf s) m marks sums (port * row (settingsOf s)) met
 
 abbrev μ-loop : tie.MeasureT-loop
 μ-loop m s marks₀ sums₀ ports met₀ port₀ marks sums met port = ports - port
@@ -56,7 +55,7 @@ kept : (c : tie.At-loop Inv-loop μ-loop)
     → let a = begun c .args in (length (c .loop .marks) ≡ length (a .marks .now)) × (length (c .loop .sums) ≡ length (a .sums .now))
 kept c =
     let b = lists-start (begun c .pre) refl in
-    (c .loop .inv .scan .fits ∙ sym (b .scan .fits), c .loop .inv .held .many ∙ sym (b .held .many))
+    (c .loop .inv .1 .scan .fits ∙ sym (b .scan .fits), c .loop .inv .1 .held .many ∙ sym (b .held .many))
 
 -- no list is left
 past : (c : tie.After-struct-known Inv-loop μ-loop)
@@ -65,15 +64,15 @@ past c = mul-le-mul-right (row (settingsOf (start c .args .s))) (c .before .befo
 
 once-kept : (c : tie.Else2 Inv-loop μ-loop)
     → let a = start (c .before) .args in onceFound (settingsOf (a .s)) (a .m .now) ≡ Whole
-once-kept c = end-once (ended (c .before) .loop .inv) (past (c .before)) (c .if2 .left ∙ start (c .before) .pre .laid .all-are)
+once-kept c = end-once (ended (c .before) .loop .inv .1) (past (c .before)) (c .if2 .left ∙ start (c .before) .pre .laid .all-are)
 
 fits-kept : (c : tie.Else2 Inv-loop μ-loop) (rule : NodeRule)
     → let a = start (c .before) .args in fitsFound rule (settingsOf (a .s)) (a .m .now) ≡ Whole
-fits-kept c = end-fits (ended (c .before) .loop .inv) (past (c .before))
+fits-kept c = end-fits (ended (c .before) .loop .inv .1) (past (c .before))
 
 sums-are : (c : tie.Else2 Inv-loop μ-loop)
     → let a = start (c .before) .args in ended (c .before) .loop .sums ≡ sumsOf (settingsOf (a .s)) (a .m .now)
-sums-are c = end-sums (ended (c .before) .loop .inv) (past (c .before))
+sums-are c = end-sums (ended (c .before) .loop .inv .1) (past (c .before))
 
 -- the sums that were lent are those of the memory
 due : (c : tie.After-first-due Inv-loop μ-loop)
@@ -82,14 +81,22 @@ due c =
     let a = start (told-at c) .args in
     c .first-due .ensures ∙ ap (dueFound (settingsOf (a .s)) (a .m .now)) (sums-are (c .before .before))
 
+-- (d) to (f) find nothing in the lists before
+up-to : (c : tie.At-loop Inv-loop μ-loop) → FitsUpTo (settingsOf (begun c .args .s)) (begun c .args .m .now) (c .loop .port)
+up-to c = record { most = c .loop .inv .0; rest = c .loop .inv .1 .fits }
+
+-- the rules of lists are kept
+listed : (c : tie.Else2 Inv-loop μ-loop) → let a = start (c .before) .args in Listed (settingsOf (a .s)) (a .m .now)
+listed c = record { slots = end-slots (ended (c .before) .loop .inv .1) (past (c .before)); once = once-kept c; fits = fits-kept c }
+
 loop-holds : tie.Need-loop-holds Inv-loop μ-loop
-loop-holds c = lists-start (c .before .before .before .pre) (omega arith)
+loop-holds c = (omega arith, lists-start (c .before .before .before .pre) (omega arith))
 
 port-passes-requires : tie.Need-port-passes-requires Inv-loop μ-loop
 port-passes-requires c κs =
     let at = c .before .before .before .before in
     let p = begun at .pre in
-    record { laid = p .laid; long = p .long; inside = c .before .before .before .loop-test .taken; stands = at .loop .inv }
+    record { laid = p .laid; long = p .long; inside = c .before .before .before .loop-test .taken; stands = at .loop .inv .1 }
 
 same-length : tie.Need-same-length Inv-loop μ-loop
 same-length c = let w = walked (c .before) in w .port-passes .kept .1 .1 .1 .0 ∙ kept (at-port w) .0
@@ -98,10 +105,9 @@ same-length-2 : tie.Need-same-length-2 Inv-loop μ-loop
 same-length-2 c = let w = walked (c .before) in w .port-passes .kept .1 .1 .1 .1 .0 ∙ kept (at-port w) .1
 
 returns : tie.Need-returns Inv-loop μ-loop
-returns c = record {
-  yes = λ e. absurd (false≢true e);
-  no = λ e. walked (c .before) .port-passes .ensures .no (not-true _ (c .if1 .taken));
-}
+returns c =
+    let w = walked (c .before) in
+    (w .port-passes .ensures .no (not-true _ (c .if1 .taken)), up-to (at-port w))
 
 add-port : tie.Need-add-port Inv-loop μ-loop
 add-port c = omega (arith, begun (at-port (walked (c .before))) .pre .laid .roomy)
@@ -110,7 +116,7 @@ loop-less : tie.Need-loop-less Inv-loop μ-loop
 loop-less c = omega arith
 
 loop-again : tie.Need-loop-again Inv-loop μ-loop
-loop-again c = walked (c .before) .port-passes .ensures .yes (not-false _ (c .if1 .left))
+loop-again c = (omega arith, walked (c .before) .port-passes .ensures .yes (not-false _ (c .if1 .left)))
 
 same-length-3 : tie.Need-same-length-3 Inv-loop μ-loop
 same-length-3 c = kept (ended (c .before)) .0
@@ -121,10 +127,8 @@ same-length-4 c = kept (ended (c .before)) .1
 returns-2 : tie.Need-returns-2 Inv-loop μ-loop
 returns-2 c =
     let all-are = start (c .before) .pre .laid .all-are in
-    record {
-      yes = λ e. absurd (false≢true e);
-      no = λ e. end-left (ended (c .before) .loop .inv) (past (c .before)) (λ d. c .if2 .taken (d ∙ sym all-are));
-    }
+    let e = ended (c .before) in
+    (end-left (e .loop .inv .1) (past (c .before)) (λ d. c .if2 .taken (d ∙ sym all-are)), up-to e)
 
 first-due-requires : tie.Need-first-due-requires Inv-loop μ-loop
 first-due-requires c κs =
@@ -136,23 +140,20 @@ first-due-requires c κs =
       held = rw (sums-are e) (sums-held _ _ (payable _ _ (p .long) (once-kept e) (fits-kept e Record)) (p .laid .roomy));
     }
 
-enum-told : tie.Need-enum-told Inv-loop μ-loop
-enum-told c = search needs
+enum-known-c : tie.Need-enum-known-c Inv-loop μ-loop
+enum-known-c c = search needs
 
 same-length-5 : tie.Need-same-length-5 Inv-loop μ-loop
-same-length-5 c = kept (ended (told-at (c .before .before))) .0
+same-length-5 c = kept (ended (told-at (c .before .before .before))) .0
 
 same-length-6 : tie.Need-same-length-6 Inv-loop μ-loop
-same-length-6 c = kept (ended (told-at (c .before .before))) .1
+same-length-6 c = kept (ended (told-at (c .before .before .before))) .1
 
 returns-3 : tie.Need-returns-3 Inv-loop μ-loop
-returns-3 c = record {
-  yes = λ r. absurd (false≢true r);
-  no = λ r k. none _ (sym (c .enum-told .given .1) ∙ due (c .before .before) ∙ k .paid);
-}
+returns-3 c = let w = c .before .before .before in (listed (w .before .before), sym (due w) ∙ c .before .c .given .1)
 
-enum-told-2 : tie.Need-enum-told-2 Inv-loop μ-loop
-enum-told-2 c = search needs
+enum-told : tie.Need-enum-told Inv-loop μ-loop
+enum-told c = search needs
 
 same-length-7 : tie.Need-same-length-7 Inv-loop μ-loop
 same-length-7 c = kept (ended (told-at (c .before .before))) .0
@@ -161,18 +162,7 @@ same-length-8 : tie.Need-same-length-8 Inv-loop μ-loop
 same-length-8 c = kept (ended (told-at (c .before .before))) .1
 
 returns-4 : tie.Need-returns-4 Inv-loop μ-loop
-returns-4 c =
-    let w = c .before .before in
-    let e = w .before .before in
-    record {
-      yes = λ r. record {
-        slots = end-slots (ended (e .before) .loop .inv) (past (e .before));
-        once = once-kept e;
-        fits = fits-kept e;
-        paid = sym (due w) ∙ c .enum-told2 .given .1;
-      };
-      no = λ r. absurd (false≢true (sym r));
-    }
+returns-4 c = let w = c .before .before in (listed (w .before .before), sym (due w) ∙ c .enum-told .given .1)
 
 pub whole-spec : {M : Type 1} → statement M
 whole-spec =
@@ -192,11 +182,11 @@ whole-spec =
     same-length-4
     returns-2
     first-due-requires
-    enum-told
+    enum-known-c
     same-length-5
     same-length-6
     returns-3
-    enum-told-2
+    enum-told
     same-length-7
     same-length-8
     returns-4)

@@ -1,0 +1,3 @@
+pub mod Rooms
+pub mod Blocks
+pub mod Walks

@@ -1,0 +1,3 @@
+pub mod Items
+pub mod Shows
+pub mod Findings

@@ -1,0 +1,114 @@
+-- Paper 02, Q-11: demand 3, the order of queues, the pools and what is recorded, said of all that is done on a memory: calls, rounds,
+-- audits and findings, setting up anew and repairs excepted. And "After repair demand 3 counts afresh, as after setup". Assumes nothing.
+use mathlib.Core.Path.{_≡_}
+use mathlib.Core.Bool.{true}
+use mathlib.Core.List.{List, [], _∷_, _++_}
+use Prim.Native.Nat.{ℕ, _+_, _-_, _*_, _≤_, _<_}
+use lib.ListN.{length, getD, take, drop}
+use Rattle.ledger.specs.Settings.{Settings}
+use Rattle.ledger.specs.Ledger.{Packet, Place, mapped, Ledger, start}
+use Rattle.ledger.specs.Calls.{turn, done, leaves, sideOf}
+use Rattle.ledger.specs.Desk.{has, setup, act, SetupsRefused}
+use Rattle.ledger.specs.Demand.{Stands, InHand, turnsIn, ShowsWaiting, LeavesAmong}
+use Rattle.ledger.specs.Order.{KeepsOrder, GoesAlong}
+use Rattle.ledger.specs.Night.{PoolKept}
+use Rattle.ledger.specs.Rounds.{answerBytes}
+use Rattle.ledger.specs.Door.{atCall}
+use Rattle.ledger.specs.Repair.{restart}
+use Rattle.ledger.proofs.Places.{Place·In}
+use Rattle.layout.specs.Picture.{settingsIn, opens, ledgerIn}
+use Rattle.memory.specs.Memory.{picture, M}
+use Rattle.memory.specs.Demands.{onMemory}
+use Rattle.memory.specs.Repair.{repaired}
+use Rattle.memory.specs.Rounds.{roundOn, LentDeed, lent-call, lent-round, lent-audit, lent-find, lent-repair, afterDeeds}
+use Rattle.memory.specs.Rounds.{callsBy, callsIn, RepairsRefused}
+
+-- "any calls but setup and repair": every setup among the deeds is refused, and every repair
+pub record Undisturbed (m : List ℕ) (ds : List LentDeed) : Type 0 where
+  pub setups : SetupsRefused onMemory m (callsIn m ds)
+  pub repairs : RepairsRefused m ds
+
+-- on a switch state every repair stands; so there it says that none is among the deeds
+unfoldable pub RepairStands : Type 0
+RepairStands = (m : List ℕ) (S : Settings) (L : Ledger) → picture m ≡ has S L → repaired m .0 ≡ done
+
+-- ---- between deeds
+
+-- the memory that deed number i finds
+abbrev pub foundBy : List ℕ → List LentDeed → ℕ → List ℕ
+foundBy m ds i = afterDeeds m (take i ds)
+
+-- it is the one between two of the calls that the deeds are; so what is said of every moment among calls is said of what deeds find
+unfoldable pub FoundAmongCalls : Type 0
+FoundAmongCalls =
+    (m : List ℕ) (ds : List LentDeed) → RepairsRefused m ds
+    → (i : ℕ) → foundBy m ds i ≡ atCall onMemory picture m (callsIn m ds) (length (callsIn m (take i ds)))
+
+-- ---- demand 3
+
+-- what tells the caller that packet k left port p by queue q: the answer of a turn, or four bytes of a round's room
+abbrev pub Told : ℕ → ℕ → Packet → List ℕ → LentDeed → Type 0
+Told p q k m (lent-call c) = (c ≡ act (turn p)) × (M c m .0 ≡ leaves k (sideOf q))
+Told p q k m (lent-round room) = take 4 (drop (4 * p) (roundOn m room .2)) ≡ answerBytes (leaves k (sideOf q))
+Told p q k m (lent-audit room) = ⊥
+Told p q k m lent-find = ⊥
+Told p q k m lent-repair = ⊥
+
+-- among the deeds there is one in which packet k leaves port p by queue q, at a call before which the port had fewer than n turns, those of
+-- the deeds before it counted; its caller is told; and every deed up to then finds a memory that shows k in its prefetch list
+pub record LeavesInDeeds (S : Settings) (p q : ℕ) (k : Packet) (n : ℕ) (m : List ℕ) (ds : List LentDeed) : Type 0 where
+  pub deed : ℕ
+  pub among : deed < length ds
+  pub in-it : LeavesAmong onMemory picture S p q k (n - turnsIn p (callsIn m (take deed ds))) (foundBy m ds deed)
+      (callsBy (foundBy m ds deed) (getD ds deed lent-find))
+  pub told : Told p q k (foundBy m ds deed) (getD ds deed lent-find)
+  pub until-then : (i : ℕ) → i ≤ deed → ShowsWaiting picture S p q k (foundBy m ds i)
+
+-- by turn queues × (length ahead + 1) of its port, those of rounds counted
+abbrev pub NobodyStarvesInDeeds : Settings → Ledger → List ℕ → Type 0
+NobodyStarvesInDeeds S L m =
+    (p q : ℕ) → p < S .ports → q < S .queues
+    → (ahead : List Packet) (k : Packet) → Stands S p q k ahead L
+    → InHand S L p q (ahead ++ (k ∷ []))
+    → (ds : List LentDeed) → Undisturbed m ds
+    → S .queues * (length ahead + 1) ≤ turnsIn p (callsIn m ds)
+    → LeavesInDeeds S p q k (S .queues * (length ahead + 1)) m ds
+
+-- ---- the order of queues, the pools, and what is recorded: the ledger after the calls is the one that the memory after the deeds shows
+
+abbrev pub KeepsOrderInDeeds : Settings → Ledger → Place → List ℕ → List LentDeed → Type 0
+KeepsOrderInDeeds S L u m ds = (o : KeepsOrder onMemory picture S L u m (callsIn m ds)) × (picture (afterDeeds m ds) ≡ has S (o .ledger))
+
+abbrev pub PoolKeptInDeeds : Settings → Ledger → ℕ → List ℕ → List LentDeed → Type 0
+PoolKeptInDeeds S L p m ds = (o : PoolKept onMemory picture S L p m (callsIn m ds)) × (picture (afterDeeds m ds) ≡ has S (o .ledger))
+
+abbrev pub GoesAlongInDeeds : Settings → Ledger → List ℕ → List LentDeed → Type 0
+GoesAlongInDeeds S L m ds = (o : GoesAlong onMemory picture S L m (callsIn m ds)) × (picture (afterDeeds m ds) ≡ has S (o .ledger))
+
+-- ---- all of it
+
+-- from memory m on, which shows the ledger L
+pub record FromHereOn (S : Settings) (L : Ledger) (m : List ℕ) : Type 0 where
+  pub shown : picture m ≡ has S L
+  pub nobody-starves : NobodyStarvesInDeeds S L m
+  pub order : (u : Place) → Place·In S u → (ds : List LentDeed) → Undisturbed m ds → KeepsOrderInDeeds S L u m ds
+  pub pools : (p : ℕ) → p < S .ports → (ds : List LentDeed) → Undisturbed m ds → PoolKeptInDeeds S L p m ds
+  pub records : (ds : List LentDeed) → Undisturbed m ds → GoesAlongInDeeds S L m ds
+
+-- and from every later moment on
+pub record CountsAfresh (S : Settings) (L : Ledger) (m : List ℕ) : Type 0 where
+  pub now : FromHereOn S L m
+  pub later : (ds : List LentDeed) → Undisturbed m ds → (N : Ledger) × FromHereOn S N (afterDeeds m ds)
+
+-- on any memory that is a switch state
+unfoldable pub HoldsInDeeds : Type 0
+HoldsInDeeds = (m : List ℕ) (S : Settings) (L : Ledger) → picture m ≡ has S L → CountsAfresh S L m
+
+-- "After repair demand 3 counts afresh, as after setup"
+unfoldable pub AfreshAfterRepair : Type 0
+AfreshAfterRepair =
+    (m : List ℕ) → opens m ≡ true
+    → CountsAfresh (settingsIn m) (restart (settingsIn m) (ledgerIn (settingsIn m) m .numbers mapped)) (repaired m .1)
+
+unfoldable pub AfreshAfterSetup : Type 0
+AfreshAfterSetup = (m : List ℕ) (T : Settings) → M (setup T) m .0 ≡ done → CountsAfresh T (start T) (M (setup T) m .1)
