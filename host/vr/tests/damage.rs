@@ -115,7 +115,6 @@ fn damaged_states() {
     }
     // Every rule is met, and the damage that hits what nothing reads.
     assert_eq!(rules.len(), 8, "{rules:?}");
-    println!("{rules:?}");
     assert!(rules.values().all(|&times| times > 20), "{rules:?}");
 }
 
