@@ -1,0 +1,169 @@
+//! The command line.
+
+use std::ffi::{OsStr, OsString};
+use std::path::PathBuf;
+
+use crate::trouble::Trouble;
+
+pub const USAGE: &str = "\
+vr: images of a switch's state, explained, shown and repaired
+
+    vr explain IMAGE         says that it is a sound state, or the first rule broken and what shows it
+    vr dump IMAGE [--json]   shows settings, map, credits and every list with its packets
+    vr repair IMAGE -o NEW   writes NEW: IMAGE with the starting state of its settings, the map kept
+    vr help                  says this
+
+IMAGE is a file of a state's bytes (docs/LAYOUT.md), and is never written. NEW must not be there yet:
+vr overwrites nothing. Bytes of IMAGE past the state go to NEW as they are. A repair drops every packet
+and all outward credit, also of a sound state; it is refused where a setting is not in its row or the
+image is too short, and then NEW is not made.
+
+Exit status: 0 a sound state, or repaired; 1 a broken state, or repair refused; 2 it could not be done
+(a wrong command, a file that cannot be read or written), with the reason on standard error.
+";
+
+/// What is to be done.
+#[derive(Debug, PartialEq, Eq)]
+pub enum Command {
+    Help,
+    Explain { image: PathBuf },
+    Dump { image: PathBuf, json: bool },
+    Repair { image: PathBuf, new: PathBuf },
+}
+
+/// The words behind a command.
+#[derive(Default)]
+struct Rest {
+    image: Option<PathBuf>,
+    json: bool,
+    new: Option<PathBuf>,
+}
+
+/// What a command line asks for.
+pub fn command(words: impl Iterator<Item = OsString>) -> Result<Command, Trouble> {
+    let mut words = words;
+    let name = words.next().ok_or_else(|| bad("no command".into()))?;
+    match name.to_str() {
+        Some("help" | "--help" | "-h") => Ok(Command::Help),
+        Some("explain") => {
+            let image = named(rest(words, &[])?.image)?;
+            Ok(Command::Explain { image })
+        }
+        Some("dump") => {
+            let rest = rest(words, &["--json"])?;
+            let (image, json) = (named(rest.image)?, rest.json);
+            Ok(Command::Dump { image, json })
+        }
+        Some("repair") => {
+            let rest = rest(words, &["-o"])?;
+            let image = named(rest.image)?;
+            let new = rest.new.ok_or_else(|| bad("repair needs -o NEW".into()))?;
+            Ok(Command::Repair { image, new })
+        }
+        _ => Err(bad(format!("{} is no command", quoted(&name)))),
+    }
+}
+
+/// The words behind a command that takes these options.
+fn rest(words: impl Iterator<Item = OsString>, options: &[&str]) -> Result<Rest, Trouble> {
+    let mut words = words;
+    let mut rest = Rest::default();
+    while let Some(word) = words.next() {
+        let taken = |option: &&str| options.contains(option);
+        match word.to_str().filter(taken) {
+            Some("--json") => rest.json = true,
+            Some(_) => rest.put_new(words.next())?,
+            None => rest.put_image(word)?,
+        }
+    }
+    Ok(rest)
+}
+
+impl Rest {
+    fn put_new(&mut self, name: Option<OsString>) -> Result<(), Trouble> {
+        let name = name.filter(|name| !name.is_empty());
+        let name = name.ok_or_else(|| bad("-o needs a name behind it".into()))?;
+        match self.new.replace(name.into()) {
+            Some(_) => Err(bad("-o is there twice".into())),
+            None => Ok(()),
+        }
+    }
+
+    fn put_image(&mut self, word: OsString) -> Result<(), Trouble> {
+        let option = word.to_string_lossy().starts_with('-');
+        match &self.image {
+            _ if option => Err(bad(format!("{} is no option here", quoted(&word)))),
+            Some(_) => Err(bad(format!("{} is one name too many", quoted(&word)))),
+            None => {
+                self.image = Some(word.into());
+                Ok(())
+            }
+        }
+    }
+}
+
+fn named(image: Option<PathBuf>) -> Result<PathBuf, Trouble> {
+    image.ok_or_else(|| bad("no image is named".into()))
+}
+
+fn quoted(word: &OsStr) -> String {
+    format!("`{}`", word.to_string_lossy())
+}
+
+/// A wrong command line.
+fn bad(what: String) -> Trouble {
+    Trouble(format!("{what} (`vr help` tells the commands)"))
+}
+
+#[cfg(test)]
+mod tests {
+    use super::*;
+
+    fn told(line: &str) -> Result<Command, String> {
+        let words = line.split_whitespace().map(OsString::from);
+        command(words).map_err(|trouble| trouble.to_string())
+    }
+
+    #[test]
+    fn commands_are_read() {
+        let image = || PathBuf::from("i");
+        let explain = Command::Explain { image: image() };
+        assert_eq!(told("explain i"), Ok(explain));
+        for (line, json) in [
+            ("dump i", false),
+            ("dump i --json", true),
+            ("dump --json i", true),
+        ] {
+            let image = image();
+            assert_eq!(told(line), Ok(Command::Dump { image, json }));
+        }
+        for line in ["repair i -o n", "repair -o n i"] {
+            let (image, new) = (image(), PathBuf::from("n"));
+            assert_eq!(told(line), Ok(Command::Repair { image, new }));
+        }
+        for line in ["help", "--help", "-h"] {
+            assert_eq!(told(line), Ok(Command::Help));
+        }
+    }
+
+    #[test]
+    fn wrong_lines_are_told_apart() {
+        for (line, what) in [
+            ("", "no command"),
+            ("mend i", "`mend` is no command"),
+            ("explain", "no image is named"),
+            ("explain i j", "`j` is one name too many"),
+            ("explain i --json", "`--json` is no option here"),
+            ("dump -x", "`-x` is no option here"),
+            ("dump i -o n", "`-o` is no option here"),
+            ("repair i", "repair needs -o NEW"),
+            ("repair -o n", "no image is named"),
+            ("repair i -o", "-o needs a name behind it"),
+            ("repair i -o n -o n", "-o is there twice"),
+            ("repair i n", "`n` is one name too many"),
+        ] {
+            let wanted = format!("{what} (`vr help` tells the commands)");
+            assert_eq!(told(line), Err(wanted));
+        }
+    }
+}

@@ -1,0 +1,92 @@
+//! `vr`, the night crew's tool over images of a switch's state. What an image
+//! is worth is said by the proved library; what it holds, in words, tables and
+//! JSON, by a reader of this crate's own, written from docs/LAYOUT.md.
+
+#![forbid(unsafe_code)]
+
+pub mod args;
+mod files;
+pub mod image;
+pub mod json;
+pub mod layout;
+pub mod lists;
+mod mend;
+pub mod table;
+mod trouble;
+pub mod view;
+pub mod words;
+
+use std::ffi::OsString;
+use std::path::Path;
+
+use args::Command;
+use files::Start;
+use image::Image;
+pub use trouble::Trouble;
+use view::View;
+
+/// What is said of a repair that the library refuses.
+const REFUSED: &str = "repair refused (3): it needs settings in their rows and an image long enough for them; nothing was written";
+
+/// What a command says on standard output, and its exit status.
+#[derive(Debug, PartialEq, Eq)]
+pub struct Answer {
+    pub text: String,
+    pub status: u8,
+}
+
+/// Do what a command line asks for.
+pub fn answer(words: impl Iterator<Item = OsString>) -> Result<Answer, Trouble> {
+    match args::command(words)? {
+        Command::Help => Ok(Answer {
+            text: args::USAGE.into(),
+            status: 0,
+        }),
+        Command::Explain { image } => Ok(explain(&view(&files::read(&image)?))),
+        Command::Dump { image, json } => Ok(dump(&view(&files::read(&image)?), json)),
+        Command::Repair { image, new } => repair(&image, &new),
+    }
+}
+
+fn view(start: &Start) -> View<'_> {
+    View::new(&start.bytes, start.there, ventorupo::find(&start.bytes))
+}
+
+/// The first line says it; the second, of a broken state, which rule that is.
+pub fn explain(view: &View) -> Answer {
+    let mut text = format!("{}\n", view.top());
+    if let Some(finding) = view.finding {
+        let (letter, asks) = (finding.rule.letter(), words::asks(finding.rule));
+        text += &format!("rule ({letter}): {asks}; item {}\n", finding.item);
+    }
+    let status = view.status();
+    Answer { text, status }
+}
+
+fn dump(view: &View, json: bool) -> Answer {
+    let text = if json {
+        json::json(view)
+    } else {
+        table::table(view)
+    };
+    let status = view.status();
+    Answer { text, status }
+}
+
+fn repair(path: &Path, new: &Path) -> Result<Answer, Trouble> {
+    let mut start = files::read(path)?;
+    let before = start.bytes.clone();
+    let was = View::new(&before, start.there, ventorupo::find(&before));
+    if ventorupo::repair(&mut start.bytes).is_err() {
+        let text = format!("{}\n{REFUSED}\n", was.top());
+        return Ok(Answer { text, status: 1 });
+    }
+    let mut text = mend::told(&was, &Image::new(&start.bytes));
+    start.write(new)?;
+    text += &format!(
+        "written: {}; {} is as it was\n",
+        new.display(),
+        path.display()
+    );
+    Ok(Answer { text, status: 0 })
+}

@@ -1,0 +1,35 @@
+//! `vr`: see `vr help`.
+
+use std::env;
+use std::io::{self, ErrorKind, Write};
+use std::process::ExitCode;
+
+use vr::{Answer, Trouble};
+
+/// It could not be done.
+const TROUBLE: u8 = 2;
+
+fn main() -> ExitCode {
+    let said = vr::answer(env::args_os().skip(1)).and_then(say);
+    ExitCode::from(said.unwrap_or_else(complain))
+}
+
+/// Write the answer. A reader that has gone away has read what it wanted.
+fn say(answer: Answer) -> Result<u8, Trouble> {
+    let mut out = io::stdout();
+    let written = out
+        .write_all(answer.text.as_bytes())
+        .and_then(|()| out.flush());
+    match written {
+        Err(why) if why.kind() != ErrorKind::BrokenPipe => {
+            Err(Trouble(format!("standard output: {why}")))
+        }
+        _ => Ok(answer.status),
+    }
+}
+
+/// Say why on standard error; where that is closed too, the status says it alone.
+fn complain(trouble: Trouble) -> u8 {
+    let _ = writeln!(io::stderr(), "vr: {trouble}");
+    TROUBLE
+}

@@ -1,0 +1,68 @@
+//! What a repair keeps and drops, told.
+
+use crate::image::{Image, Kind};
+use crate::layout::{Table, IDS};
+use crate::lists::Walk;
+use crate::view::{number, View};
+
+/// What is told of a repair: the image as it was, and as it is now.
+pub fn told(before: &View, after: &Image) -> String {
+    let was = match before.found() {
+        Some(found) => format!("was: {found}"),
+        None => "was: a sound state; a repair empties that too".into(),
+    };
+    let mut lines = vec![was, format!("kept: {}", before.settings())];
+    lines.push(format!("kept: map {}", map(after)));
+    lines.extend((0..IDS).filter_map(|id| map_entry(&before.image, after, id)));
+    let past = before.there.saturating_sub(after.shape.size() as u64);
+    if past > 0 {
+        lines.push(format!("kept: {past} bytes past the state"));
+    }
+    lines.push(packets(before));
+    lines.push(outward(&before.image));
+    lines.push("as after setup: free lists, arrival credits, last served queues".into());
+    lines.join("\n") + "\n"
+}
+
+fn map(image: &Image) -> String {
+    let entry = |id| format!("{id} to port {}", number(image.get(Table::Mapped, id)));
+    let entries: Vec<String> = (0..IDS).map(entry).collect();
+    entries.join(", ")
+}
+
+/// A map entry that could not be kept.
+fn map_entry(before: &Image, after: &Image, id: usize) -> Option<String> {
+    let (was, is) = (
+        before.get(Table::Mapped, id)?,
+        after.get(Table::Mapped, id)?,
+    );
+    let ports = after.shape.ports;
+    let changed = was != is;
+    changed.then(|| format!("dropped: map entry {id}, whose port {was} is none of {ports}"))
+}
+
+fn packets(before: &View) -> String {
+    let of = |kind: Kind| {
+        let count = |walk: &Walk| (walk.list.kind == kind).then_some(walk.nodes.len());
+        before.lists.walks.iter().filter_map(count).sum::<usize>()
+    };
+    let [ingress, egress, prefetch] = [Kind::Ingress, Kind::Egress, Kind::Prefetch].map(of);
+    let all = ingress + egress + prefetch;
+    let stuck = |walk: &&Walk| walk.flaw.map_or(false, |flaw| flaw.stops());
+    let more = match before.lists.walks.iter().filter(stuck).count() {
+        0 => String::new(),
+        1 => ", and what could not be read in 1 list".into(),
+        lists => format!(", and what could not be read in {lists} lists"),
+    };
+    format!(
+        "dropped: packets {all} (ingress {ingress}, egress {egress}, prefetch {prefetch}){more}"
+    )
+}
+
+fn outward(before: &Image) -> String {
+    let cells = 0..before.shape.cells();
+    let credits = cells.filter_map(|cell| before.get(Table::Outward, cell));
+    let some: Vec<u32> = credits.filter(|&credit| credit > 0).collect();
+    let beats: u64 = some.iter().map(|&credit| u64::from(credit)).sum();
+    format!("dropped: outward credit {beats} (of {} queues)", some.len())
+}

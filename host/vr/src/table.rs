@@ -1,0 +1,225 @@
+//! An image as a table that a person can read.
+
+use crate::image::{Entry, Image, Kind};
+use crate::layout::{Table, IDS};
+use crate::lists::Walk;
+use crate::view::{number, View};
+
+/// A line of entry ids gets no longer than about this.
+const WIDE: usize = 96;
+
+pub fn table(view: &View) -> String {
+    let mut text = format!("{}\n\n", view.top());
+    text += &format!("settings: {}\n", view.settings());
+    text += &format!("bytes: {} there, {} needed\n\n", view.there, needed(view));
+    text += &map(&view.image);
+    for section in [served(&view.image), credits(&view.image), lists(view)] {
+        text += &section;
+    }
+    if let Some(why) = view.stops() {
+        text += &format!("\nreading stops: {why}\n");
+    }
+    text
+}
+
+fn needed(view: &View) -> String {
+    let bytes = view.image.needed();
+    bytes.map_or_else(|| "-".into(), |bytes| bytes.to_string())
+}
+
+/// Rows of cells, each column as wide as its widest cell.
+fn columns(indent: &str, rows: &[Vec<String>]) -> String {
+    let columns = rows.iter().map(Vec::len).max().unwrap_or(0);
+    let width = |c: usize| {
+        rows.iter()
+            .filter_map(|row| row.get(c))
+            .map(String::len)
+            .max()
+    };
+    let widths: Vec<usize> = (0..columns).map(|c| width(c).unwrap_or(0)).collect();
+    let cell = |(cell, &width): (&String, &usize)| format!("{cell:>width$}");
+    let line = |row: &Vec<String>| -> String {
+        let cells: Vec<String> = row.iter().zip(&widths).map(cell).collect();
+        format!("{indent}{}\n", cells.join("  "))
+    };
+    rows.iter().map(line).collect()
+}
+
+/// A row: its name, then its cells.
+fn row(name: &str, cells: impl Iterator<Item = String>) -> Vec<String> {
+    std::iter::once(name.to_string()).chain(cells).collect()
+}
+
+fn map(image: &Image) -> String {
+    let ids = row("destination id", (0..IDS).map(|id| id.to_string()));
+    let port = |id| number(image.get(Table::Mapped, id));
+    columns("", &[ids, row("port", (0..IDS).map(port))])
+}
+
+fn served(image: &Image) -> String {
+    let ports = image.shape.ports;
+    if ports == 0 {
+        return String::new();
+    }
+    let names = row("port", (0..ports).map(|port| port.to_string()));
+    let last = |port| number(image.get(Table::Last, port));
+    let served = row("last served queue", (0..ports).map(last));
+    format!("\n{}", columns("", &[names, served]))
+}
+
+fn credits(image: &Image) -> String {
+    let ports = image.shape.ports;
+    if ports == 0 {
+        return String::new();
+    }
+    let twice = |port: usize| [port; 2].map(|port| format!("port {port}"));
+    let kinds = |_| ["arrival", "outward"].map(String::from);
+    let mut rows = vec![
+        row("credit", (0..ports).flat_map(twice)),
+        row("queue", (0..ports).flat_map(kinds)),
+    ];
+    for queue in 1..image.shape.queues {
+        let both = |port| {
+            [Table::Arrival, Table::Outward].map(|table| number(image.credit(table, port, queue)))
+        };
+        rows.push(row(&queue.to_string(), (0..ports).flat_map(both)));
+    }
+    format!("\n{}", columns("", &rows))
+}
+
+fn lists(view: &View) -> String {
+    let mut text = String::new();
+    for port in 0..view.image.shape.ports {
+        text += &port_lists(view, port);
+    }
+    let nowhere = view.lists.nowhere(&view.image);
+    if !nowhere.is_empty() {
+        text += &format!(
+            "\nin no list that was read, by entry id:\n{}",
+            runs("  ", &nowhere)
+        );
+    }
+    text
+}
+
+fn port_lists(view: &View, port: usize) -> String {
+    let all = view.lists.walks.iter();
+    let walks: Vec<&Walk> = all.filter(|walk| walk.list.port == port).collect();
+    if walks.is_empty() {
+        return String::new();
+    }
+    let counted = |count| walks.iter().filter(|walk| walk.count == count).count();
+    let (empty, cut) = (counted(Some(0)), counted(None));
+    let mut text = format!("\nport {port}\n");
+    for walk in &walks {
+        if walk.count.unwrap_or(0) > 0 {
+            text += &list(&view.image, walk);
+        }
+    }
+    text += &format!("  empty lists: {empty}\n");
+    if cut > 0 {
+        text += &format!("  lists cut off: {cut}\n");
+    }
+    text
+}
+
+fn list(image: &Image, walk: &Walk) -> String {
+    let queue = walk
+        .list
+        .queue
+        .map_or_else(String::new, |queue| format!(", queue {queue}"));
+    let mut text = format!("  {}{queue}: {}\n", walk.list.kind.name(), how_many(walk));
+    text += &match walk.list.kind {
+        Kind::Free => runs("    ", &walk.nodes),
+        _ => packets(image, walk),
+    };
+    if let Some(flaw) = walk.flaw {
+        let what = flaw.words(image, walk.list);
+        let start = if flaw.stops() { "reading stops: " } else { "" };
+        text += &format!("    {start}{what}\n");
+    }
+    text
+}
+
+/// How many nodes a list has, and how many were read if these are not all.
+fn how_many(walk: &Walk) -> String {
+    let read = walk.nodes.len();
+    match walk.count.unwrap_or(0) as usize {
+        1 if read == 1 => "1 node".into(),
+        count if count == read => format!("{count} nodes"),
+        count => format!("{count} by its count, {read} read"),
+    }
+}
+
+/// A line for each packet, below a line of names.
+fn packets(image: &Image, walk: &Walk) -> String {
+    let names = [
+        "position",
+        "entry id",
+        "owner",
+        "node",
+        "length",
+        "queue",
+        "destination id",
+        "timestamp",
+        "poisoned",
+        "transaction id",
+        "price",
+    ];
+    if walk.nodes.is_empty() {
+        return String::new();
+    }
+    let mut rows = vec![names.map(String::from).to_vec()];
+    for (position, &entry) in walk.nodes.iter().enumerate() {
+        rows.push(packet(image, position, entry));
+    }
+    columns("    ", &rows)
+}
+
+fn packet(image: &Image, position: usize, entry: Entry) -> Vec<String> {
+    let whose = [position, entry.0 as usize, entry.port(), entry.index()];
+    let slot = image.slot(entry).unwrap_or(usize::MAX);
+    let record = image.record(slot);
+    let fields = [
+        record.length,
+        record.queue,
+        record.destination,
+        record.timestamp,
+        record.poisoned,
+        record.transaction,
+        record.price,
+    ];
+    let whose = whose.iter().map(usize::to_string);
+    whose.chain(fields.map(number)).collect()
+}
+
+/// Entry ids in their order, those that count up joined, over as many lines as needed.
+fn runs(indent: &str, nodes: &[Entry]) -> String {
+    let mut runs: Vec<(u32, u32)> = Vec::new();
+    for &Entry(id) in nodes {
+        match runs.last_mut() {
+            Some((_, last)) if *last + 1 == id => *last = id,
+            _ => runs.push((id, id)),
+        }
+    }
+    let mut lines = vec![String::new()];
+    for (i, &(first, last)) in runs.iter().enumerate() {
+        push_run(&mut lines, first, last, i + 1 == runs.len());
+    }
+    let shown = lines.iter().filter(|line| !line.is_empty());
+    shown.map(|line| format!("{indent}{line}\n")).collect()
+}
+
+fn push_run(lines: &mut Vec<String>, first: u32, last: u32, ends: bool) {
+    let run = match last - first {
+        0 => first.to_string(),
+        1 => format!("{first}, {last}"),
+        _ => format!("{first} to {last}"),
+    };
+    let comma = if ends { "" } else { "," };
+    match lines.last_mut() {
+        Some(line) if line.is_empty() => *line = run + comma,
+        Some(line) if line.len() + run.len() < WIDE => *line += &format!(" {run}{comma}"),
+        _ => lines.push(run + comma),
+    }
+}

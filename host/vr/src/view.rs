@@ -1,0 +1,76 @@
+//! An image with all that vr knows of it.
+
+use crate::image::Image;
+use crate::layout::{NODES, PORTS, QUEUES, ROWS, SETTINGS_BYTES};
+use crate::lists::Lists;
+use crate::words;
+
+use ventorupo::Finding;
+
+pub struct View<'m> {
+    pub image: Image<'m>,
+    /// Bytes of the whole file.
+    pub there: u64,
+    pub finding: Option<Finding>,
+    pub lists: Lists,
+}
+
+impl<'m> View<'m> {
+    /// Of bytes in which the library found this.
+    pub fn new(bytes: &'m [u8], there: u64, finding: Option<Finding>) -> View<'m> {
+        let image = Image::new(bytes);
+        View {
+            image,
+            there,
+            finding,
+            lists: Lists::walk(&image),
+        }
+    }
+
+    /// What was found, in words; none of a sound state.
+    pub fn found(&self) -> Option<String> {
+        let words = |finding| words::words(&self.image, &self.lists, finding);
+        self.finding.map(words)
+    }
+
+    /// Sound, or what was found: the line on top.
+    pub fn top(&self) -> String {
+        self.found().unwrap_or_else(|| "a sound state".into())
+    }
+
+    /// Exit status: 0 of a sound state, 1 of a broken one.
+    pub fn status(&self) -> u8 {
+        self.finding.is_some().into()
+    }
+
+    /// The settings in one line.
+    pub fn settings(&self) -> String {
+        let said = |i: usize| format!("{} {}", ROWS[i].name, number(self.image.setting(i)));
+        let all: Vec<String> = (0..ROWS.len()).map(said).collect();
+        all.join(", ")
+    }
+
+    /// Why not all tables can be read.
+    pub fn stops(&self) -> Option<String> {
+        let there = self.image.bytes.len();
+        let out = |&i: &usize| self.image.setting_in_row(i).is_none();
+        if there < SETTINGS_BYTES {
+            Some("the image ends within the settings".into())
+        } else if let Some(i) = [PORTS, QUEUES].iter().copied().find(out) {
+            let name = ROWS[i].name;
+            Some(format!(
+                "{name} is not in its row, so nothing behind the map has a known place"
+            ))
+        } else if out(&NODES) {
+            Some("nodes is not in its row, so the lists cannot be followed".into())
+        } else {
+            let needed = self.image.shape.size();
+            (there < needed).then(|| format!("the image ends at byte {there} of {needed}"))
+        }
+    }
+}
+
+/// A number that was read, or a dash.
+pub fn number(read: Option<u32>) -> String {
+    read.map_or_else(|| "-".into(), |number| number.to_string())
+}

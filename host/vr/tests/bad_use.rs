@@ -1,0 +1,186 @@
+//! Bad uses: a clear message on standard error, status 2, never a panic.
+
+mod common;
+
+use std::ffi::{OsStr, OsString};
+use std::fs::{self, File};
+use std::io::Read;
+use std::os::unix::ffi::OsStrExt;
+use std::path::Path;
+use std::process::Stdio;
+
+use common::{command, on, small, switch, vr, Folder, SMALL};
+use ventorupo::Settings;
+
+const HINT: &str = " (`vr help` tells the commands)";
+
+#[test]
+fn wrong_command_lines() {
+    for (line, what) in [
+        ("", "no command"),
+        ("mend image", "`mend` is no command"),
+        ("--json", "`--json` is no command"),
+        ("explain", "no image is named"),
+        ("dump", "no image is named"),
+        ("dump --json", "no image is named"),
+        ("explain one two", "`two` is one name too many"),
+        ("explain one --json", "`--json` is no option here"),
+        ("dump one --jsn", "`--jsn` is no option here"),
+        ("dump one -o two", "`-o` is no option here"),
+        ("repair", "no image is named"),
+        ("repair -o new", "no image is named"),
+        ("repair one", "repair needs -o NEW"),
+        ("repair one two", "`two` is one name too many"),
+        ("repair one -o", "-o needs a name behind it"),
+        ("repair one -o new -o other", "-o is there twice"),
+    ] {
+        let words: Vec<&str> = line.split_whitespace().collect();
+        let said = vr(&words);
+        assert_eq!(said.err, format!("vr: {what}{HINT}\n"), "{line}");
+        assert_eq!((said.status, said.out.as_str()), (Some(2), ""));
+    }
+    let said = vr(&["repair", "one", "-o", ""]);
+    assert_eq!(said.err, format!("vr: -o needs a name behind it{HINT}\n"));
+}
+
+/// Each command on a file that cannot be read.
+fn unreadable(folder: &Folder, file: &Path, why: &str) {
+    let new = folder.path("new");
+    let words: [&[&OsStr]; 4] = [
+        &[OsStr::new("explain")],
+        &[OsStr::new("dump")],
+        &[OsStr::new("dump"), OsStr::new("--json")],
+        &[OsStr::new("repair"), OsStr::new("-o"), new.as_os_str()],
+    ];
+    for words in words {
+        let said = vr(&[words, &[file.as_os_str()]].concat());
+        assert_eq!(said.err, format!("vr: {}: {why}\n", file.display()));
+        assert_eq!((said.status, said.out.as_str()), (Some(2), ""));
+        assert!(!new.exists());
+    }
+}
+
+#[test]
+fn files_that_cannot_be_read() {
+    let folder = Folder::new("bad-files");
+    let missing = folder.path("missing");
+    unreadable(&folder, &missing, "No such file or directory (os error 2)");
+    unreadable(
+        &folder,
+        Path::new(""),
+        "No such file or directory (os error 2)",
+    );
+    let inside = folder.path("inside");
+    fs::create_dir(&inside).unwrap();
+    unreadable(&folder, &inside, "is a directory, not an image");
+    unreadable(&folder, Path::new("/dev/zero"), "is not a regular file");
+    let below = folder.file("file", b"").join("below");
+    unreadable(&folder, &below, "Not a directory (os error 20)");
+}
+
+#[test]
+fn names_that_are_no_text() {
+    let folder = Folder::new("bad-names");
+    let name = OsStr::from_bytes(b"im\xFFage");
+    let file = folder.file(name, &small());
+    assert_eq!(on("explain", &file).out, "a sound state\n");
+    assert_eq!(on("dump", &file).status, Some(0));
+    let new = folder.path(OsStr::from_bytes(b"\xC0new"));
+    let words: [&OsStr; 4] = [
+        "repair".as_ref(),
+        file.as_ref(),
+        "-o".as_ref(),
+        new.as_ref(),
+    ];
+    let said = vr(&words);
+    assert_eq!((said.status, said.err.as_str()), (Some(0), ""));
+    assert!(new.exists());
+    let said = vr(&[OsString::from("dump"), OsStr::from_bytes(b"-\xFF").into()]);
+    assert_eq!(
+        said.err,
+        format!("vr: `-\u{FFFD}` is no option here{HINT}\n")
+    );
+    let said = vr(&[OsStr::from_bytes(b"\xFF")]);
+    assert_eq!(said.err, format!("vr: `\u{FFFD}` is no command{HINT}\n"));
+    assert_eq!(said.status, Some(2));
+}
+
+/// A file of holes behind a state: only its start is read.
+#[test]
+fn huge_files() {
+    let folder = Folder::new("bad-huge");
+    let path = folder.file("image", &small());
+    let file = fs::OpenOptions::new().write(true).open(&path).unwrap();
+    file.set_len(1 << 33).unwrap();
+    assert_eq!(on("explain", &path).out, "a sound state\n");
+    let said = on("dump", &path);
+    assert!(said
+        .out
+        .contains("\nbytes: 8589934592 there, 2092 needed\n"));
+    assert_eq!(said.status, Some(0));
+    let nothing = folder.path("nothing");
+    File::create(&nothing).unwrap().set_len(1 << 33).unwrap();
+    let said = on("explain", &nothing);
+    assert!(said
+        .out
+        .starts_with("(a) setting ports: 0 is not in its row, 4\n"));
+    assert_eq!((said.status, said.err.as_str()), (Some(1), ""));
+}
+
+/// The reader of the output goes away: no panic, and the status is the image's.
+#[test]
+fn an_output_pipe_that_closes() {
+    let folder = Folder::new("bad-pipe");
+    let settings = Settings {
+        nodes: 2048,
+        ..SMALL
+    };
+    let sound = switch(settings).into_memory();
+    let mut broken = sound.clone();
+    broken[16] = 200;
+    for (bytes, status) in [(sound, 0), (broken, 1)] {
+        let file = folder.file("image", &bytes);
+        let mut child = command()
+            .args(["dump", "--json"])
+            .arg(&file)
+            .stdout(Stdio::piped())
+            .stderr(Stdio::piped())
+            .spawn()
+            .unwrap();
+        // A little is read, then the pipe is closed; the rest does not fit into it.
+        let mut some = [0; 10];
+        child.stdout.take().unwrap().read_exact(&mut some).unwrap();
+        let output = child.wait_with_output().unwrap();
+        assert_eq!(output.status.code(), Some(status));
+        assert_eq!(output.stderr, b"");
+    }
+}
+
+/// Standard error closed too: the status says it alone.
+#[test]
+fn an_error_pipe_that_is_closed() {
+    let mut child = command()
+        .arg("mend")
+        .stderr(Stdio::piped())
+        .spawn()
+        .unwrap();
+    drop(child.stderr.take());
+    assert_eq!(child.wait().unwrap().code(), Some(2));
+}
+
+/// An output that takes nothing is told.
+#[test]
+fn an_output_that_is_full() {
+    let full = match fs::OpenOptions::new().write(true).open("/dev/full") {
+        Ok(full) => full,
+        // Not every machine has one.
+        Err(_) => return,
+    };
+    let output = command().arg("help").stdout(full).output().unwrap();
+    assert_eq!(output.status.code(), Some(2));
+    let said = String::from_utf8(output.stderr).unwrap();
+    assert_eq!(
+        said,
+        "vr: standard output: No space left on device (os error 28)\n"
+    );
+}

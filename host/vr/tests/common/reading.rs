@@ -1,0 +1,261 @@
+//! Readers of what a dump says, as JSON and as a table, for the tests alone.
+
+use std::collections::BTreeMap;
+
+/// A value of JSON; vr writes no fractions and no negative numbers.
+#[derive(Debug, Clone, PartialEq, Eq)]
+pub enum Json {
+    Null,
+    Truth(bool),
+    Number(u64),
+    Text(String),
+    Array(Vec<Json>),
+    Object(Vec<(String, Json)>),
+}
+
+impl Json {
+    /// The whole text as one value.
+    pub fn read(text: &str) -> Json {
+        let mut reader = Reader { rest: text };
+        let value = reader.value();
+        assert_eq!(reader.rest.trim(), "");
+        value
+    }
+
+    /// A member of an object.
+    pub fn of(&self, name: &str) -> &Json {
+        let members = match self {
+            Json::Object(members) => members,
+            other => panic!("{name} of {other:?}"),
+        };
+        let mut named = members.iter().filter(|(its, _)| its == name);
+        let (_, value) = named.next().unwrap();
+        assert!(named.next().is_none(), "{name} twice");
+        value
+    }
+
+    pub fn elements(&self) -> &[Json] {
+        match self {
+            Json::Array(elements) => elements,
+            other => panic!("no array: {other:?}"),
+        }
+    }
+
+    pub fn number(&self) -> u64 {
+        match self {
+            Json::Number(number) => *number,
+            other => panic!("no number: {other:?}"),
+        }
+    }
+
+    pub fn text(&self) -> &str {
+        match self {
+            Json::Text(text) => text,
+            other => panic!("no text: {other:?}"),
+        }
+    }
+}
+
+struct Reader<'t> {
+    rest: &'t str,
+}
+
+impl Reader<'_> {
+    /// Go past this if it comes next.
+    fn takes(&mut self, what: &str) -> bool {
+        self.rest = self.rest.trim_start();
+        match self.rest.strip_prefix(what) {
+            Some(rest) => {
+                self.rest = rest;
+                true
+            }
+            None => false,
+        }
+    }
+
+    fn value(&mut self) -> Json {
+        let words = [
+            ("null", Json::Null),
+            ("true", Json::Truth(true)),
+            ("false", Json::Truth(false)),
+        ];
+        for (word, value) in words {
+            if self.takes(word) {
+                return value;
+            }
+        }
+        if self.takes("[") {
+            Json::Array(self.until("]", Reader::value))
+        } else if self.takes("{") {
+            Json::Object(self.until("}", Reader::member))
+        } else if self.takes("\"") {
+            Json::Text(self.text())
+        } else {
+            Json::Number(self.digits())
+        }
+    }
+
+    /// Items with commas between, up to this end.
+    fn until<T>(&mut self, end: &str, item: fn(&mut Self) -> T) -> Vec<T> {
+        let mut items = Vec::new();
+        while !self.takes(end) {
+            assert!(
+                items.is_empty() || self.takes(","),
+                "no comma: {:.20}",
+                self.rest
+            );
+            items.push(item(self));
+        }
+        items
+    }
+
+    fn member(&mut self) -> (String, Json) {
+        assert!(self.takes("\""), "no name: {:.20}", self.rest);
+        let name = self.text();
+        assert!(self.takes(":"), "no colon: {:.20}", self.rest);
+        (name, self.value())
+    }
+
+    /// Up to the quote that ends it; vr writes nothing that must be escaped.
+    fn text(&mut self) -> String {
+        let (text, rest) = self.rest.split_once('"').unwrap();
+        assert!(!text.contains('\\'));
+        self.rest = rest;
+        text.to_string()
+    }
+
+    fn digits(&mut self) -> u64 {
+        let end = self.rest.find(|c: char| !c.is_ascii_digit());
+        let (digits, rest) = self.rest.split_at(end.unwrap_or(self.rest.len()));
+        self.rest = rest;
+        digits.parse().unwrap()
+    }
+}
+
+/// What a dump says of a node: kind 0 to 3, port, queue or 0, position, and
+/// the record in the order of the table, of a node that isn't free.
+#[derive(Debug, Clone, PartialEq, Eq)]
+pub struct Stands {
+    pub kind: u8,
+    pub port: u64,
+    pub queue: u64,
+    pub position: u64,
+    pub record: Vec<u64>,
+}
+
+/// By entry id; a node that is there twice is an error.
+pub type Nodes = BTreeMap<u64, Stands>;
+
+fn put(nodes: &mut Nodes, entry: u64, stands: Stands) {
+    assert_eq!(nodes.insert(entry, stands), None, "{entry} twice");
+}
+
+fn kind_of(name: &str) -> u8 {
+    let names = ["free", "ingress", "egress", "prefetch"];
+    names.iter().position(|&its| its == name).unwrap() as u8
+}
+
+const FIELDS: [&str; 7] = [
+    "length",
+    "queue",
+    "destination_id",
+    "timestamp",
+    "poisoned",
+    "transaction_id",
+    "price",
+];
+
+/// The nodes of a dump in JSON.
+pub fn nodes_of_json(dump: &Json) -> Nodes {
+    let mut nodes = Nodes::new();
+    for list in dump.of("lists").elements() {
+        let kind = kind_of(list.of("kind").text());
+        let queue = match list.of("queue") {
+            Json::Null => 0,
+            queue => queue.number(),
+        };
+        for (position, node) in list.of("nodes").elements().iter().enumerate() {
+            let fields: &[&str] = if kind == 0 { &[] } else { &FIELDS };
+            let stands = Stands {
+                kind,
+                port: list.of("port").number(),
+                queue,
+                position: position as u64,
+                record: fields.iter().map(|name| node.of(name).number()).collect(),
+            };
+            put(&mut nodes, node.of("entry_id").number(), stands);
+        }
+    }
+    nodes
+}
+
+/// The nodes of a dump as a table.
+pub fn nodes_of_table(dump: &str) -> Nodes {
+    let mut nodes = Nodes::new();
+    let mut list = Stands {
+        kind: 0,
+        port: 0,
+        queue: 0,
+        position: 0,
+        record: Vec::new(),
+    };
+    // Behind the credits, from the first port's own line on.
+    let start = dump.find("\nport 0\n").unwrap();
+    for line in dump[start..].lines() {
+        if let Some(row) = line.strip_prefix("    ") {
+            put_row(&mut nodes, &mut list, row);
+        } else if let Some(heading) = line.strip_prefix("  ") {
+            begin(&mut list, heading);
+        } else if let Some(port) = line.strip_prefix("port ") {
+            list.port = port.parse().unwrap();
+        } else {
+            assert_eq!(line, "");
+        }
+    }
+    nodes
+}
+
+/// A list's heading: `egress, queue 5: 2 nodes`.
+fn begin(list: &mut Stands, heading: &str) {
+    let (name, _) = heading.split_once(':').unwrap();
+    if name == "empty lists" {
+        return;
+    }
+    let (kind, queue) = name.split_once(", queue ").unwrap_or((name, "0"));
+    list.kind = kind_of(kind);
+    list.queue = queue.parse().unwrap();
+    list.position = 0;
+}
+
+/// A packet's line, or a line of a free list's entry ids.
+fn put_row(nodes: &mut Nodes, list: &mut Stands, row: &str) {
+    if list.kind > 0 {
+        if row.trim_start().starts_with("position") {
+            return;
+        }
+        let cells: Vec<u64> = row
+            .split_whitespace()
+            .map(|cell| cell.parse().unwrap())
+            .collect();
+        let (position, entry) = (cells[0], cells[1]);
+        assert_eq!((cells[2], cells[3]), (entry / 2048, entry % 2048));
+        let record = cells[4..].to_vec();
+        return put(
+            nodes,
+            entry,
+            Stands {
+                position,
+                record,
+                ..list.clone()
+            },
+        );
+    }
+    for run in row.trim_end_matches(',').split(", ") {
+        let (first, last) = run.split_once(" to ").unwrap_or((run, run));
+        let (first, last): (u64, u64) = (first.parse().unwrap(), last.parse().unwrap());
+        for entry in first..=last {
+            put(nodes, entry, list.clone());
+            list.position += 1;
+        }
+    }
+}

@@ -1,0 +1,301 @@
+//! `vr explain`: an image for each rule and each kind of item, in exact words.
+
+mod common;
+
+use common::{at, changed, on, small, vr, Folder};
+
+/// The rule's line of what is said.
+fn asks(letter: char) -> &'static str {
+    match letter {
+        'a' => "the settings are in their rows and the image is long enough",
+        'b' => "last served queues, map entries and credits are in range and no prefetch list exceeds its slots",
+        'c' => "every node of every port stands once in one list",
+        'd' => "free and ingress lists hold only their own port's nodes",
+        'e' => "a node in an egress or prefetch list has that list's queue",
+        'f' => "every field recorded for a node that isn't free is in range, its price that of queue, length and beat",
+        _ => "for each port and queue above 0, arrival credit and prices outstanding are together the setting credit",
+    }
+}
+
+/// Explain an image; it must say just this, with this item.
+fn says(folder: &Folder, bytes: &[u8], item: u64, words: &str) {
+    let file = folder.file("image", bytes);
+    let said = on("explain", &file);
+    let letter = words.chars().nth(1).unwrap();
+    let rule = format!("rule ({letter}): {}; item {item}", asks(letter));
+    assert_eq!(said.out, format!("{words}\n{rule}\n"));
+    assert_eq!((said.status, said.err.as_str()), (Some(1), ""));
+}
+
+/// A number of a table, two bytes wide.
+fn two(table: usize, element: usize, number: u32) -> (usize, usize, u32) {
+    (table + 2 * element, 2, number)
+}
+
+fn one(table: usize, element: usize, number: u32) -> (usize, usize, u32) {
+    (table + element, 1, number)
+}
+
+fn count(list: usize, number: u32) -> (usize, usize, u32) {
+    (at::COUNT + 4 * list, 4, number)
+}
+
+#[test]
+fn a_sound_state() {
+    let folder = Folder::new("explain-sound");
+    let said = on("explain", &folder.file("image", &small()));
+    assert_eq!(
+        (said.status, said.out.as_str()),
+        (Some(0), "a sound state\n")
+    );
+    assert_eq!(said.err, "");
+    let longer = [small(), vec![7; 200_000]].concat();
+    let said = on("explain", &folder.file("longer", &longer));
+    assert_eq!(
+        (said.status, said.out.as_str()),
+        (Some(0), "a sound state\n")
+    );
+}
+
+#[test]
+fn rule_a_settings() {
+    let folder = Folder::new("explain-a");
+    for (setting, number, words) in [
+        (0, 5, "(a) setting ports: 5 is not in its row, 4"),
+        (1, 0, "(a) setting queues: 0 is not in its row, 24"),
+        (2, 0, "(a) setting nodes: 0 is not in its row, 1 to 2048"),
+        (
+            2,
+            2049,
+            "(a) setting nodes: 2049 is not in its row, 1 to 2048",
+        ),
+        (
+            3,
+            65,
+            "(a) setting beat: 65 is not in its row, 64, 128, 256 or 512",
+        ),
+        (4, 0, "(a) setting slots: 0 is not in its row, 1 to 8"),
+        (4, 9, "(a) setting slots: 9 is not in its row, 1 to 8"),
+    ] {
+        let bytes = changed(&[two(0, setting, number)]);
+        says(&folder, &bytes, setting as u64, words);
+    }
+    // The first of several.
+    let bytes = changed(&[two(0, 3, 7), two(0, 4, 7777)]);
+    says(
+        &folder,
+        &bytes,
+        3,
+        "(a) setting beat: 7 is not in its row, 64, 128, 256 or 512",
+    );
+}
+
+#[test]
+fn rule_a_too_short() {
+    let folder = Folder::new("explain-short");
+    let short = |there: usize, needs: &str| {
+        let words = format!("(a) the image is too short: {there} bytes are there, {needs}");
+        says(&folder, &small()[..there], 6, &words);
+    };
+    for there in [0, 1, 11] {
+        short(there, "the settings alone take 12");
+    }
+    for there in [12, 100, at::SIZE - 1] {
+        short(there, "2 nodes a port need 2092");
+    }
+    let most = changed(&[two(0, 2, 2048)]);
+    let words = "(a) the image is too short: 2092 bytes are there, 2048 nodes a port need 108484";
+    says(&folder, &most, 6, words);
+}
+
+#[test]
+fn rule_b() {
+    let folder = Folder::new("explain-b");
+    let list = 50 + 26 + 5;
+    for (change, item, words) in [
+        (
+            one(at::LAST, 0, 200),
+            0,
+            "(b) port 0: last served queue 200 is none of 24",
+        ),
+        (
+            one(at::LAST, 3, 24),
+            3,
+            "(b) port 3: last served queue 24 is none of 24",
+        ),
+        (
+            one(at::MAPPED, 0, 4),
+            4,
+            "(b) destination id 0: mapped port 4 is none of 4",
+        ),
+        (
+            one(at::MAPPED, 3, 255),
+            7,
+            "(b) destination id 3: mapped port 255 is none of 4",
+        ),
+        (
+            count(list, 2),
+            8 + 24 + 5,
+            "(b) port 1, queue 5: the prefetch list has 2 nodes, its slots are 1",
+        ),
+        (
+            count(199, 4_294_967_295),
+            8 + 95,
+            "(b) port 3, queue 23: the prefetch list has 4294967295 nodes, its slots are 1",
+        ),
+    ] {
+        says(&folder, &changed(&[change]), item, words);
+    }
+}
+
+#[test]
+fn rule_c_lists() {
+    let folder = Folder::new("explain-c");
+    let (free, ingress, prefetch) = (50, 101, 50 + 26 + 5);
+    for (change, list, words) in [
+        (
+            two(at::HEAD, free, 4711),
+            free,
+            "(c) free list of port 1: entry id 4711 at position 0 is no node: node 615 of port 2 is none of 2",
+        ),
+        (
+            two(at::NEXT, 4, 9000),
+            ingress,
+            "(c) ingress list of port 2: entry id 9000 at position 1 is no node: port 4 is none of 4",
+        ),
+        (
+            two(at::NEXT, 2, 2048),
+            free,
+            "(c) free list of port 1: node 0 of port 1 (entry id 2048) at position 1 was met before, at position 0 of the same list",
+        ),
+        (
+            two(at::HEAD, ingress, 2049),
+            ingress,
+            "(c) ingress list of port 2: node 1 of port 1 (entry id 2049) at position 0 was met before, \
+             at position 1 of the free list of port 1",
+        ),
+        (
+            two(at::TAIL, prefetch, 1),
+            prefetch,
+            "(c) prefetch list of port 1, queue 5: its last node is entry id 0, but its tail says 1",
+        ),
+    ] {
+        says(&folder, &changed(&[change]), list as u64, words);
+    }
+    // A count too large runs on along what stands behind the last node.
+    let bytes = changed(&[count(57, 4_294_967_295), two(at::NEXT, 1, 1)]);
+    let words = "(c) egress list of port 1, queue 5: node 1 of port 0 (entry id 1) at position 1 was met before, at position 0 of the same list";
+    says(&folder, &bytes, 57, words);
+}
+
+#[test]
+fn rule_c_nodes() {
+    let folder = Folder::new("explain-nowhere");
+    let bytes = changed(&[count(150, 1), two(at::TAIL, 150, 6144)]);
+    says(
+        &folder,
+        &bytes,
+        200 + 7,
+        "(c) node 1 of port 3 (entry id 6145) stands in no list",
+    );
+    // The first of several.
+    let bytes = changed(&[count(150, 0), count(57, 0)]);
+    says(
+        &folder,
+        &bytes,
+        200 + 1,
+        "(c) node 1 of port 0 (entry id 1) stands in no list",
+    );
+}
+
+#[test]
+fn rule_d() {
+    let folder = Folder::new("explain-d");
+    let words = "(d) node 1 of port 3 (entry id 6145) stands at position 1 of the free list of port 1, which is for port 1's nodes";
+    // The last nodes of two free lists, changed over.
+    let bytes = changed(&[
+        two(at::NEXT, 2, 6145),
+        two(at::TAIL, 50, 6145),
+        two(at::NEXT, 6, 2049),
+        two(at::TAIL, 150, 2049),
+    ]);
+    says(&folder, &bytes, 6145, words);
+    let words = "(d) node 1 of port 3 (entry id 6145) stands at position 1 of the ingress list of port 2, which is for port 2's nodes";
+    let bytes = changed(&[
+        two(at::NEXT, 4, 6145),
+        two(at::TAIL, 101, 6145),
+        two(at::NEXT, 6, 4097),
+        two(at::TAIL, 150, 4097),
+    ]);
+    says(&folder, &bytes, 6145, words);
+}
+
+#[test]
+fn rule_e() {
+    let folder = Folder::new("explain-e");
+    let words = "(e) node 0 of port 0 (entry id 0) stands at position 0 of the prefetch list of port 1, queue 5, but its recorded queue is 6";
+    says(&folder, &changed(&[one(at::QUEUE, 0, 6)]), 0, words);
+    let words = "(e) node 1 of port 0 (entry id 1) stands at position 0 of the egress list of port 1, queue 5, but its recorded queue is 255";
+    says(&folder, &changed(&[one(at::QUEUE, 1, 255)]), 1, words);
+}
+
+#[test]
+fn rule_f() {
+    let folder = Folder::new("explain-f");
+    let first =
+        "(f) node 0 of port 2 (entry id 4096) at position 0 of the ingress list of port 2: ";
+    for (change, why) in [
+        (two(at::LENGTH, 4, 11), "length 11 is under 12"),
+        (two(at::LENGTH, 4, 8192), "length 8192 is above 8191"),
+        (one(at::QUEUE, 4, 24), "queue 24 is none of 24"),
+        (one(at::DEST, 4, 4), "destination id 4 is above 3"),
+        (one(at::POISONED, 4, 2), "poisoned flag 2 is above 1"),
+        (one(at::PRICE, 4, 1), "price 1 is wrong, queue 0 is free"),
+        (
+            one(at::QUEUE, 4, 1),
+            "price 0 is wrong, length 8191 at beat 64 costs 128",
+        ),
+    ] {
+        says(&folder, &changed(&[change]), 4096, &format!("{first}{why}"));
+    }
+    let words = "(f) node 1 of port 2 (entry id 4097) at position 1 of the ingress list of port 2: price 2 is wrong, length 64 at beat 64 costs 1";
+    says(&folder, &changed(&[one(at::PRICE, 5, 2)]), 4097, words);
+    let words = "(f) node 0 of port 0 (entry id 0) at position 0 of the prefetch list of port 1, queue 5: length 0 is under 12";
+    says(&folder, &changed(&[two(at::LENGTH, 0, 0)]), 0, words);
+}
+
+#[test]
+fn rule_g() {
+    let folder = Folder::new("explain-g");
+    for (cell, credit, words) in [
+        (4, 14, "(g) port 0, queue 5: arrival credit 14 and prices outstanding 3 are 17 together, not 16"),
+        (4, 0, "(g) port 0, queue 5: arrival credit 0 and prices outstanding 3 are 3 together, not 16"),
+        (0, 65_535, "(g) port 0, queue 1: arrival credit 65535 and prices outstanding 0 are 65535 together, not 16"),
+        (91, 15, "(g) port 3, queue 23: arrival credit 15 and prices outstanding 0 are 15 together, not 16"),
+    ] {
+        says(&folder, &changed(&[two(at::ARRIVAL, cell, credit)]), cell as u64, words);
+    }
+}
+
+/// The rule that comes first in the paper is told, whatever comes first in the bytes.
+#[test]
+fn rules_in_their_order() {
+    let folder = Folder::new("explain-order");
+    let mut changes = vec![two(at::ARRIVAL, 0, 0)];
+    for (change, item, words) in [
+        (one(at::POISONED, 5, 9), 4097, "(f) node 1 of port 2 (entry id 4097) at position 1 of the ingress list of port 2: poisoned flag 9 is above 1"),
+        (one(at::LAST, 2, 99), 2, "(b) port 2: last served queue 99 is none of 24"),
+        (two(0, 4, 0), 4, "(a) setting slots: 0 is not in its row, 1 to 8"),
+    ] {
+        changes.push(change);
+        says(&folder, &changed(&changes), item, words);
+    }
+}
+
+#[test]
+fn help_is_no_trouble() {
+    for word in ["help", "--help", "-h"] {
+        let said = vr(&[word]);
+        assert_eq!((said.status, said.out.as_str()), (Some(0), vr::args::USAGE));
+    }
+}
