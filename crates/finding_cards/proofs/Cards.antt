@@ -1,0 +1,37 @@
+-- Every card holds: one claim over the table, by computing the finding, in two parts since one goes past what the prover computes at once.
+-- Assumes nothing.
+use mathlib.Core.Path.{refl}
+use lib.Count.{ones}
+use Rattle.numbers.specs.Bytes.{number, store}
+use Rattle.ledger.specs.Settings.{isBeat, inRows, firstOut, row, size}
+use Rattle.ledger.specs.Header.{price}
+use Rattle.ledger.specs.Ledger.{isNode, place#, cell, creditAt, setCredit}
+use Rattle.ledger.specs.Sound.{All}
+use Rattle.ledger.proofs.Lists.{All-append}
+use Rattle.layout.specs.Tables.{startOf, get, put}
+use Rattle.layout.specs.Picture.{settingsIn, slot, chain, nodesOf, packetAt}
+use Rattle.memory.specs.Image.{fill, allLinked, written, image}
+use Rattle.ranges.specs.First.{firstFrom}
+use Rattle.ranges.specs.Opening.{outAt}
+use Rattle.ranges.specs.Ranges.{prefetchAt, fitsAt, rangesFound}
+use Rattle.once.specs.Once.{isNew, mark, allNew, markAll, ends, right, unmarked, scan, onceFound}
+use Rattle.fits.specs.Fits.{rangeTest, fieldsTest, properTest, ruleTest, firstBad, fitsFrom, fitsFound}
+use Rattle.paid.specs.Paid.{addPrice, addNode, addAll, addList, addFrom, sumsOf, settledAt, dueFound}
+use Rattle.sound.specs.Sound.{nodesBroken, openBroken, brokenIn}
+use Rattle.finding_cards.specs.Cards.{Holds, tables, packets, cards}
+
+tables-hold : All Holds tables
+unfolding ones number store isBeat inRows firstOut row size isNode place# creditAt setCredit startOf get put settingsIn slot chain nodesOf
+    packetAt fill allLinked written image firstFrom outAt prefetchAt fitsAt rangesFound isNew mark allNew markAll ends right unmarked scan
+    onceFound openBroken brokenIn
+tables-hold = (refl, (refl, (refl, (refl, (refl, (refl, tt))))))
+
+packets-hold : All Holds packets
+unfolding ones number store isBeat inRows row size price isNode place# cell creditAt setCredit startOf get put settingsIn slot chain nodesOf
+    packetAt fill allLinked written image firstFrom prefetchAt fitsAt rangesFound isNew mark allNew markAll ends right unmarked scan onceFound
+    rangeTest fieldsTest properTest ruleTest firstBad fitsFrom fitsFound addPrice addNode addAll addList addFrom sumsOf settledAt dueFound
+    nodesBroken openBroken brokenIn
+packets-hold = (refl, (refl, (refl, (refl, (refl, tt)))))
+
+pub cards-hold : All Holds cards
+cards-hold = All-append Holds tables packets tables-hold packets-hold
