@@ -12,12 +12,8 @@ use Rattle.ledger.specs.declared.Finding.the-variants.{Whole as whole, At}
 use Rattle.ledger.specs.declared.Broken.{Broken}
 use Rattle.ledger.specs.declared.Broken.the-variants.{Nothing, A, B, C, D, E, F, G}
 use Rattle.ledger.specs.Settings.{size}
-use Rattle.ledger.specs.Ledger.{tall}
-use Rattle.ledger.specs.Sound.{Shaped}
 use Rattle.ledger.proofs.Tests.{true≢false, leb-is}
-use Rattle.layout.specs.Tables.{get, tableOf}
-use Rattle.layout.specs.Picture.{settingsIn, opens, ledgerIn, State}
-use Rattle.memory.proofs.Chains.{length-tabulate, length-lists}
+use Rattle.layout.specs.Picture.{settingsIn, opens, State}
 use Rattle.ranges.specs.Opening.{outAt}
 use Rattle.ranges.specs.Ranges.{rangesFound}
 use Rattle.ranges.proofs.Opening.{opens-means}
@@ -31,7 +27,8 @@ use Rattle.paid.specs.Paid.{paidFound}
 use Rattle.paid.specs.Passes.{Payable}
 use Rattle.paid.proofs.Owing.{paid-means}
 use Rattle.sound.specs.Sound.{orNext, nodesBroken, openBroken, brokenIn}
-use Rattle.findings.specs.Findings.{Letter, rule-a, rule-b, rule-c, rule-d, rule-e, rule-f, rule-g, letter#, ledgerOf, Holds, FirstItem, Finds, Means}
+use Rattle.sound.proofs.Means.{shaped}
+use Rattle.findings.specs.Findings.{Letter, rule-a, rule-b, rule-c, rule-d, rule-e, rule-f, rule-g, letter#, Holds, FirstItem, Finds, Means}
 use Rattle.findings.proofs.Items.{setting-first, range-first, list-first, node-first, cell-first, first-one, node-one}
 use Rattle.findings.proofs.Shows.{room, item-shows}
 
@@ -76,13 +73,6 @@ module _ (m : List ℕ) where
 
   -- ---- a switch state is a memory of which every rule holds
 
-  shaped : Shaped (settingsIn m) (ledgerOf m)
-  unfolding ledgerIn
-  shaped = record {
-    lists-long = length-lists (settingsIn m) m;
-    numbers-long = λ c. length-tabulate (get (settingsIn m) m (tableOf c)) 0 (tall (settingsIn m) c);
-  }
-
   holds-state : ((r : Letter) → Holds r m) → State m
   holds-state h = record {
     long = opens-means m (h rule-a) .1;
@@ -90,7 +80,7 @@ module _ (m : List ℕ) where
     sound = record {
       rows = opens-means m (h rule-a) .0;
       orderly = record {
-        shaped = shaped;
+        shaped = shaped (settingsIn m) m;
         ranges = h rule-b;
         once = h rule-c .1;
         owned = h rule-d;

@@ -1,30 +1,25 @@
--- No rule is broken exactly where the memory is a switch state. Assumes nothing.
-use mathlib.Core.Path.{_≡_, refl, sym, ap, subst, _∙_}
-use mathlib.Core.Bool.{Bool, true, false, cond}
+-- Every rule finds nothing exactly where the memory is a switch state, and the test says so. Assumes nothing.
+use mathlib.Core.Path.{_≡_, refl, ap, subst, _∙_}
 use mathlib.Core.List.{List}
 use Prim.Native.Nat.{ℕ}
-use lib.ListN.{length}
 use native.Mathlib.Omega.{arith}
-use Rattle.ledger.specs.declared.Finding.{Finding}
 use Rattle.ledger.specs.declared.Finding.the-variants.{Whole as whole, At}
-use Rattle.ledger.specs.declared.Broken.{Broken}
-use Rattle.ledger.specs.declared.Broken.the-variants.{Nothing, A, B, C, D, E, F, G}
-use Rattle.ledger.specs.Settings.{Settings, size}
+use Rattle.ledger.specs.declared.Broken.the-variants.{Nothing, B, G}
+use Rattle.ledger.specs.Settings.{Settings}
 use Rattle.ledger.specs.Sound.{Shaped}
-use Rattle.ledger.proofs.Tests.{true≢false, leb-is}
 use Rattle.ledger.proofs.Rows.{roomy}
 use Rattle.layout.specs.declared.Shape.{Shape}
 use Rattle.layout.specs.Tables.{get, settingsOf, tableOf}
 use Rattle.layout.specs.Picture as picture
-use Rattle.layout.specs.Picture.{settingsIn, opens, ledgerIn, StateOf}
+use Rattle.layout.specs.Picture.{settingsIn, ledgerIn, StateOf}
 use Rattle.memory.specs.Ends.{Tidy}
 use Rattle.memory.specs.Memory.{state-dec}
 use Rattle.memory.specs.Judged.{Works}
 use Rattle.memory.proofs.Chains.{length-tabulate, length-lists, state-tidy}
 use Rattle.ranges.specs.declared.Opened.the-variants.{Wrong}
-use Rattle.ranges.specs.Opening.{shapeFor, outAt, opened, Open}
+use Rattle.ranges.specs.Opening.{shapeFor, opened, Open}
 use Rattle.ranges.specs.Ranges.{rangesFound}
-use Rattle.ranges.proofs.Opening.{shape-is, opened-is, opened-fine, opens-means}
+use Rattle.ranges.proofs.Opening.{shape-is, opened-is, opened-fine}
 use Rattle.ranges.proofs.Items.{ranges-means}
 use Rattle.once.specs.Once.{onceFound}
 use Rattle.once.proofs.Means.{found-whole, found-tidy, whole-found}
@@ -36,34 +31,12 @@ use Rattle.paid.specs.Paid.{paidFound}
 use Rattle.paid.proofs.Owing.{paid-means}
 use Rattle.whole.specs.Whole.{Listed}
 use Rattle.sound.specs.declared.Tested.the-variants.{State, NoState}
-use Rattle.sound.specs.Sound.{Clean, orNext, nodesBroken, openBroken, brokenIn, testedBy, testedIn}
+use Rattle.sound.specs.Sound.{Clean, nodesBroken, openBroken, testedBy, testedIn}
 use Rattle.ledger.specs.Ledger.{tall}
-
--- ---- one rule and the next
-
-isNothing : Broken → Bool
-isNothing Nothing = true
-isNothing (A i) = false
-isNothing (B i) = false
-isNothing (C i) = false
-isNothing (D i) = false
-isNothing (E i) = false
-isNothing (F i) = false
-isNothing (G i) = false
-
-not-nothing : (b : Broken) → isNothing b ≡ false → b ≡ Nothing → ⊥
-unfolding isNothing
-not-nothing b n e = true≢false (sym (ap isNothing e) ∙ n)
-
--- where no rule is broken, the first has found nothing, and nor have the next
-or-passed : (f : Finding) (rule : ℕ → Broken) (next : Broken) → ((i : ℕ) → isNothing (rule i) ≡ false) → orNext f rule next ≡ Nothing
-    → (f ≡ whole) × (next ≡ Nothing)
-or-passed whole rule next n e = (refl, e)
-or-passed (At i) rule next n e = absurd (not-nothing (rule i) (n i) e)
 
 -- ---- what the rules say together
 
-shaped : (S : Settings) (m : List ℕ) → Shaped S (ledgerIn S m)
+pub shaped : (S : Settings) (m : List ℕ) → Shaped S (ledgerIn S m)
 unfolding ledgerIn
 shaped S m = record {
   lists-long = length-lists S m;
@@ -91,17 +64,6 @@ module _ (S : Settings) (m : List ℕ) where
   pub range-broken : (i : ℕ) → rangesFound S m ≡ At i → openBroken S m ≡ B i
   unfolding openBroken
   range-broken i e = rw e
-
-  whole-clean : openBroken S m ≡ Nothing → Clean S m
-  unfolding openBroken nodesBroken isNothing
-  whole-clean e =
-      let b = or-passed (rangesFound S m) B _ (λ i. refl) e in
-      let c = or-passed (onceFound S m) C _ (λ i. refl) (b .1) in
-      let d = or-passed (fitsFound OwnPort S m) D _ (λ i. refl) (c .1) in
-      let f = or-passed (fitsFound OwnQueue S m) E _ (λ i. refl) (d .1) in
-      let g = or-passed (fitsFound Record S m) F _ (λ i. refl) (f .1) in
-      let h = or-passed (paidFound S m) G _ (λ i. refl) (g .1) in
-      record { ranges = b .0; once = c .0; fits = by-rule S m (d .0) (f .0) (g .0); paid = h .0 }
 
 module _ (m : List ℕ) (s : Shape) where
   module _ (o : Open m s) where
@@ -142,28 +104,9 @@ state-clean S m t =
       paid = paid-means S m R (record { tidy = state-tidy S m t; proper = o .proper }) .1 (o .paid);
     }
 
--- ---- no rule is broken exactly in a switch state
+-- ---- what is told of a memory
 
 module _ (m : List ℕ) where
-  pub whole-state : brokenIn m ≡ Nothing → picture.State m
-  unfolding brokenIn isNothing
-  whole-state = go (opens m) refl
-    where
-      go : (b : Bool) → opens m ≡ b → cond b (openBroken (settingsIn m) m) (A (outAt m)) ≡ Nothing → picture.State m
-      go true t e =
-          let r = opens-means m t in
-          let o = opened-fine m _ (opened-is m (r .0) (r .1)) in
-          clean-state m (shapeFor (settingsIn m)) o (whole-clean (settingsIn m) m e)
-      go false t e = absurd (not-nothing (A (outAt m)) refl e)
-
-  pub state-whole : picture.State m → brokenIn m ≡ Nothing
-  unfolding brokenIn
-  state-whole t =
-      let S = settingsIn m in
-      rw (t .sound .rows, leb-is (size S) (length m) (t .long)) (clean-whole S m (state-clean S m t))
-
-  -- ---- what is told of a memory
-
   works-state : (s : Shape) → Works s m → picture.State m
   works-state s w = subst (λ (S : Settings). StateOf S m) (w .settings-are) (w .state)
 
