@@ -13,7 +13,7 @@
  * uint16_t, uint32_t and uint64_t are aligned; the memories lent to one call do not overlap; and no two calls run at once on a memory
  * that one of them may change.
  *
- * A call takes up to 9,976 bytes of stack, whatever the nodes (measured on x86-64, not proved): the test for a state keeps a mark for
+ * A call takes up to 10,190 bytes of stack, whatever the nodes (measured on x86-64, not proved): the test for a state keeps a mark for
  * each of up to 8,192 nodes there, and a sum for each port and queue but 0.
  *
  * Numbers that are lent for an answer (uint16_t *, uint32_t *, uint64_t *) are the machine's own; the rooms of bytes are big-endian.

@@ -7,11 +7,11 @@ use native.Mathlib.Omega.{arith}
 use Rattle.ledger.specs.Settings.{Settings}
 use Rattle.ledger.specs.Rules.{Rule, refuse, guard}
 use Rattle.ledger.specs.Header.{Fields, fieldsOf, headerRules}
-use Rattle.ledger.specs.Ledger.{isNode, Packet, recorded, free, ingress, place#, arrivalOf}
+use Rattle.ledger.specs.Ledger.{isNode, Packet, recorded, free, ingress, place#, arrivalOf, Place·In}
 use Rattle.ledger.specs.Calls.{refused, entry, arrive, firstOf, lastRules, rules}
 use Rattle.ledger.specs.Sound.{weigh, one, Roomy}
 use Rattle.ledger.proofs.Tests.{leb-is, leb-not, ltb-is, ltb-not}
-use Rattle.ledger.proofs.Places.{Place·In, place#-lt}
+use Rattle.ledger.proofs.Places.{place#-lt}
 use Rattle.ledger.proofs.Header.{fields-in}
 use Rattle.ledger.proofs.Passes as ledger
 use Rattle.ledger.proofs.Steps.{cleared}

@@ -6,17 +6,16 @@ use mathlib.Core.List.{List, [], _∷_}
 use Prim.Native.Nat.{ℕ, suc, _≤_, _<_}
 use native.Mathlib.Decide.{decLt, ℕ-discrete}
 use native.Mathlib.Omega.{arith}
-use lib.ListN.{length, getD}
+use lib.ListN.{getD}
 use Rattle.ledger.specs.declared.Finding.{Finding}
 use Rattle.ledger.specs.declared.Finding.the-variants.{Whole as whole, At}
 use Rattle.ledger.specs.declared.Broken.{Broken}
 use Rattle.ledger.specs.declared.Broken.the-variants.{Nothing, A, B, C, D, E, F, G}
-use Rattle.ledger.specs.Settings.{size}
-use Rattle.ledger.proofs.Tests.{true≢false, leb-is}
+use Rattle.ledger.proofs.Tests.{true≢false}
 use Rattle.layout.specs.Picture.{settingsIn, opens, State}
+use Rattle.memory.proofs.Picture.{opens-means}
 use Rattle.ranges.specs.Opening.{outAt}
 use Rattle.ranges.specs.Ranges.{rangesFound}
-use Rattle.ranges.proofs.Opening.{opens-means}
 use Rattle.ranges.proofs.Items.{ranges-means}
 use Rattle.once.specs.Once.{onceFound}
 use Rattle.once.proofs.Means.{found-whole}
@@ -75,10 +74,10 @@ module _ (m : List ℕ) where
 
   holds-state : ((r : Letter) → Holds r m) → State m
   holds-state h = record {
-    long = opens-means m (h rule-a) .1;
+    long = opens-means m .0 (h rule-a) .1;
     hangs = h rule-c .0;
     sound = record {
-      rows = opens-means m (h rule-a) .0;
+      rows = opens-means m .0 (h rule-a) .0;
       orderly = record {
         shaped = shaped (settingsIn m) m;
         ranges = h rule-b;
@@ -92,7 +91,7 @@ module _ (m : List ℕ) where
   }
 
   state-holds : State m → (r : Letter) → Holds r m
-  state-holds s rule-a = rw (s .sound .rows, leb-is (size (settingsIn m)) (length m) (s .long))
+  state-holds s rule-a = opens-means m .1 (s .sound .rows, s .long)
   state-holds s rule-b = s .sound .orderly .ranges
   state-holds s rule-c = (s .hangs, s .sound .orderly .once)
   state-holds s rule-d = s .sound .orderly .owned
@@ -116,7 +115,7 @@ module _ (m : List ℕ) where
     payable b =
         let c = b rule-c (omega arith) in
         record {
-          tidy = record { long = opens-means m o .1; hangs = c .0; once = λ y. omega (arith, c .1 y) };
+          tidy = record { long = opens-means m .0 o .1; hangs = c .0; once = λ y. omega (arith, c .1 y) };
           proper = b rule-f (omega arith);
         }
 

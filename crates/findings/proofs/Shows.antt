@@ -17,11 +17,11 @@ use Rattle.ledger.proofs.Tests.{eqb-yes}
 use Rattle.ledger.proofs.Rows.{rows-out, roomy}
 use Rattle.layout.specs.Tables.{lists, all}
 use Rattle.layout.specs.Picture.{settingsIn, opens, ledgerIn, Hangs}
+use Rattle.memory.proofs.Picture.{opens-means}
 use Rattle.ranges.specs.First.{first}
 use Rattle.ranges.proofs.First.{first-all}
-use Rattle.ranges.proofs.Opening.{opens-means}
 use Rattle.ranges.proofs.FirstItem.{first-wrong, foundOr, first-out}
-use Rattle.once.proofs.Means.{node-at}
+use Rattle.memory.proofs.Audit.{node-at}
 use Rattle.findings.specs.Findings.{Letter, rule-a, rule-b, rule-c, rule-d, rule-e, rule-f, rule-g, letter#, ledgerOf, Holds, FirstItem}
 use Rattle.findings.specs.Findings.{SettingRight, RangeRight, ListRight, CellRight, FirstNode, Settled}
 use Rattle.findings.proofs.Items.{All-middle}
@@ -41,8 +41,8 @@ each-row S r = go (first (inRow S) settingCount) refl
 
 setting-right : (m : List ℕ) → opens m ≡ true → (i : ℕ) → SettingRight m i
 setting-right m o i = record {
-  in-row = λ h there. each-row (settingsIn m) (opens-means m o .0) i h;
-  long = λ e. opens-means m o .1;
+  in-row = λ h there. each-row (settingsIn m) (opens-means m .0 o .0) i h;
+  long = λ e. opens-means m .0 o .1;
 }
 
 -- ---- (b), (c), (d), (e), (f) and (g)
@@ -71,7 +71,7 @@ module _ (S : Settings) (R : Roomy S) where
   list-right m hangs once i h = record {
     hangs = hangs i;
     once = λ l y. omega (arith, once y, weigh-take (one y) (suc i) (ledgerIn S m .lists));
-    met = λ j e. let low : j < all S = omega arith in omega (arith, once (nodeAt S j), ap bit (node-at S R j low .0));
+    met = λ j e. let low : j < all S = omega arith in omega (arith, once (nodeAt S j), ap bit (node-at S R j low .node));
   }
 
   cell-right : (L : Ledger) → ((p q : ℕ) → p < S .ports → 0 < q → q < S .queues → Settled S L p q) → (i : ℕ) → i < S .ports * (S .queues - 1) → CellRight S L i
@@ -84,7 +84,7 @@ module _ (S : Settings) (R : Roomy S) where
 
 -- what (a) gives to the rules after it
 pub room : (m : List ℕ) → opens m ≡ true → Roomy (settingsIn m)
-room m o = roomy (settingsIn m) (opens-means m o .0)
+room m o = roomy (settingsIn m) (opens-means m .0 o .0)
 
 pub item-shows : (m : List ℕ) (r : Letter) (i : ℕ) → ((q : Letter) → letter# q < letter# r → Holds q m) → FirstItem r m i → Holds r m → ⊥
 item-shows m rule-a i b f h = f .wrong (setting-right m h i)

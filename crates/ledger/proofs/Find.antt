@@ -10,13 +10,13 @@ use native.Mathlib.Omega.{arith}
 use lib.ListN.{length, getD}
 use lib.Dec.{eqb, ltb}
 use Rattle.ledger.specs.Settings.{Settings}
-use Rattle.ledger.specs.Ledger.{isNode, Packet, bare, Place, place#, placeOf, Ledger, listAt}
+use Rattle.ledger.specs.Ledger.{isNode, Packet, bare, Place, place#, placeOf, Ledger, listAt, Place·In}
 use Rattle.ledger.specs.Ready.{bit}
 use Rattle.ledger.specs.Calls.{Reply, found, whereIs, position, which, step}
 use Rattle.ledger.specs.Sound.{Everywhere, sum, weigh, one, Once, Orderly, Roomy}
 use Rattle.ledger.proofs.Tests.{true≢false, ltb-yes, ltb-no, ltb-is, eqb-yes, eqb-is, eqb-not}
 use Rattle.ledger.proofs.Lists.{All-at, everywhere-map, sum-below, weigh-cong, weigh-none}
-use Rattle.ledger.proofs.Places.{Place·In, place-number, place-of, Node, node-is, bit-le}
+use Rattle.ledger.proofs.Places.{place-number, place-of, Node, node-is, bit-le}
 use Rattle.ledger.proofs.Keep.{some-queue, len, nodes}
 
 -- ---- in a list

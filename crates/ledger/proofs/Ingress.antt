@@ -13,7 +13,7 @@ use lib.Dec.{eqb}
 use Rattle.ledger.specs.Settings.{Settings}
 use Rattle.ledger.specs.Rules.{Clear}
 use Rattle.ledger.specs.Ledger.{owner, Packet, bare, recorded, Place, free, ingress, egress, prefetched, Ledger, listAt, lastOf, mapOf, move}
-use Rattle.ledger.specs.Ledger.{change}
+use Rattle.ledger.specs.Ledger.{change, Place·In}
 use Rattle.ledger.specs.Ready.{bit, readyWord, pick}
 use Rattle.ledger.specs.Calls.{Act, arrive, stitch, prefetch, credit, mapTo, turn, ready, whereIs, Reply, stitched, idle, isEmpty}
 use Rattle.ledger.specs.Calls.{firstOf, stitchRecord, arriving, arrived, served, serve, turned, rules, result, step}
@@ -23,7 +23,6 @@ use Rattle.ledger.specs.Rounds.{each, stitches, prefetches, turns, round
 use Rattle.ledger.specs.Door.{lineOf, InIngress, lineFor, CreditFor, roundsFor}
 use Rattle.ledger.proofs.Tests.{true≢false, leb-no, leb-not, eqb-is, eqb-yes, eqb-no}
 use Rattle.ledger.proofs.Lists.{All-append, All-at}
-use Rattle.ledger.proofs.Places.{Place·In}
 use Rattle.ledger.proofs.Keep.{some-queue, first-node, from-moved, to-moved, else-moved}
 use Rattle.ledger.proofs.Passes.{Admits, admits}
 use Rattle.ledger.proofs.Steps.{picked-some, stepped, step-clear, refused-lists}

@@ -10,7 +10,7 @@ use lib.ListN.{length, getD, set, drop, length-set, length-append}
 use lib.Dec.{eqb}
 use Rattle.ledger.specs.Settings.{Settings, row}
 use Rattle.ledger.specs.Header.{price}
-use Rattle.ledger.specs.Ledger.{owner, Packet, Place, prefetched, place#, placeOf, Ledger, listAt, arrivalOf, behind, pop, push, move}
+use Rattle.ledger.specs.Ledger.{owner, Packet, Place, prefetched, place#, placeOf, Ledger, listAt, arrivalOf, behind, pop, push, move, Place·In}
 use Rattle.ledger.specs.Ledger.{putCredit, putIn, setCredit, arrival, outward, Column, tall, bound, change, creditAt, cell}
 use Rattle.ledger.specs.Ready.{bit}
 use Rattle.ledger.specs.Calls.{isEmpty, firstOf}
@@ -19,7 +19,7 @@ use Rattle.ledger.proofs.Tests.{eqb-yes, eqb-no}
 use Rattle.ledger.proofs.Lists.{drop-le, weigh-pop, weigh-push, length-pop, length-push, at-push-other, at-push, at-pop-other, at-pop}
 use Rattle.ledger.proofs.Lists.{All-front, everywhere-map, everywhere-both, everywhere-pop, everywhere-push, counted}
 use Rattle.ledger.proofs.Header.{price-free}
-use Rattle.ledger.proofs.Places.{Place·In, place#-lt, place-number, place#-inj, place#-other, Node, node-of, length-credit, credit-none}
+use Rattle.ledger.proofs.Places.{place#-lt, place-number, place#-inj, place#-other, Node, node-of, length-credit, credit-none}
 use Rattle.ledger.proofs.Places.{credit-at, credit-other, cells-all, set-lt, credit-lt}
 use Rattle.ledger.proofs.Columns.{changed, change-other}
 

@@ -12,7 +12,7 @@ use lib.Dec.{eqb, leb}
 use Rattle.ledger.specs.Settings.{Settings}
 use Rattle.ledger.specs.Rules.{Clear}
 use Rattle.ledger.specs.Ledger.{owner, Packet, bare, recorded, Place, free, ingress, egress, prefetched, place#, Ledger, listAt, outwardOf}
-use Rattle.ledger.specs.Ledger.{lastOf, mapOf, creditAt, setCredit, cell, move, outward, last, mapped, change}
+use Rattle.ledger.specs.Ledger.{lastOf, mapOf, creditAt, setCredit, cell, move, outward, last, mapped, change, Place·In}
 use Rattle.ledger.specs.Ready.{bit, covered, isReady, readyWord, pick}
 use Rattle.ledger.specs.Calls.{Act, arrive, stitch, prefetch, credit, mapTo, turn, ready, whereIs, Reply, idle, leaves, sideOf}
 use Rattle.ledger.specs.Calls.{isEmpty, firstOf, arriving, arrived, served, serve, turned, rules, result, step, onRefusal}
@@ -21,7 +21,7 @@ use Rattle.ledger.specs.Demand.{isTurn, InHand}
 use Rattle.ledger.specs.Door.{lineOf}
 use Rattle.ledger.proofs.Tests.{true≢false, leb-is, leb-no, leb-not, eqb-is, eqb-yes, eqb-no, or-is, or-is-right}
 use Rattle.ledger.proofs.Lists.{cons-form}
-use Rattle.ledger.proofs.Places.{Place·In, credit-same, credit-other}
+use Rattle.ledger.proofs.Places.{credit-same, credit-other}
 use Rattle.ledger.proofs.Keep.{some-queue, first-fits, first-node, from-moved, to-moved, else-moved}
 use Rattle.ledger.proofs.Ready.{gap, gap-pos, gap-le, word-some, picked-nearer}
 use Rattle.ledger.proofs.Passes.{Admits, admits}

@@ -10,7 +10,7 @@ use lib.ListN.{length, getD, length-map}
 use lib.Dec.{eqb, ltb}
 use Rattle.ledger.specs.Settings.{Settings}
 use Rattle.ledger.specs.Ledger.{owner, index, entryId, isNode, Packet, recorded, Place, free, ingress, egress, prefetched, place#, placeOf}
-use Rattle.ledger.specs.Ledger.{Ledger, listAt, arrivalOf, pop, move, putCredit, arrival, change, setCredit}
+use Rattle.ledger.specs.Ledger.{Ledger, listAt, arrivalOf, pop, move, putCredit, arrival, change, setCredit, Place·In}
 use Rattle.ledger.specs.Ready.{bit}
 use Rattle.ledger.specs.Calls.{arrive, Reply, entry, firstOf, arriving, arrived, step, run, onRefusal}
 use Rattle.ledger.specs.Desk.{Desk, has, Call, act, desk, SetupsRefused}
@@ -20,7 +20,7 @@ use Rattle.ledger.specs.Night.{TakenIn, Arrival, turned-away, taken, awa
 use Rattle.ledger.proofs.Tests.{ltb-is, ltb-not, eqb-is, eqb-not}
 use Rattle.ledger.proofs.Lists.{cons-form, sum-ones, weigh-only, weigh-plus, weigh-cong, weigh-none, All-map, All-of, everywhere-map}
 use Rattle.ledger.proofs.Lists.{at-push-other, at-pop-other}
-use Rattle.ledger.proofs.Places.{Place·In, place-of, place-number, row-div, row-mod, Node, node-is}
+use Rattle.ledger.proofs.Places.{place-of, place-number, row-div, row-mod, Node, node-is}
 use Rattle.ledger.proofs.Keep.{some-queue, nodes, first-fits, from-moved, to-moved, lowered}
 use Rattle.ledger.proofs.Passes.{Admits, admits}
 use Rattle.ledger.proofs.Steps.{recorded-proper, keep-run, stepped}

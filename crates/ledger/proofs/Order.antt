@@ -12,17 +12,17 @@ use Rattle.numbers.specs.Bytes.{number}
 use Rattle.ledger.specs.Settings.{Settings}
 use Rattle.ledger.specs.Rules.{Clear}
 use Rattle.ledger.specs.Ledger.{owner, Packet, bare, recorded, Place, free, ingress, egress, prefetched, portOf, Ledger, listAt, lastOf, mapOf}
-use Rattle.ledger.specs.Ledger.{move, mapped, change}
+use Rattle.ledger.specs.Ledger.{move, mapped, change, Place·In, kindIn, queueIn}
 use Rattle.ledger.specs.Ready.{readyWord, pick}
 use Rattle.ledger.specs.Calls.{Act, arrive, stitch, prefetch, credit, mapTo, turn, ready, whereIs, Reply, refused, idle, isEmpty, firstOf}
 use Rattle.ledger.specs.Calls.{stitchRecord, arriving, arrived, served, serve, rules, result, step, run, onRefusal}
 use Rattle.ledger.specs.Desk.{Desk, has, Call, setup, act, desk, answersOf, SetupsRefused}
 use Rattle.ledger.specs.Sound.{Orderly, Roomy}
-use Rattle.ledger.specs.Order.{kindIn, queueIn, samePlace, Movement, stays, moves, movement, cameBy, leftBy, cameTo, leftFrom, idsAt}
+use Rattle.ledger.specs.Order.{samePlace, Movement, stays, moves, movement, cameBy, leftBy, cameTo, leftFrom, idsAt}
 use Rattle.ledger.specs.Order.{FirstInFirstOut, KeepsOrder}
 use Rattle.ledger.proofs.Tests.{true≢false, leb-no, eqb-yes, eqb-is, and-left, and-right}
 use Rattle.ledger.proofs.Lists.{cons-form}
-use Rattle.ledger.proofs.Places.{Place·In, Node}
+use Rattle.ledger.proofs.Places.{Node}
 use Rattle.ledger.proofs.Keep.{some-queue, first-fits, first-node, from-moved, to-moved, else-moved}
 use Rattle.ledger.proofs.Passes.{admits}
 use Rattle.ledger.proofs.Steps.{picked-some, keep-step, stepped, refused-lists}

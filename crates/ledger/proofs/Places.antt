@@ -12,7 +12,7 @@ use lib.Seq.{getD-set-same, getD-set-other}
 use lib.Dec.{ltb}
 use Rattle.ledger.specs.Settings.{Settings, row}
 use Rattle.ledger.specs.Ledger.{owner, index, isNode, Place, free, ingress, egress, prefetched, portOf, column, place#, placeIn, placeOf, cell}
-use Rattle.ledger.specs.Ledger.{creditAt, setCredit}
+use Rattle.ledger.specs.Ledger.{Place·In, creditAt, setCredit}
 use Rattle.ledger.specs.Ready.{bit}
 use Rattle.ledger.proofs.Tests.{ltb-yes, ltb-no, ltb-is, ltb-not}
 
@@ -42,13 +42,6 @@ row-inj m a b i j h k e = (
 )
 
 -- ---- places
-
--- a place that the switch has
-abbrev pub Place·In : Settings → Place → Type 0
-Place·In S (free p) = (p < S .ports) × (0 < S .queues)
-Place·In S (ingress p) = (p < S .ports) × (0 < S .queues)
-Place·In S (egress p q) = (p < S .ports) × (q < S .queues)
-Place·In S (prefetched p q) = (p < S .ports) × (q < S .queues)
 
 module _ (S : Settings) where
   pub column-lt : (v : Place) → Place·In S v → column S v < row S

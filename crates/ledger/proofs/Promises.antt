@@ -12,7 +12,7 @@ use Rattle.ledger.specs.Settings.{Settings, inRows}
 use Rattle.ledger.specs.Rules.{refuse, guard, Clear}
 use Rattle.ledger.specs.Header.{fieldsOf, headerRules}
 use Rattle.ledger.specs.Ledger.{owner, isNode, Packet, bare, recorded, Place, free, prefetched, place#, Ledger, listAt, arrivalOf, lastOf}
-use Rattle.ledger.specs.Ledger.{start, change}
+use Rattle.ledger.specs.Ledger.{start, change, Place·In}
 use Rattle.ledger.specs.Ready.{isReady, wordOf, countOf, readyWord, pick}
 use Rattle.ledger.specs.Calls.{Act, arrive, stitch, prefetch, credit, mapTo, turn, ready, whereIs, Side, inside, outside, Reply, refused, done}
 use Rattle.ledger.specs.Calls.{entry, idle, leaves, word, isRefused, sideOf, noPort, isEmpty, firstOf, arriving, lastRules, arrived, served}
@@ -21,7 +21,7 @@ use Rattle.ledger.specs.Desk.{Desk, none, has, Call, setup, act, setupRu
 use Rattle.ledger.specs.Sound.{All, OwnPort, Proper, Orderly, Roomy, Sound}
 use Rattle.ledger.proofs.Tests.{true≢false, leb-no, leb-not, ltb-yes, eqb-yes, eqb-no, not-yes}
 use Rattle.ledger.proofs.Header.{price-pays}
-use Rattle.ledger.proofs.Places.{Place·In, place-number}
+use Rattle.ledger.proofs.Places.{place-number}
 use Rattle.ledger.proofs.Keep.{some-queue, len, first-fits, first-node, to-moved}
 use Rattle.ledger.proofs.Rows.{roomy}
 use Rattle.ledger.proofs.Ready.{count-is-ones}

@@ -211,12 +211,6 @@ module _ (r : ℕ → Bool) (m q n : ℕ) (hq : q < n) (hm : m < n) (few : n ≤
   picked : Picks r m n (pick m (wordOf r n))
   picked = pick-right r m n few (eqb-no (wordOf r n) 0 (word-some r n q hq e))
 
-  pub picked-lt : pick m (wordOf r n) < n
-  picked-lt = picked .below
-
-  pub picked-true : r (pick m (wordOf r n)) ≡ true
-  picked-true = picked .ready
-
   -- a stretch with none ready that starts no later than q ends before it
   outside : (lo hi : ℕ) → None r lo hi → lo ≤ q → hi ≤ q
   outside lo hi f low = let no : ¬ (q < hi) = λ h. true≢false (sym e ∙ f q low h) in omega arith

@@ -13,7 +13,7 @@ use Rattle.numbers.specs.Bytes.{number}
 use Rattle.ledger.specs.Settings.{Settings}
 use Rattle.ledger.specs.Rules.{Clear}
 use Rattle.ledger.specs.Ledger.{owner, isNode, Packet, bare, recorded, Place, free, ingress, egress, prefetched, place#, placeOf, Ledger, listAt}
-use Rattle.ledger.specs.Ledger.{lastOf, mapOf, pop, move, mapped, change}
+use Rattle.ledger.specs.Ledger.{lastOf, mapOf, pop, move, mapped, change, Place·In}
 use Rattle.ledger.specs.Ready.{bit, readyWord, pick}
 use Rattle.ledger.specs.Calls.{Act, arrive, stitch, prefetch, credit, mapTo, turn, ready, whereIs, Side, Reply, refused, idle, leaves}
 use Rattle.ledger.specs.Calls.{stitched, isEmpty, firstOf, stitchRecord, arriving, arrived, served, serve, rules, result, step, run, onRefusal}
@@ -23,7 +23,7 @@ use Rattle.ledger.specs.Order.{isFree, gathered, heldFrom, held, brought
 use Rattle.ledger.proofs.Tests.{true≢false, leb-no, eqb-is}
 use Rattle.ledger.proofs.Lists.{sum-append, weigh-pop, length-pop, nowhere, All-map, All-of, All-append, All-split, All-front, everywhere-both}
 use Rattle.ledger.proofs.Lists.{everywhere-pop, everywhere-push}
-use Rattle.ledger.proofs.Places.{Place·In, place-number, bit-le}
+use Rattle.ledger.proofs.Places.{place-number, bit-le}
 use Rattle.ledger.proofs.Keep.{some-queue, len, first-fits, first-node}
 use Rattle.ledger.proofs.Passes.{admits}
 use Rattle.ledger.proofs.Steps.{picked-some, keep-step, keep-run, stepped, refused-lists}

@@ -4,7 +4,7 @@ use mathlib.Core.Logic.{_≢_, _⊎_, inl, inr}
 use mathlib.Core.Bool.{true}
 use mathlib.Core.List.{List, [], _∷_, _++_}
 use Prim.Native.Nat.{ℕ, zero, suc, _+_, _-_, _*_, _≤_, _<_, zero-le}
-use native.Mathlib.Nat.{not-suc-le-zero, le-of-suc-le-suc, add-zero, zero-add}
+use native.Mathlib.Nat.{not-suc-le-zero, le-of-suc-le-suc, zero-add}
 use native.Mathlib.Omega.{arith}
 use native.Mathlib.Decide.{ℕ-discrete}
 use lib.ListN.{length, getD, replicate, length-append, length-replicate, getD-replicate, List·getD-append}
@@ -15,9 +15,10 @@ use Rattle.ledger.specs.Ledger.{owner, index, entryId, isNode, Packet, b
 use Rattle.ledger.specs.Ledger.{cell, creditAt, listAt, bares, startLists, start, arrival, outward, last, mapped, Column, tall, bound, starting}
 use Rattle.ledger.specs.Ready.{bit}
 use Rattle.ledger.specs.Sound.{All, Everywhere, sum, weigh, one, Once, OwnPort, OwnQueue, WellRecorded, due, owed, Orderly, Sound, Roomy}
+use Rattle.ledger.specs.Ledger.{Place·In}
 use Rattle.ledger.proofs.Tests.{eqb-is, eqb-not}
 use Rattle.ledger.proofs.Lists.{weigh-cong, weigh-none}
-use Rattle.ledger.proofs.Places.{Place·In, place-of, cell-lt, node-of, node-is}
+use Rattle.ledger.proofs.Places.{place-of, cell-lt, node-of, node-is}
 use Rattle.ledger.proofs.Rows.{roomy}
 use Rattle.ledger.proofs.Find.{once-by-test}
 
@@ -26,11 +27,6 @@ use Rattle.ledger.proofs.Find.{once-by-test}
 pub bares-length : (x n : ℕ) → length (bares x n) ≡ n
 bares-length x zero = refl
 bares-length x (suc n) = ap suc (bares-length (suc x) n)
-
-pub bares-at : (x n i : ℕ) (d : Packet) → i < n → getD (bares x n) i d ≡ bare (x + i)
-bares-at x zero i d h = absurd (not-suc-le-zero h)
-bares-at x (suc n) zero d h = rw add-zero
-bares-at x (suc n) (suc i) d h = let e : suc x + i ≡ x + suc i = omega arith in bares-at (suc x) n i d (le-of-suc-le-suc h) ∙ ap bare e
 
 bares-all : (P : Packet → Type 0) (a n : ℕ) → ((x : ℕ) → a ≤ x → x < a + n → P (bare x)) → All P (bares a n)
 bares-all P a zero f = tt

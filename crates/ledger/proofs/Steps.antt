@@ -1,6 +1,5 @@
 -- Every act keeps (b) to (g). Assumes nothing.
 use mathlib.Core.Path.{_≡_, refl, sym, ap, _∙_, subst}
-use mathlib.Core.Logic.{_≢_}
 use mathlib.Core.Bool.{Bool, true, false, cond}
 use mathlib.Core.List.{List, [], _∷_}
 use Prim.Native.Nat.{ℕ, _+_, _-_, _<_}
@@ -11,13 +10,13 @@ use Rattle.ledger.specs.Settings.{Settings}
 use Rattle.ledger.specs.Rules.{Rule, refuse, guard, Clear}
 use Rattle.ledger.specs.Header.{fieldsOf}
 use Rattle.ledger.specs.Ledger.{owner, Packet, bare, recorded, free, ingress, egress, prefetched, Ledger, listAt, arrivalOf, outwardOf, lastOf}
-use Rattle.ledger.specs.Ledger.{mapOf, move, putCredit, arrival, outward, last, mapped, Column}
+use Rattle.ledger.specs.Ledger.{mapOf, move, putCredit, arrival, outward, last, mapped, Column, Place·In}
 use Rattle.ledger.specs.Ready.{covered, isReady, wordOf, readyWord, pick}
 use Rattle.ledger.specs.Calls.{Act, arrive, stitch, prefetch, credit, mapTo, turn, ready, whereIs, refused, idle, isEmpty, firstOf, arriving}
 use Rattle.ledger.specs.Calls.{arrived, served, serve, turned, rules, result, step, run, onRefusal, Reply}
 use Rattle.ledger.specs.Sound.{Proper, owes, Orderly, Roomy}
 use Rattle.ledger.proofs.Tests.{leb-no, ltb-no}
-use Rattle.ledger.proofs.Places.{Place·In, credit-in}
+use Rattle.ledger.proofs.Places.{credit-in}
 use Rattle.ledger.proofs.Keep.{some-queue, first-fits, first-node, keep-moved, keep-traded, keep-outward, lowered, raised, keep-put}
 use Rattle.ledger.proofs.Header.{fields-in}
 use Rattle.ledger.proofs.Passes.{Passes, Admits, admits}

@@ -4,27 +4,15 @@ use Prim.Native.Nat.{ℕ, _*_, _/_, _%_}
 use lib.Dec.{ltb}
 use Rattle.ledger.specs.Settings.{Settings}
 use Rattle.ledger.specs.Rules.{Rule, refuse, guard}
-use Rattle.ledger.specs.Ledger.{entryId, Place, free, ingress, egress, prefetched, portOf}
+use Rattle.ledger.specs.Ledger.{entryId, Place, portOf, kindIn, queueIn}
 use Rattle.ledger.specs.Calls.{Reply, refused, done, entry, stitched, idle, leaves, word, found}
 use Rattle.ledger.specs.Desk.{Desk, none, has}
 
 -- ---- where: eight bytes
 
-abbrev pub kindByte : Place → ℕ
-kindByte (free p) = 0
-kindByte (ingress p) = 1
-kindByte (egress p q) = 2
-kindByte (prefetched p q) = 3
-
-abbrev pub queueByte : Place → ℕ
-queueByte (free p) = 0
-queueByte (ingress p) = 0
-queueByte (egress p q) = q
-queueByte (prefetched p q) = q
-
 -- entry id (2), list kind (1), port (1), queue or 0 (1), zero (1), position (2)
 unfoldable pub placeBytes : ℕ → Place → ℕ → List ℕ
-placeBytes y v i = y / 256 ∷ y % 256 ∷ kindByte v ∷ portOf v ∷ queueByte v ∷ 0 ∷ i / 256 ∷ i % 256 ∷ []
+placeBytes y v i = y / 256 ∷ y % 256 ∷ kindIn v ∷ portOf v ∷ queueIn v ∷ 0 ∷ i / 256 ∷ i % 256 ∷ []
 
 -- eight bytes that were lent, once it is answered where node y stands
 abbrev pub placeRoom : ℕ → Reply → List ℕ → List ℕ

@@ -1,7 +1,7 @@
 -- Paper 01, "The ledger": what is recorded, where nodes stand, the credits, and the setters by which calls change it. Assumes nothing.
 use mathlib.Core.Bool.{Bool, cond, _&&_}
 use mathlib.Core.List.{List, [], _∷_, _++_}
-use Prim.Native.Nat.{ℕ, zero, suc, _+_, _-_, _*_, _/_, _%_}
+use Prim.Native.Nat.{ℕ, zero, suc, _+_, _-_, _*_, _/_, _%_, _<_}
 use lib.ListN.{getD, set, drop, replicate}
 use lib.Dec.{eqb, ltb}
 use Rattle.ledger.specs.Settings.{Settings, ids, row}
@@ -63,6 +63,26 @@ portOf (free p) = p
 portOf (ingress p) = p
 portOf (egress p q) = p
 portOf (prefetched p q) = p
+
+-- "list kind 0 to 3 in Where's order", and "queue or 0" (paper 02, Q-11)
+abbrev pub kindIn : Place → ℕ
+kindIn (free p) = 0
+kindIn (ingress p) = 1
+kindIn (egress p q) = 2
+kindIn (prefetched p q) = 3
+
+abbrev pub queueIn : Place → ℕ
+queueIn (free p) = 0
+queueIn (ingress p) = 0
+queueIn (egress p q) = q
+queueIn (prefetched p q) = q
+
+-- a place that the switch has
+abbrev pub Place·In : Settings → Place → Type 0
+Place·In S (free p) = (p < S .ports) × (0 < S .queues)
+Place·In S (ingress p) = (p < S .ports) × (0 < S .queues)
+Place·In S (egress p q) = (p < S .ports) × (q < S .queues)
+Place·In S (prefetched p q) = (p < S .ports) × (q < S .queues)
 
 -- the lists are numbered port by port: free, ingress, the egress lists, the prefetch lists
 abbrev pub column : Settings → Place → ℕ

@@ -10,25 +10,13 @@ use lib.Dec.{eqb}
 use Rattle.numbers.specs.Bytes.{number}
 use Rattle.ledger.specs.Settings.{Settings}
 use Rattle.ledger.specs.Header.{fieldsOf}
-use Rattle.ledger.specs.Ledger.{owner, Packet, recorded, Place, free, ingress, egress, prefetched, portOf, placeOf, Ledger, listAt}
+use Rattle.ledger.specs.Ledger.{owner, Packet, recorded, Place, free, ingress, egress, prefetched, portOf, kindIn, queueIn, placeOf, Ledger, listAt}
 use Rattle.ledger.specs.Calls.{Act, arrive, stitch, prefetch, credit, mapTo, turn, ready, whereIs, Side, Reply, refused, done, entry, stitched}
 use Rattle.ledger.specs.Calls.{idle, leaves, word, found}
 use Rattle.ledger.specs.Desk.{Desk, has, Call, setup, act, afterCalls, answersOf}
 use Rattle.ledger.specs.Sound.{All}
 
 -- ---- are two places the same
-
-abbrev pub kindIn : Place → ℕ
-kindIn (free p) = 0
-kindIn (ingress p) = 1
-kindIn (egress p q) = 2
-kindIn (prefetched p q) = 3
-
-abbrev pub queueIn : Place → ℕ
-queueIn (free p) = 0
-queueIn (ingress p) = 0
-queueIn (egress p q) = q
-queueIn (prefetched p q) = q
 
 abbrev pub samePlace : Place → Place → Bool
 samePlace u v = eqb (kindIn u) (kindIn v) && (eqb (portOf u) (portOf v) && eqb (queueIn u) (queueIn v))

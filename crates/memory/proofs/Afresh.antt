@@ -1,25 +1,24 @@
 -- "After repair demand 3 counts afresh"; and where a repair that stands is among the deeds, nothing of it holds. Assumes nothing.
 use mathlib.Core.Path.{_≡_, sym, ap, _∙_}
 use mathlib.Core.Logic.{_≢_}
-use mathlib.Core.Bool.{true, false}
+use mathlib.Core.Bool.{false}
 use mathlib.Core.List.{List, [], _∷_}
 use Prim.Native.Nat.{ℕ, zero, suc, _≤_, _<_}
 use native.Mathlib.Omega.{arith}
 use lib.ListN.{length, getD, length-append}
 use Rattle.ledger.specs.Settings.{Settings}
-use Rattle.ledger.specs.Ledger.{entryId, Packet, Place, free, prefetched, column, place#, mapped, Ledger, listAt, start}
+use Rattle.ledger.specs.Ledger.{entryId, Packet, Place, free, prefetched, column, place#, mapped, Ledger, listAt, start, Place·In}
 use Rattle.ledger.specs.Calls.{Reply}
 use Rattle.ledger.specs.Desk.{has}
 use Rattle.ledger.specs.Demand.{ShowsWaiting}
 use Rattle.ledger.specs.Repair.{restart}
 use Rattle.ledger.proofs.Tests.{true≢false}
-use Rattle.ledger.proofs.Places.{Place·In}
 use Rattle.ledger.proofs.Start.{bares-length, start-free, start-else}
 use Rattle.ledger.proofs.Repair.{restarted}
 use Rattle.layout.specs.Picture.{settingsIn, opens, ledgerIn}
 use Rattle.memory.specs.Memory.{picture}
 use Rattle.memory.specs.Repair.{repaired}
-use Rattle.memory.specs.Rounds.{LentDeed, lent-find, lent-repair}
+use Rattle.memory.specs.Deeds.{LentDeed, lent-find, lent-repair}
 use Rattle.memory.specs.Deeds.{foundBy, Told, LeavesInDeeds, KeepsOrderInDeeds, PoolKeptInDeeds, CountsAfresh, HoldsInDeeds, AfreshAfterRepair}
 use Rattle.memory.proofs.Demands.{pictured-state}
 use Rattle.memory.proofs.Repair.{repair-refused, repair-picture}

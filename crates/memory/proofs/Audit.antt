@@ -158,13 +158,21 @@ place-told S m room i e = rw (where-says S m (nodeAt S i) e)
 
 module _ (m room : List ℕ) where
   -- where a memory is a state of these settings
-  audit-on : (S : Settings) → settingsIn m ≡ S → StateOf S m → audited S m room ≡ auditOn m room
+  pub audit-on : (S : Settings) → settingsIn m ≡ S → StateOf S m → audited S m room ≡ auditOn m room
   unfolding auditOn
   audit-on S e s = go (state-dec m)
     where
       go : (d : Dec (State m)) → audited S m room ≡ auditTested m d room
       go (yes t) = ap (λ (T : Settings). audited T m room) (sym e)
       go (no n) = absurd (n (subst (λ (T : Settings). StateOf T m) (sym e) s))
+
+  pub audit-off : (State m → ⊥) → auditOn m room ≡ (refused 3, room)
+  unfolding auditOn
+  audit-off n = go (state-dec m)
+    where
+      go : (d : Dec (State m)) → auditTested m d room ≡ (refused 3, room)
+      go (yes t) = absurd (n t)
+      go (no k) = refl
 
   -- the reply is the desk's
   pub audit-reply : auditOn m room .0 ≡ auditReply (picture m) (length room)

@@ -186,11 +186,7 @@ module _ (S : Settings) (m : List ℕ) where
       go true = refl
       go false = refl
 
-  -- in a free list, and in any other
-  pub item-free : (l x : ℕ) → l % row S ≡ 0 → nodeIn S m l x ≡ bare x
-  unfolding nodeIn
-  item-free l x e = rw (eqb-is (l % row S) 0 e)
-
+  -- in a list that is not free
   pub item-used : (l x : ℕ) → l % row S ≢ 0 → nodeIn S m l x ≡ packetAt S m x
   unfolding nodeIn
   item-used l x n = rw (eqb-not (l % row S) 0 n)

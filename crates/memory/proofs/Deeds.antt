@@ -16,17 +16,19 @@ use Rattle.ledger.specs.Desk.{Desk, has, Call, setup, act, setupRules, desk, af
 use Rattle.ledger.specs.Sound.{All}
 use Rattle.ledger.specs.Demand.{turnsIn, ShowsWaiting, LeavesAmong}
 use Rattle.ledger.specs.Rounds.{answerBytes}
-use Rattle.ledger.proofs.Tests.{true≢false, leb-is}
+use Rattle.ledger.proofs.Tests.{true≢false}
 use Rattle.ledger.proofs.Steps.{guarded}
 use Rattle.ledger.proofs.Courses.{calls-append, refused-parts, calls-show}
 use Rattle.layout.specs.Picture.{opens, State}
 use Rattle.memory.specs.Memory.{picture, M}
 use Rattle.memory.specs.Demands.{onMemory}
 use Rattle.memory.specs.Repair.{repaired}
-use Rattle.memory.specs.Rounds.{RoomTells, LentDeed, lent-call, lent-round, lent-audit, lent-find, lent-repair, deedOf, leftBy, afterDeeds}
-use Rattle.memory.specs.Rounds.{callsBy, callsIn, isRepair, RepairsRefused, DeedsAreCalls, NobodyStarvesInRoundsInMemory}
+use Rattle.memory.specs.Rounds.{RoomTells, NobodyStarvesInRoundsInMemory}
 use Rattle.memory.specs.Deeds.{Undisturbed, RepairStands, foundBy, FoundAmongCalls, Told, LeavesInDeeds, NobodyStarvesInDeeds, FromHereOn}
 use Rattle.memory.specs.Deeds.{HoldsInDeeds, AfreshAfterSetup}
+use Rattle.memory.specs.Deeds.{LentDeed, lent-call, lent-round, lent-audit, lent-find, lent-repair, deedOf, leftBy, afterDeeds}
+use Rattle.memory.specs.Deeds.{callsBy, callsIn, isRepair, RepairsRefused, DeedsAreCalls}
+use Rattle.memory.proofs.Picture.{opens-means}
 use Rattle.memory.proofs.Demands.{pictured-state, memory-faithful, memory-keeps-order, memory-goes-along, memory-pool-kept}
 use Rattle.memory.proofs.Rounds.{room-tells}
 use Rattle.memory.proofs.Door.{deed-is-calls, deeds-are-calls, nobody-starves-in-rounds-in-memory}
@@ -35,7 +37,7 @@ use Rattle.memory.proofs.Door.{deed-is-calls, deeds-are-calls, nobody-s
 
 -- on a switch state rule (a) holds
 pub opens-state : (m : List ℕ) → State m → opens m ≡ true
-opens-state m s = rw (s .sound .rows, leb-is _ _ (s .long))
+opens-state m s = opens-means m .1 (s .sound .rows, s .long)
 
 pub repair-stands : RepairStands
 unfolding RepairStands repaired

@@ -6,14 +6,14 @@ use Prim.Native.Nat.{ℕ, _*_, _<_}
 use native.Mathlib.Omega.{arith}
 use lib.ListN.{length}
 use Rattle.ledger.specs.Settings.{Settings}
-use Rattle.ledger.specs.Ledger.{isNode, Packet, Place, place#, Ledger}
+use Rattle.ledger.specs.Ledger.{isNode, Packet, Place, place#, Ledger, Place·In}
 use Rattle.ledger.specs.Ready.{isReady, wordOf, countOf}
 use Rattle.ledger.specs.Calls.{Act, arrive, turn, ready, whereIs, Side, inside, outside, Reply, refused, entry, leaves, word, found, step}
 use Rattle.ledger.specs.Desk.{has, Call, act, SetupsRefused}
 use Rattle.ledger.specs.Sound.{Roomy, Sound}
 use Rattle.ledger.specs.Order.{KeepsOrder, GoesAlong}
 use Rattle.ledger.specs.Night.{Arrival, PoolKept}
-use Rattle.ledger.proofs.Places.{Place·In, place#-lt}
+use Rattle.ledger.proofs.Places.{place#-lt}
 use Rattle.ledger.proofs.Rows.{roomy, this-build}
 use Rattle.ledger.proofs.Find.{where-right}
 use Rattle.ledger.proofs.Passes.{Passes}

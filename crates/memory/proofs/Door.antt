@@ -14,8 +14,9 @@ use Rattle.layout.specs.Picture.{settingsIn, opens}
 use Rattle.memory.specs.Memory.{picture}
 use Rattle.memory.specs.Demands.{onMemory}
 use Rattle.memory.specs.Repair.{repairMem, repaired}
-use Rattle.memory.specs.Rounds.{roundOn, roundCalls, RoundIsCalls, LentDeed, lent-call, lent-round, lent-audit, lent-find, lent-repair}
-use Rattle.memory.specs.Rounds.{leftBy, callsBy, callsIn, isRepair, DeedsAreCalls, LeavesSoonInMemory, DoorToDoorInMemory, NobodyStarvesInRoundsInMemory}
+use Rattle.memory.specs.Rounds.{roundOn, roundCalls, RoundIsCalls}
+use Rattle.memory.specs.Rounds.{LeavesSoonInMemory, DoorToDoorInMemory, NobodyStarvesInRoundsInMemory}
+use Rattle.memory.specs.Deeds.{LentDeed, lent-call, lent-round, lent-audit, lent-find, lent-repair, leftBy, callsBy, callsIn, isRepair, DeedsAreCalls}
 use Rattle.memory.proofs.Demands.{pictured-state, memory-faithful}
 use Rattle.memory.proofs.Rounds.{round-is-calls}
 

@@ -8,20 +8,11 @@ use Rattle.ledger.specs.Settings.{Settings}
 use Rattle.ledger.specs.Rules.{Rule, refuse, guard, Clear}
 use Rattle.ledger.specs.Ledger.{Ledger}
 use Rattle.ledger.specs.Calls.{Act, refused, rules, result}
-use Rattle.ledger.proofs.Answers.{number-inj}
 use Rattle.ledger.proofs.Steps.{cleared}
 use Rattle.layout.specs.Picture.{ledgerIn}
-use Rattle.ledger.specs.declared.Verdict.{Verdict}
-use Rattle.ledger.specs.declared.Verdict.the-variants.{Go, No}
-use Rattle.memory.specs.Judged.{good, bad, judgementOf, judged}
+use Rattle.memory.specs.Judged.{good, bad, judged}
 use Rattle.memory.specs.Writes.{write}
 use Rattle.memory.specs.Memory.{acted, refusedMem}
-
-pub judgement-inj : (a b : Verdict) → judgementOf a ≡ judgementOf b → a ≡ b
-judgement-inj Go Go e = refl
-judgement-inj Go (No s) e = cc
-judgement-inj (No r) Go e = cc
-judgement-inj (No r) (No s) e = cc (number-inj r s (cc))
 
 clear-of : (rs : List Rule) → guard rs bad good ≡ good → Clear rs
 clear-of [] e = tt

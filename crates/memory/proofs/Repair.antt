@@ -15,7 +15,7 @@ use Rattle.ledger.specs.Sound.{Roomy}
 use Rattle.ledger.specs.Calls.{Reply, refused, done}
 use Rattle.ledger.specs.Desk.{has}
 use Rattle.ledger.specs.Repair.{mended, restart, Restarted}
-use Rattle.ledger.proofs.Tests.{is-false, leb-yes, and-left, and-right}
+use Rattle.ledger.proofs.Tests.{is-false}
 use Rattle.ledger.proofs.Columns.{column-inj, change-other}
 use Rattle.ledger.proofs.Rows.{roomy}
 use Rattle.ledger.proofs.Repair.{mended-le, mended-twice, restarted, restart-map, restart-sound}
@@ -27,11 +27,11 @@ use Rattle.layout.proofs.Tables.{get-lt}
 use Rattle.memory.specs.Ends.{Tidy}
 use Rattle.memory.specs.Image.{fill, image, setupMem}
 use Rattle.memory.specs.Memory.{picture}
-use Rattle.memory.specs.Repair.{repairMem, repaired}
+use Rattle.memory.specs.Repair.{repairMem, repaired, Unmoved}
 use Rattle.memory.proofs.Chains.{table-ext, length-tabulate, state-tidy}
 use Rattle.memory.proofs.Paint.{Kept, kept-then, column-kept, column-paint}
 use Rattle.memory.proofs.Fill.{fill-get}
-use Rattle.memory.proofs.Picture.{picture-is}
+use Rattle.memory.proofs.Picture.{picture-is, opens-means}
 use Rattle.memory.proofs.Image.{setup-past, setup-length, setup-settings, setup-ledger, setup-state}
 
 -- ---- a column written anew, from its first number on
@@ -173,10 +173,10 @@ module _ (m : List ℕ) where
 
   module _ (e : opens m ≡ true) where
     rows : inRows S ≡ true
-    rows = and-left (inRows S) (leb (size S) (length m)) e
+    rows = opens-means m .0 e .0
 
     long : size S ≤ length m
-    long = leb-yes (size S) (length m) (and-right (inRows S) (leb (size S) (length m)) e)
+    long = opens-means m .0 e .1
 
     pub repair-picture : picture (repaired m .1) ≡ has S (restart S (ledgerIn S m .numbers mapped))
     repair-picture = rw (repair-done e) (repair-shows S rows m)
@@ -187,12 +187,6 @@ module _ (m : List ℕ) where
     -- and that ledger in words
     pub repair-restarts : Restarted S (ledgerIn S m .numbers mapped) (ledgerIn S (repaired m .1))
     repair-restarts = rw (repair-done e, repair-ledger S rows m) (restarted S (ledgerIn S m .numbers mapped))
-
--- what stays, done or refused: the settings, the memory's length, the bytes past the state
-pub record Unmoved (m m′ : List ℕ) : Type 0 where
-  pub settings : settingsIn m′ ≡ settingsIn m
-  pub same-length : length m′ ≡ length m
-  pub past : drop (size (settingsIn m)) m′ ≡ drop (size (settingsIn m)) m
 
 by-opening : (m : List ℕ) (P : Reply × List ℕ → Type 0) → (opens m ≡ true → P (done, repairMem (settingsIn m) m))
     → (opens m ≡ false → P (refused 3, m)) → P (repaired m)

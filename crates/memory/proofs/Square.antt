@@ -18,9 +18,10 @@ use Rattle.ledger.specs.Calls.{Act, arrive, stitch, prefetch, credit, mapTo, tu
 use Rattle.ledger.specs.Calls.{firstOf, arriving, arrived, served, serve, turned, rules, result, onRefusal, step}
 use Rattle.ledger.specs.Desk.{Desk, has, Call, setup, act, setupRules, desk}
 use Rattle.ledger.specs.Sound.{weigh, one, Proper, Orderly, Roomy}
+use Rattle.ledger.specs.Ledger.{Place·In}
 use Rattle.ledger.proofs.Promises.{result-given}
 use Rattle.ledger.proofs.Tests.{true≢false, leb-no, ltb-no, eqb-not, or-left, not-yes}
-use Rattle.ledger.proofs.Places.{Place·In, place#-lt, row-mod, column-lt, credit-none, credit-same, credit-in}
+use Rattle.ledger.proofs.Places.{place#-lt, row-mod, column-lt, credit-none, credit-same, credit-in}
 use Rattle.ledger.proofs.Header.{price-free}
 use Rattle.ledger.proofs.Keep.{some-queue, first-fits, first-node}
 use Rattle.ledger.proofs.Rows.{roomy}

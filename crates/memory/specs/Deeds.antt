@@ -1,27 +1,78 @@
 -- Paper 02, Q-11: demand 3, the order of queues, the pools and what is recorded, said of all that is done on a memory: calls, rounds,
 -- audits and findings, setting up anew and repairs excepted. And "After repair demand 3 counts afresh, as after setup". Assumes nothing.
 use mathlib.Core.Path.{_≡_}
-use mathlib.Core.Bool.{true}
-use mathlib.Core.List.{List, [], _∷_, _++_}
+use mathlib.Core.Bool.{Bool, true, false}
+use mathlib.Core.List.{List, [], _∷_, _++_, map}
 use Prim.Native.Nat.{ℕ, _+_, _-_, _*_, _≤_, _<_}
 use lib.ListN.{length, getD, take, drop}
 use Rattle.ledger.specs.Settings.{Settings}
-use Rattle.ledger.specs.Ledger.{Packet, Place, mapped, Ledger, start}
-use Rattle.ledger.specs.Calls.{turn, done, leaves, sideOf}
-use Rattle.ledger.specs.Desk.{has, setup, act, SetupsRefused}
+use Rattle.ledger.specs.Ledger.{Packet, Place, mapped, Ledger, start, Place·In}
+use Rattle.ledger.specs.Calls.{turn, done, leaves, isRefused, sideOf}
+use Rattle.ledger.specs.Desk.{has, Call, setup, act, afterCalls, SetupsRefused}
 use Rattle.ledger.specs.Demand.{Stands, InHand, turnsIn, ShowsWaiting, LeavesAmong}
 use Rattle.ledger.specs.Order.{KeepsOrder, GoesAlong}
 use Rattle.ledger.specs.Night.{PoolKept}
-use Rattle.ledger.specs.Rounds.{answerBytes}
-use Rattle.ledger.specs.Door.{atCall}
+use Rattle.ledger.specs.Rounds.{answerBytes, Deed, one, round, look, doneBy}
+use Rattle.ledger.specs.Door.{atCall, callsOf, doneFrom}
 use Rattle.ledger.specs.Repair.{restart}
-use Rattle.ledger.proofs.Places.{Place·In}
 use Rattle.layout.specs.Picture.{settingsIn, opens, ledgerIn}
 use Rattle.memory.specs.Memory.{picture, M}
 use Rattle.memory.specs.Demands.{onMemory}
 use Rattle.memory.specs.Repair.{repaired}
-use Rattle.memory.specs.Rounds.{roundOn, LentDeed, lent-call, lent-round, lent-audit, lent-find, lent-repair, afterDeeds}
-use Rattle.memory.specs.Rounds.{callsBy, callsIn, RepairsRefused}
+use Rattle.memory.specs.Rounds.{roundOn}
+
+-- ---- rounds, audits, findings and repairs among calls
+
+-- what is done on a memory: a call; a round, or an audit, into a room that is lent to it; a finding; a repair
+pub data LentDeed : Type 0 where
+  lent-call : Call → LentDeed
+  lent-round : List ℕ → LentDeed
+  lent-audit : List ℕ → LentDeed
+  lent-find : LentDeed
+  lent-repair : LentDeed
+
+-- a repair that is refused is a look; of one that stands this says nothing, and `RepairsRefused` leaves it out
+abbrev pub deedOf : LentDeed → Deed
+deedOf (lent-call c) = one c
+deedOf (lent-round room) = round (length room)
+deedOf (lent-audit room) = look
+deedOf lent-find = look
+deedOf lent-repair = look
+
+-- what is left of the memory, by the functions that the contracts name; an audit and a finding are lent it for reading alone
+abbrev pub leftBy : List ℕ → LentDeed → List ℕ
+leftBy m (lent-call c) = M c m .1
+leftBy m (lent-round room) = roundOn m room .1
+leftBy m (lent-audit room) = m
+leftBy m lent-find = m
+leftBy m lent-repair = repaired m .1
+
+abbrev pub afterDeeds : List ℕ → List LentDeed → List ℕ
+afterDeeds m [] = m
+afterDeeds m (d ∷ ds) = afterDeeds (leftBy m d) ds
+
+-- the calls that a deed is, one by one; and those of deeds one after another
+abbrev pub callsBy : List ℕ → LentDeed → List Call
+callsBy m d = doneBy (picture m) (deedOf d) .calls
+
+abbrev pub callsIn : List ℕ → List LentDeed → List Call
+callsIn m ds = callsOf (doneFrom onMemory picture m (map deedOf ds))
+
+abbrev pub isRepair : LentDeed → Bool
+isRepair (lent-call c) = false
+isRepair (lent-round room) = false
+isRepair (lent-audit room) = false
+isRepair lent-find = false
+isRepair lent-repair = true
+
+-- no repair stands: every repair among the deeds is refused, on the memory that it finds
+abbrev pub RepairsRefused : List ℕ → List LentDeed → Type 0
+RepairsRefused m [] = Unit {0}
+RepairsRefused m (d ∷ ds) = (isRepair d ≡ true → isRefused (repaired m .0) ≡ true) × RepairsRefused (leftBy m d) ds
+
+-- deeds leave the memory that their calls leave one by one; so what is promised of calls holds after deeds
+unfoldable pub DeedsAreCalls : Type 0
+DeedsAreCalls = (m : List ℕ) (ds : List LentDeed) → RepairsRefused m ds → afterDeeds m ds ≡ afterCalls onMemory m (callsIn m ds)
 
 -- "any calls but setup and repair": every setup among the deeds is refused, and every repair
 pub record Undisturbed (m : List ℕ) (ds : List LentDeed) : Type 0 where

@@ -1,22 +1,20 @@
 -- A round on memory: roundOn, the function that its contract names. The memory is tested once. That this is what the same calls leave and
 -- answer one by one is `round-is-calls` (proofs/Rounds.antt). Assumes nothing.
 use mathlib.Core.Path.{_≡_}
-use mathlib.Core.Bool.{Bool, true, false}
-use mathlib.Core.List.{List, [], _∷_, _++_, map}
+use mathlib.Core.List.{List, [], _∷_, _++_}
 use Prim.Native.Nat.{ℕ, _*_, _<_}
 use lib.ListN.{length, getD, take, drop}
 use Rattle.ledger.specs.Settings.{Settings}
 use Rattle.ledger.specs.Rules.{guard}
 use Rattle.ledger.specs.Ledger.{Ledger}
-use Rattle.ledger.specs.Calls.{Act, turn, ready, Reply, refused, done, isRefused}
+use Rattle.ledger.specs.Calls.{Act, turn, ready, Reply, refused, done}
 use Rattle.ledger.specs.Desk.{has, Call, act, afterCalls, answersOf}
-use Rattle.ledger.specs.Rounds.{stitches, prefetches, turns, roundActs, roundRules, roundReply, answersIn, Deed, one, round, look, doneBy}
+use Rattle.ledger.specs.Rounds.{stitches, prefetches, turns, roundActs, roundRules, roundReply, answersIn, round, doneBy}
 use Rattle.ledger.specs.Rounds.{turnAnswers, answerBytes}
-use Rattle.ledger.specs.Door.{callsOf, doneFrom, LeavesSoonFrom, DoorToDoorFrom, NobodyStarvesInRoundsFrom}
+use Rattle.ledger.specs.Door.{LeavesSoonFrom, DoorToDoorFrom, NobodyStarvesInRoundsFrom}
 use Rattle.layout.specs.Picture.{settingsIn, State}
 use Rattle.memory.specs.Memory.{state-dec, picture, acted, M}
 use Rattle.memory.specs.Demands.{onMemory}
-use Rattle.memory.specs.Repair.{repaired}
 
 -- acts one after another on a memory that is a switch state: what they leave, and their answers
 abbrev pub afterActs : Settings → List ℕ → List Act → List ℕ
@@ -64,59 +62,6 @@ unfoldable pub RoomTells : Type 0
 RoomTells =
     (m room : List ℕ) (j p : ℕ) → j < length (roundCalls m room) → getD (roundCalls m room) j (act (ready 0)) ≡ act (turn p)
     → take 4 (drop (4 * p) (roundOn m room .2)) ≡ answerBytes (M (act (turn p)) (afterCalls onMemory m (take j (roundCalls m room))) .0)
-
--- ---- rounds, audits, findings and repairs among calls
-
--- what is done on a memory: a call; a round, or an audit, into a room that is lent to it; a finding; a repair
-pub data LentDeed : Type 0 where
-  lent-call : Call → LentDeed
-  lent-round : List ℕ → LentDeed
-  lent-audit : List ℕ → LentDeed
-  lent-find : LentDeed
-  lent-repair : LentDeed
-
--- a repair that is refused is a look; of one that stands this says nothing, and `RepairsRefused` leaves it out
-abbrev pub deedOf : LentDeed → Deed
-deedOf (lent-call c) = one c
-deedOf (lent-round room) = round (length room)
-deedOf (lent-audit room) = look
-deedOf lent-find = look
-deedOf lent-repair = look
-
--- what is left of the memory, by the functions that the contracts name; an audit and a finding are lent it for reading alone
-abbrev pub leftBy : List ℕ → LentDeed → List ℕ
-leftBy m (lent-call c) = M c m .1
-leftBy m (lent-round room) = roundOn m room .1
-leftBy m (lent-audit room) = m
-leftBy m lent-find = m
-leftBy m lent-repair = repaired m .1
-
-abbrev pub afterDeeds : List ℕ → List LentDeed → List ℕ
-afterDeeds m [] = m
-afterDeeds m (d ∷ ds) = afterDeeds (leftBy m d) ds
-
--- the calls that a deed is, one by one; and those of deeds one after another
-abbrev pub callsBy : List ℕ → LentDeed → List Call
-callsBy m d = doneBy (picture m) (deedOf d) .calls
-
-abbrev pub callsIn : List ℕ → List LentDeed → List Call
-callsIn m ds = callsOf (doneFrom onMemory picture m (map deedOf ds))
-
-abbrev pub isRepair : LentDeed → Bool
-isRepair (lent-call c) = false
-isRepair (lent-round room) = false
-isRepair (lent-audit room) = false
-isRepair lent-find = false
-isRepair lent-repair = true
-
--- no repair stands: every repair among the deeds is refused, on the memory that it finds
-abbrev pub RepairsRefused : List ℕ → List LentDeed → Type 0
-RepairsRefused m [] = Unit {0}
-RepairsRefused m (d ∷ ds) = (isRepair d ≡ true → isRefused (repaired m .0) ≡ true) × RepairsRefused (leftBy m d) ds
-
--- deeds leave the memory that their calls leave one by one; so what is promised of calls holds after deeds
-unfoldable pub DeedsAreCalls : Type 0
-DeedsAreCalls = (m : List ℕ) (ds : List LentDeed) → RepairsRefused m ds → afterDeeds m ds ≡ afterCalls onMemory m (callsIn m ds)
 
 -- ---- from door to door, on any memory that is a switch state
 

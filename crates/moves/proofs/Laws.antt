@@ -5,11 +5,11 @@ use mathlib.Core.List.{List}
 use Prim.Native.Nat.{ℕ, _≤_, _<_}
 use native.Mathlib.Omega.{arith}
 use Rattle.ledger.specs.Settings.{Settings, ids}
-use Rattle.ledger.specs.Ledger.{isNode, Packet, ingress, egress, prefetched, place#, Ledger, mapOf, mapped}
+use Rattle.ledger.specs.Ledger.{isNode, Packet, ingress, egress, prefetched, place#, Ledger, mapOf, mapped, Place·In}
 use Rattle.ledger.specs.Calls.{entry, stitched, stitch, prefetch, stitchRecord, firstOf}
 use Rattle.ledger.specs.Sound.{Roomy}
 use Rattle.ledger.proofs.Tests.{leb-is, leb-not, leb-no}
-use Rattle.ledger.proofs.Places.{Place·In, place#-lt}
+use Rattle.ledger.proofs.Places.{place#-lt}
 use Rattle.ledger.proofs.Keep.{Fits, first-fits}
 use Rattle.ledger.proofs.Rows.{roomy}
 use Rattle.layout.specs.declared.Table.the-variants.{Count}

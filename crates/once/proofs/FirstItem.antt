@@ -19,8 +19,9 @@ use Rattle.ledger.proofs.Tests.{true≢false, ltb-yes, ltb-no}
 use Rattle.layout.specs.Tables.{lists, all}
 use Rattle.layout.specs.Picture.{nodesOf, tabulate, ledgerIn, Hangs}
 use Rattle.memory.proofs.Chains.{times, shown}
+use Rattle.memory.proofs.Audit.{node-at}
 use Rattle.once.specs.Once.{markAll, right, unmarked, scan, onceFound}
-use Rattle.once.proofs.Means.{length-all, seen, seen-node, node-at, all-adds, all-new, stands, stands-more, right-says, right-is, clear, stands-all}
+use Rattle.once.proofs.Means.{length-all, seen, seen-node, all-adds, all-new, stands, stands-more, right-says, right-is, clear, stands-all}
 
 -- ---- the first mark that is not set
 
@@ -124,8 +125,8 @@ module _
         let n = node-at S R j h in
         omega (
           arith,
-          ap (λ (i : ℕ). getD ms i 0) (n .1),
-          seen-node S ms (nodeAt S j) (n .0),
+          ap (λ (i : ℕ). getD ms i 0) (n .slot-is),
+          seen-node S ms (nodeAt S j) (n .node),
           w .count (nodeAt S j),
           stands-all S m (nodeAt S j),
         )

@@ -2,26 +2,27 @@
 use mathlib.Core.Path.{_≡_, refl, sym, ap, _∙_}
 use mathlib.Core.Bool.{Bool, true, false, cond}
 use mathlib.Core.List.{List, [], _∷_, map}
-use Prim.Native.Nat.{ℕ, zero, suc, _+_, _/_, _%_, _≤_, _<_}
-use native.Mathlib.Nat.{not-suc-le-zero, le-of-suc-le-suc, div-add-mod', div-lt-iff-lt-mul, mod-lt}
+use Prim.Native.Nat.{ℕ, zero, suc, _+_, _≤_, _<_}
+use native.Mathlib.Nat.{not-suc-le-zero, le-of-suc-le-suc}
 use native.Mathlib.Decide.{ℕ-discrete}
 use native.Mathlib.Omega.{arith}
 use lib.ListN.{length, getD, set, replicate, length-replicate}
 use lib.Seq.{getD-set-same, getD-set-other}
 use lib.Dec.{eqb, ltb}
 use Rattle.ledger.specs.Settings.{Settings, size}
-use Rattle.ledger.specs.Ledger.{owner, index, isNode}
+use Rattle.ledger.specs.Ledger.{isNode}
 use Rattle.ledger.specs.Audit.{nodeAt}
 use Rattle.ledger.specs.Ready.{bit}
 use Rattle.ledger.specs.Sound.{sum, weigh, one, Once, Roomy}
 use Rattle.ledger.specs.declared.Finding.{Finding}
 use Rattle.ledger.specs.declared.Finding.the-variants.{Whole, At}
 use Rattle.ledger.proofs.Tests.{ltb-yes, ltb-is, eqb-yes, eqb-is, and-left, and-right}
-use Rattle.ledger.proofs.Places.{row-div, row-mod, node-of, node-is}
+use Rattle.ledger.proofs.Places.{node-of, node-is}
 use Rattle.layout.specs.Tables.{lists, all}
 use Rattle.layout.specs.Picture.{slot, nodesOf, nodeIn, tabulate, ledgerIn, Hangs}
 use Rattle.layout.proofs.Tables.{zeros}
 use Rattle.memory.specs.Ends.{Tidy}
+use Rattle.memory.proofs.Audit.{node-at}
 use Rattle.memory.proofs.Chains.{times, bit-same, bit-other, item-node, shown, slot-lt, slot-inj}
 use Rattle.once.specs.Once.{isNew, mark, allNew, markAll, ends, right, unmarked, scan, onceFound}
 use Rattle.once.proofs.Marks.{length-mark, New, new, new-is}
@@ -61,17 +62,6 @@ module _ (S : Settings) where
   seen-none : (ms : List ℕ) (y : ℕ) → isNode S y ≡ false → seen ms y ≡ 0
   unfolding seen
   seen-none ms y e = rw e
-
-  -- every mark is a node's
-  pub node-at : Roomy S → (i : ℕ) → i < all S → (isNode S (nodeAt S i) ≡ true) × (slot S (nodeAt S i) ≡ i)
-  unfolding slot
-  node-at R i h =
-      let pos : 0 < S .nodes = omega (arith, R .some-nodes) in
-      let p : i / S .nodes < S .ports = div-lt-iff-lt-mul pos .1 h in
-      let r : i % S .nodes < S .nodes = mod-lt i pos in
-      let o : owner (nodeAt S i) ≡ i / S .nodes = row-div 2048 (i / S .nodes) (i % S .nodes) (omega (arith, R .few-nodes)) in
-      let x : index (nodeAt S i) ≡ i % S .nodes = row-mod 2048 (i / S .nodes) (i % S .nodes) (omega (arith, R .few-nodes)) in
-      (node-is S (nodeAt S i) (record { home = rw o p; low = rw x r }), rw (o, x) (div-add-mod' i (S .nodes)))
 
   -- ---- nodes that are met in turn
 
@@ -153,8 +143,8 @@ module _ (S : Settings) (m : List ℕ) where
   each-marked R ms c i k =
       let f = node-at S R i k in
       let y : ℕ = nodeAt S i in
-      let h : 1 ≤ getD ms (slot S y) 0 = omega (arith, c y, ap bit (f .0), seen-node S ms y (f .0)) in
-      rw (f .1) at h
+      let h : 1 ≤ getD ms (slot S y) 0 = omega (arith, c y, ap bit (f .node), seen-node S ms y (f .node)) in
+      rw (f .slot-is) at h
 
   -- a scan that finds nothing: the lists hang together, and each node was met once
   scan-says : (n l : ℕ) (ms : List ℕ) → length ms ≡ all S → ((y : ℕ) → seen S ms y ≤ bit (isNode S y)) → scan S m ms l n ≡ Whole

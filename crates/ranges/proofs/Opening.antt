@@ -5,14 +5,14 @@ use mathlib.Core.List.{List}
 use Prim.Native.Nat.{ℕ, _≤_, _<_}
 use native.Mathlib.Omega.{arith}
 use lib.ListN.{length}
-use lib.Dec.{leb}
 use Rattle.ledger.specs.Settings.{Settings, inRows, firstOut, size}
 use Rattle.ledger.specs.Sound.{Roomy}
-use Rattle.ledger.proofs.Tests.{leb-yes, leb-is, leb-not, ltb-is, ltb-not, eqb-not, and-left, and-right}
+use Rattle.ledger.proofs.Tests.{leb-is, leb-not, ltb-is, ltb-not, eqb-not}
 use Rattle.ledger.proofs.Rows.{roomy, rows-out}
 use Rattle.layout.specs.declared.Shape.{Shape}
 use Rattle.layout.specs.Tables.{settingsOf, Laid}
 use Rattle.layout.specs.Picture.{settingsIn, opens}
+use Rattle.memory.proofs.Picture.{opens-means}
 use Rattle.ranges.specs.declared.Opened.the-variants.{Fine, Wrong}
 use Rattle.ranges.specs.Opening.{shapeFor, outAt, opened, Open}
 use Rattle.ranges.specs.Ranges.{Held}
@@ -74,11 +74,6 @@ module _ (m : List ℕ) where
   unfolding opened
   opened-is e h = rw (e, leb-is (size (settingsIn m)) (length m) h)
 
-  pub opens-means : opens m ≡ true → (inRows (settingsIn m) ≡ true) × (size (settingsIn m) ≤ length m)
-  opens-means t =
-      let S = settingsIn m in
-      (and-left (inRows S) (leb (size S) (length m)) t, leb-yes (size S) (length m) (and-right (inRows S) _ t))
-
   pub opened-fine : (s : Shape) → opened m ≡ Fine s → Open m s
   unfolding opened
   opened-fine s = go (opens m) refl
@@ -86,7 +81,7 @@ module _ (m : List ℕ) where
       go : (b : Bool) → opens m ≡ b → cond b (Fine (shapeFor (settingsIn m))) (Wrong (outAt m)) ≡ Fine s → Open m s
       go true t e =
           let p : shapeFor (settingsIn m) ≡ s = cc in
-          let r = opens-means t in
+          let r = opens-means m .0 t in
           subst (Open m) p
           (record { laid = laid-for (settingsIn m) (roomy (settingsIn m) (r .0)); settings-are = refl; rows = r .0; long = r .1 })
       go false t e = absurd (let z : _≡_ {A = ℕ} 0 1 = cc in omega arith)
@@ -100,7 +95,7 @@ module _ (m : List ℕ) where
       go false t e = let p : outAt m ≡ i = cc in (t, p)
 
 pub open-opens : {m : List ℕ} {s : Shape} → Open m s → opens m ≡ true
-open-opens {m} o = rw (o .rows, leb-is (size (settingsIn m)) (length m) (o .long))
+open-opens {m} o = opens-means m .1 (o .rows, o .long)
 
 -- what the other rules ask
 pub open-held : {m : List ℕ} {s : Shape} → Open m s → Held s m

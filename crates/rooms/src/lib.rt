@@ -14,10 +14,10 @@ use ledger::Whereabouts;
 ghost use mathlib.Core.Path.{_≡_};
 ghost use Prim.Native.Nat.{ℕ};
 ghost use Rattle.ledger.specs.Answers.{numberOf, kindOf, exitOf, sentOf, plainReply, stitchReply, entryReply, turnReply, readyReply, whereReply};
-ghost use Rattle.ledger.specs.Ledger.{portOf};
+ghost use Rattle.ledger.specs.Ledger.{portOf, kindIn, queueIn};
 ghost use Rattle.rooms.specs.Rooms.{numberIn, entryRoom, recordRoom, sideByte, sentBytes, sentRoom, readyRoom};
 ghost use Rattle.rooms.specs.Rooms.{ruleNumber, itemNumber, foundNumbers};
-ghost use Rattle.ledger.specs.Audit.{kindByte, queueByte, placeBytes, placeRoom};
+ghost use Rattle.ledger.specs.Audit.{placeBytes, placeRoom};
 
 fn refusal(no: Refusal) -> u32
     ensures { λ r. ⌜ r ≡ numberOf no ⌝ }
@@ -128,7 +128,7 @@ pub fn put_ready(answer: Readiness, word: &mut u64, count: &mut u32) -> u32
 }
 
 fn kind_byte(list: ListKind) -> u8
-    ensures { λ r. ⌜ r ≡ kindByte (kindOf list) ⌝ }
+    ensures { λ r. ⌜ r ≡ kindIn (kindOf list) ⌝ }
 {
     match list {
         ListKind::Free { port: _ } => 0,
@@ -150,7 +150,7 @@ fn port_byte(list: ListKind) -> u8
 }
 
 fn queue_byte(list: ListKind) -> u8
-    ensures { λ r. ⌜ r ≡ queueByte (kindOf list) ⌝ }
+    ensures { λ r. ⌜ r ≡ queueIn (kindOf list) ⌝ }
 {
     match list {
         ListKind::Free { port: _ } => 0,
