@@ -33,5 +33,5 @@ unfolding ones number store isBeat inRows row size price isNode place# cell cred
     nodesBroken openBroken brokenIn
 packets-hold = (refl, (refl, (refl, (refl, (refl, tt)))))
 
-pub cards-hold : All Holds cards
-cards-hold = All-append Holds tables packets tables-hold packets-hold
+pub finding-cards-hold : All Holds cards
+finding-cards-hold = All-append Holds tables packets tables-hold packets-hold

@@ -36,12 +36,12 @@ use Rattle.findings.proofs.Shows.{room, item-shows}
 letterAt : ℕ → Letter
 letterAt n = getD (rule-a ∷ rule-a ∷ rule-b ∷ rule-c ∷ rule-d ∷ rule-e ∷ rule-f ∷ rule-g ∷ []) n rule-a
 
-record Numbered (r : Letter) : Type 0 where
-  low : 1 ≤ letter# r
+pub record Numbered (r : Letter) : Type 0 where
+  pub low : 1 ≤ letter# r
   high : letter# r ≤ 7
   back : letterAt (letter# r) ≡ r
 
-numbered : (r : Letter) → Numbered r
+pub numbered : (r : Letter) → Numbered r
 unfolding letterAt
 numbered rule-a = record { low = omega arith; high = omega arith; back = refl }
 numbered rule-b = record { low = omega arith; high = omega arith; back = refl }
@@ -51,7 +51,7 @@ numbered rule-e = record { low = omega arith; high = omega arith; back = refl }
 numbered rule-f = record { low = omega arith; high = omega arith; back = refl }
 numbered rule-g = record { low = omega arith; high = omega arith; back = refl }
 
-letter-one : (q r : Letter) → letter# q ≡ letter# r → q ≡ r
+pub letter-one : (q r : Letter) → letter# q ≡ letter# r → q ≡ r
 letter-one q r e = sym (numbered q .back) ∙ ap letterAt e ∙ numbered r .back
 
 module _ (m : List ℕ) where
@@ -142,13 +142,17 @@ module _ (m : List ℕ) where
 
   -- ---- what is found means what the definition says
 
+  -- (a) is found where the memory does not open
+  a-first : opens m ≡ false → Finds rule-a (outAt m) m
+  a-first e = record { before = none-before; broken = λ h. true≢false (sym h ∙ e); first = setting-first m e }
+
   pub finding-means : Means (brokenIn m) m
   unfolding brokenIn
   finding-means = go (opens m) refl
     where
       go : (b : Bool) → opens m ≡ b → Means (cond b (openBroken (settingsIn m) m) (A (outAt m))) m
       go true e = from-b e (one-more rule-a none-before e)
-      go false e = record { before = none-before; broken = λ h. true≢false (sym h ∙ e); first = setting-first m e }
+      go false e = a-first e
 
   -- ---- and the words leave no choice
 
@@ -208,6 +212,9 @@ module _ (m : List ℕ) where
 
   pub finding-only : (b : Broken) → Means b m → b ≡ brokenIn m
   finding-only b w = means-one b (brokenIn m) w finding-means
+
+  pub finding-a : opens m ≡ false → brokenIn m ≡ A (outAt m)
+  finding-a e = sym (finding-only (A (outAt m)) (a-first e))
 
   pub finding-none : (brokenIn m ≡ Nothing) ↔ State m
   finding-none = (λ e. subst (λ (b : Broken). Means b m) e finding-means, λ s. sym (finding-only Nothing s))

@@ -3,22 +3,24 @@ use mathlib.Core.Path.{_≡_, refl, sym, ap, subst, _∙_}
 use mathlib.Core.Logic.{_↔_}
 use mathlib.Core.Bool.{Bool, true, false, cond}
 use mathlib.Core.List.{List, [], _∷_, _++_, map, map-append}
-use Prim.Native.Nat.{ℕ, _+_, _-_, _*_, _≤_, _<_}
+use Prim.Native.Nat.{ℕ, zero, suc, _+_, _-_, _*_, _≤_, _<_}
 use native.Mathlib.Decide.{decLt}
 use native.Mathlib.Omega.{arith}
 use lib.ListN.{length, getD}
 use lib.Dec.{ltb}
+use Rattle.numbers.specs.Bytes.{number}
 use Rattle.ledger.specs.declared.Finding.{Finding}
 use Rattle.ledger.specs.declared.Finding.the-variants.{Whole, At}
 use Rattle.ledger.specs.Settings.{Settings, settingCount, inRow, inRows, firstOut, ids, size}
 use Rattle.ledger.specs.Ledger.{Packet, placeOf}
 use Rattle.ledger.specs.Sound.{All, weigh, one, Roomy}
 use Rattle.ledger.specs.Audit.{nodeAt}
-use Rattle.ledger.proofs.Tests.{true≢false, ltb-yes, ltb-no, leb-is, eqb-is}
+use Rattle.ledger.proofs.Tests.{true≢false, ltb-yes, ltb-no, eqb-is}
 use Rattle.ledger.proofs.Rows.{rows-out}
 use Rattle.layout.specs.Tables.{cells, lists, all}
 use Rattle.layout.specs.Picture.{settingsIn, opens, nodeIn, ledgerIn}
 use Rattle.memory.proofs.Chains.{item-node, length-lists, list-at}
+use Rattle.memory.proofs.Picture.{opens-means}
 use Rattle.ranges.specs.First.{first}
 use Rattle.ranges.specs.Opening.{outAt}
 use Rattle.ranges.specs.Ranges.{items, fitsAt, rangesFound}
@@ -32,10 +34,22 @@ use Rattle.fits.proofs.Means.{NodeHolds}
 use Rattle.fits.proofs.FirstItem.{fits-first}
 use Rattle.paid.specs.Paid.{sumsOf, settledAt, dueFound, paidFound}
 use Rattle.paid.specs.Passes.{Payable}
-use Rattle.paid.proofs.FirstItem.{cell-means}
+use Rattle.paid.proofs.Owing.{cell-means}
 use Rattle.findings.specs.Findings.{SettingRight, RangeRight, ListRight, CellRight, FirstOf, FirstNode}
 
 -- ---- (a)
+
+-- setting i is the number in bytes 2 * i and 2 * i + 1: whether it is in its row, these tell
+pub setting-by-its-bytes : (m m′ : List ℕ) (i : ℕ) → i < settingCount → number 2 m (2 * i) ≡ number 2 m′ (2 * i)
+    → inRow (settingsIn m) i ≡ inRow (settingsIn m′) i
+unfolding settingsIn
+setting-by-its-bytes m m′ zero h e = rw e
+setting-by-its-bytes m m′ (suc zero) h e = rw e
+setting-by-its-bytes m m′ (suc (suc zero)) h e = rw e
+setting-by-its-bytes m m′ (suc (suc (suc zero))) h e = rw e
+setting-by-its-bytes m m′ (suc (suc (suc (suc zero)))) h e = rw e
+setting-by-its-bytes m m′ (suc (suc (suc (suc (suc zero))))) h e = rw e
+setting-by-its-bytes m m′ (suc (suc (suc (suc (suc (suc i)))))) h e = absurd (omega arith)
 
 size-most : (S : Settings) → 2 * settingCount ≤ size S
 unfolding size
@@ -46,8 +60,7 @@ module _ (m : List ℕ) (shut : opens m ≡ false) where
   too-short : firstOut (settingsIn m) ≡ settingCount → size (settingsIn m) ≤ length m → ⊥
   too-short e h =
       let r : inRows (settingsIn m) ≡ true = rows-out (settingsIn m) ∙ eqb-is _ _ e in
-      let o : opens m ≡ true = rw (r, leb-is (size (settingsIn m)) (length m) h) in
-      true≢false (sym o ∙ shut)
+      true≢false (sym (opens-means m .1 (r, h)) ∙ shut)
 
   pub setting-first : FirstOf (SettingRight m) (1 + settingCount) (outAt m)
   unfolding outAt

@@ -64,7 +64,7 @@ pub record LeavesAmong {X : Type 0} (call : X → Call → Reply × X) (shows : 
 
 -- Nobody starves from here on, where x shows the ledger L: a packet of a port below P and a queue below Q, in the prefetch slots behind
 -- `ahead` and with credit in hand for all of these, leaves by turn Q × (length ahead + 1) of its port, whatever calls come, accepted or
--- refused, setting up anew excepted.
+-- refused, setting up anew excepted. (A repair is none of these calls: it begins a ledger anew, as a setup does.)
 abbrev pub NobodyStarvesFrom : {X : Type 0} → (X → Call → Reply × X) → (X → Desk) → Settings → Ledger → ℕ → ℕ → X → Type 0
 NobodyStarvesFrom call shows S L P Q x =
     (p q : ℕ) → p < P → q < Q

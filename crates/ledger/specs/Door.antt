@@ -119,7 +119,7 @@ module _ {X : Type 0} (call : X → Call → Reply × X) (shows : X → Desk) wh
     pub between : (i : ℕ) → t < i → i ≤ moment → ShowsLine S p q k (atCall x (callsOf ds) i)
 
   -- Where x shows the ledger L. "A packet with s ahead of it in ingress is stitched by round s + 1", whatever is done, setting up anew
-  -- excepted.
+  -- and repairs excepted.
   abbrev pub StitchedSoonFrom : Settings → Ledger → X → Type 0
   StitchedSoonFrom S L x =
       (r : ℕ) → r < S .ports

@@ -14,7 +14,8 @@ use Rattle.memory.specs.Memory.{picture, M}
 abbrev pub onMemory : List ℕ → Call → Reply × List ℕ
 onMemory m c = M c m
 
--- nobody starves, on any memory that is a switch state, whatever calls come, setting up anew excepted: by turn queues × (k + 1)
+-- nobody starves, on any memory that is a switch state, whatever calls come, setting up anew and repairs excepted: by turn
+-- queues × (k + 1)
 unfoldable pub NobodyStarvesInMemory : Type 0
 NobodyStarvesInMemory =
     (m : List ℕ) (S : Settings) (L : Ledger) → picture m ≡ has S L → NobodyStarvesFrom onMemory picture S L (S .ports) (S .queues) m

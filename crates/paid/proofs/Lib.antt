@@ -1,4 +1,3 @@
 pub mod Adding
 pub mod Passing
 pub mod Owing
-pub mod FirstItem

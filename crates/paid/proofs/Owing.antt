@@ -128,35 +128,46 @@ module _ (S : Settings) (m : List ℕ) (p q : ℕ) (hp : p < S .ports) (some : 0
 
 -- ---- rule (g)
 
--- as `Orderly` says it
+-- as `Orderly` says it: of a port and a queue, and of all
+abbrev pub Paid : Settings → List ℕ → ℕ → ℕ → Type 0
+Paid S m p q = arrivalOf S (ledgerIn S m) p q + weigh (owed S p q) (ledgerIn S m .lists) ≡ S .credit
+
 abbrev pub AllPaid : Settings → List ℕ → Type 0
-AllPaid S m = (p q : ℕ) → p < S .ports → 0 < q → q < S .queues → arrivalOf S (ledgerIn S m) p q + weigh (owed S p q) (ledgerIn S m .lists) ≡ S .credit
+AllPaid S m = (p q : ℕ) → p < S .ports → 0 < q → q < S .queues → Paid S m p q
 
 module _ (S : Settings) (m : List ℕ) (R : Roomy S) (P : Payable S m) where
   -- what is said of port p and queue r + 1 is what is tested at its cell
-  pub at-cell : (p r : ℕ) → p < S .ports → suc r < S .queues
+  at-cell : (p r : ℕ) → p < S .ports → suc r < S .queues
       → arrivalOf S (ledgerIn S m) p (suc r) + weigh (owed S p (suc r)) (ledgerIn S m .lists) ≡ get S m Arrival (cell S p r) + getD (sumsOf S m) (cell S p r) 0
   unfolding creditAt ledgerIn
   at-cell p r hp hr =
       omega (arith, getD-table (get S m Arrival) (cells S) (cell S p r) 0 (cell-lt S p r hp hr), sums-owe S m p (suc r) hp (omega arith) hr P)
 
-  settled-cell : (c : ℕ) → c < cells S → ((p r : ℕ) → p < S .ports → suc r < S .queues → settledAt S m (sumsOf S m) (cell S p r) ≡ true)
-      → settledAt S m (sumsOf S m) c ≡ true
-  unfolding cell
-  settled-cell c h each =
-      let wide : 0 < S .queues - 1 = omega arith in
+  -- a cell that passes is rule (g) of its port and queue
+  pub cell-means : (c : ℕ) → c < cells S
+      → (settledAt S m (sumsOf S m) c ≡ true)
+      ↔ Paid S m (c / (S .queues - 1)) (suc (c % (S .queues - 1)))
+  unfolding settledAt cell
+  cell-means c h =
+      let wide : 0 < S .queues - 1 = omega (arith, R .some-queues) in
       let low : c % (S .queues - 1) < S .queues - 1 = mod-lt c wide in
-      rw (div-add-mod' c (S .queues - 1)) at (each (c / (S .queues - 1)) (c % (S .queues - 1)) (div-lt-iff-lt-mul wide .1 h) (omega arith))
+      let w = at-cell (c / (S .queues - 1)) (c % (S .queues - 1)) (div-lt-iff-lt-mul wide .1 h) (omega arith) in
+      let at : cell S (c / (S .queues - 1)) (c % (S .queues - 1)) ≡ c = div-add-mod' c (S .queues - 1) in
+      let e = w ∙ ap (λ (k : ℕ). get S m Arrival k + getD (sumsOf S m) k 0) at in
+      (λ t. e ∙ eqb-yes _ _ t, λ l. eqb-is _ _ (sym e ∙ l))
 
   pub paid-means : (paidFound S m ≡ Whole) ↔ AllPaid S m
   unfolding dueFound settledAt
   paid-means =
       let f = first-all (settledAt S m (sumsOf S m)) (cells S) in
-      (λ e. means (f .0 e), λ h. f .1 (λ c k. settled-cell c k (holds h)))
+      (λ e. means (f .0 e), λ h. f .1 (λ c k. cell-means c k .1 (holds h c k)))
     where
       means : ((c : ℕ) → c < cells S → settledAt S m (sumsOf S m) c ≡ true) → AllPaid S m
       means h p zero hp some hq = absurd (omega arith)
       means h p (suc r) hp some hq = at-cell p r hp hq ∙ eqb-yes _ _ (h (cell S p r) (cell-lt S p r hp hq))
 
-      holds : AllPaid S m → (p r : ℕ) → p < S .ports → suc r < S .queues → settledAt S m (sumsOf S m) (cell S p r) ≡ true
-      holds h p r hp hr = eqb-is _ _ (sym (at-cell p r hp hr) ∙ h p (suc r) hp (omega arith) hr)
+      holds : AllPaid S m → (c : ℕ) → c < cells S → Paid S m (c / (S .queues - 1)) (suc (c % (S .queues - 1)))
+      holds h c k =
+          let wide : 0 < S .queues - 1 = omega (arith, R .some-queues) in
+          let low : c % (S .queues - 1) < S .queues - 1 = mod-lt c wide in
+          h (c / (S .queues - 1)) (suc (c % (S .queues - 1))) (div-lt-iff-lt-mul wide .1 k) (omega arith) (omega arith)

@@ -1,5 +1,5 @@
--- Sums by their cells, where adding up stands at a list, and how large all sums become. Assumes nothing.
-use mathlib.Core.Path.{_≡_, refl}
+-- Sums by their cells, and how large all sums become. Assumes nothing.
+use mathlib.Core.Path.{_≡_}
 use mathlib.Core.List.{List}
 use Prim.Native.Nat.{ℕ, zero, suc, _+_, _-_, _*_, _≤_, _<_}
 use native.Mathlib.Numerals.{add-one}
@@ -33,21 +33,13 @@ module _ (S : Settings) where
   pub cell-in : (sums : List ℕ) (p q b : ℕ) → Sums S sums b → p < S .ports → 0 < q → q < S .queues → cell S p (q - 1) < length sums
   cell-in sums p q b s hp some hq = omega (arith, s .many, cell-lt S p (q - 1) hp (omega arith))
 
--- ---- the lists
-
-pub record Listing (S : Settings) (m sums : List ℕ) (l : ℕ) : Type 0 where
-  pub low : l ≤ lists S
-  pub rest : addFrom S m sums l (lists S - l) ≡ sumsOf S m
-  pub held : Sums S sums (listMost * l)
+-- ---- all sums
 
 module _ (S : Settings) (m : List ℕ) where
-  pub list-start : (sums : List ℕ) → sums ≡ replicate (cells S) 0 → Listing S m sums 0
+  -- they start at nothing
+  pub none-added : (sums : List ℕ) → sums ≡ replicate (cells S) 0 → addFrom S m sums 0 (lists S - 0) ≡ sumsOf S m
   unfolding sumsOf
-  list-start sums e =
-      let k : lists S - 0 ≡ lists S = omega arith in
-      record { low = omega arith; rest = rw (e, k) refl; held = rw e (sums-more S (replicate (cells S) 0) 0 (listMost * 0) (omega arith) (zero-sums S)) }
-
-  -- ---- all sums
+  none-added sums e = let k : lists S - 0 ≡ lists S = omega arith in rw (e, k)
 
   from-sums : Payable S m → Roomy S → (n l : ℕ) (sums : List ℕ) → l + n ≤ lists S → Sums S sums (listMost * l)
       → Sums S (addFrom S m sums l n) (listMost * (l + n))

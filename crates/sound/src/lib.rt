@@ -122,7 +122,7 @@ pub fn test(m: &[u8]) -> Tested
     Tested::NoState
 }
 
-// Rules (d) to (f), each by a walk from the lists of the port at which the one walk stuck: before them nothing breaks these rules.
+// Rules (d) to (f), each by a walk from the lists of the port at which the one walk stuck: what they find from there on is what they find.
 fn nodes_broken(m: &[u8], s: Shape, port: usize) -> Broken
     requires { ⌜ Tied s (now m) port ⌝ }
     ensures { λ r. ⌜ r ≡ nodesBroken (settingsOf s) (now (m .entry)) ⌝ }

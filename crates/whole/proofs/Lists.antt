@@ -6,7 +6,7 @@ use Prim.Native.Nat.{ℕ, suc, _+_, _-_, _*_, _/_, _%_, _≤_, _<_}
 use native.Mathlib.Numerals.{add-one}
 use native.Mathlib.Omega.{arith}
 use borrow.Author.Count.{below-more}
-use lib.ListN.{length}
+use lib.ListN.{length, replicate}
 use Rattle.ledger.specs.declared.Finding.{Finding}
 use Rattle.ledger.specs.declared.Finding.the-variants.{Whole, At}
 use Rattle.ledger.specs.Settings.{Settings, row, size}
@@ -14,7 +14,7 @@ use Rattle.ledger.proofs.Tests.{true≢false}
 use Rattle.ledger.proofs.Places.{row-lt, row-div, row-mod}
 use Rattle.layout.specs.declared.Shape.{Shape}
 use Rattle.layout.specs.declared.Table.the-variants.{Count}
-use Rattle.layout.specs.Tables.{lists, all, get, settingsOf}
+use Rattle.layout.specs.Tables.{cells, lists, all, get, settingsOf}
 use Rattle.layout.specs.Picture.{nodesOf}
 use Rattle.once.specs.Once.{markAll, right, onceFound}
 use Rattle.once.proofs.Walk.{scan-start, scan-no, scan-yes, scan-end}
@@ -26,8 +26,8 @@ use Rattle.fits.proofs.Walk.{fits-start, fits-end, fits-stop, fits-next}
 use Rattle.fits.proofs.Means.{none, fits-means}
 use Rattle.paid.specs.Paid.{addList, addFrom, sumsOf}
 use Rattle.paid.specs.Passes.{Sums, Payable}
-use Rattle.paid.proofs.Adding.{sums-more}
-use Rattle.paid.proofs.Passing.{list-start}
+use Rattle.paid.proofs.Adding.{sums-more, zero-sums}
+use Rattle.paid.proofs.Passing.{none-added}
 use Rattle.ranges.specs.Ranges.{fewIn}
 use Rattle.whole.specs.Whole.{ListKept, Listed}
 use Rattle.whole.specs.Walks.{countMost, setMarks, AtList, AllLent, ListPassed}
@@ -36,14 +36,13 @@ use Rattle.whole.proofs.SetMarks.{set-none, set-all, all-set, list-more
 pub lists-start : {s : Shape} {m ms sums : List ℕ} {l : ℕ} → AllLent s m ms sums → l ≡ 0 → AtList (settingsOf s) m ms sums l 0
 lists-start {s} {m} {ms} {sums} a e =
     let S = settingsOf s in
-    let w = list-start S m sums (a .zeros) in
     rw e (record {
       scan = scan-start S m ms (a .clear);
       met = ap setMarks (a .clear) ∙ set-none (all S);
       slots = λ i h. absurd (omega arith);
       fits = λ rule. fits-start rule S m;
-      add = w .rest;
-      held = sums-more S sums _ (countMost * 0) (omega arith) (w .held);
+      add = none-added S m sums (a .zeros);
+      held = rw (a .zeros) (sums-more S (replicate (cells S) 0) 0 (countMost * 0) (omega arith) (zero-sums S));
     })
 
 -- ---- the place of a list, which is port p's column c, where a port has r lists

@@ -32,7 +32,7 @@ pub record Listed (S : Settings) (m : List ℕ) : Type 0 where
   pub once : onceFound S m ≡ Whole
   pub fits : (rule : NodeRule) → fitsFound rule S m ≡ Whole
 
--- (d) to (f) find nothing in the lists of the ports before p
+-- what (d) to (f) find from the lists of port p on is what they find
 pub record FitsUpTo (S : Settings) (m : List ℕ) (p : ℕ) : Type 0 where
   pub most : p ≤ S .ports
   pub rest : (rule : NodeRule) → fitsFrom rule S m (p * row S) (lists S - p * row S) ≡ fitsFound rule S m

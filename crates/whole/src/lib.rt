@@ -9,8 +9,8 @@ ghost use Rattle.layout.specs.Tables.{settingsOf};
 ghost use Rattle.whole.specs.Whole.{Tells};
 ghost use Rattle.whole.specs.Walks.{ListLent, PortLent, AllLent, ListPassed, PortPassed};
 
-// What the walk tells: every rule is kept; or one before (g) is broken, and (d) to (f) are kept in the lists of the ports before this one;
-// or (g) alone is broken, first at this cell.
+// What the walk tells: every rule is kept; or one before (g) is broken, and what (d) to (f) find from this port's lists on is what they
+// find; or (g) alone is broken, first at this cell.
 pub enum Walk {
     Kept,
     Stuck(usize),

@@ -81,7 +81,7 @@ due c =
     let a = start (told-at c) .args in
     c .first-due .ensures ∙ ap (dueFound (settingsOf (a .s)) (a .m .now)) (sums-are (c .before .before))
 
--- (d) to (f) find nothing in the lists before
+-- what (d) to (f) find from here on is what they find
 up-to : (c : tie.At-loop Inv-loop μ-loop) → FitsUpTo (settingsOf (begun c .args .s)) (begun c .args .m .now) (c .loop .port)
 up-to c = record { most = c .loop .inv .0; rest = c .loop .inv .1 .fits }
 
