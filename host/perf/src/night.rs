@@ -1,7 +1,7 @@
 //! The night crew's calls beside the test for a state, and beside a bare walk.
 
 use checks::finding;
-use checks::reader::{nodes_of, set_nodes, Tables, LISTS, LISTS_PER_PORT};
+use checks::reader::{nodes_of, set_nodes, slot, Tables, LISTS, LISTS_PER_PORT};
 use model::{PLACE_BYTES, PORTS, QUEUES};
 use ventorupo::calls;
 
@@ -120,7 +120,7 @@ fn last_packet(memory: &mut [u8], nodes: usize, ports: u32) -> usize {
         Tables::of(nodes).queue.set(memory, 0, QUEUES - 1);
         0
     });
-    entry as usize / 2048 * nodes + entry as usize % 2048
+    slot(entry, nodes)
 }
 
 /// Breaks rule (e) for a packet.
