@@ -123,7 +123,7 @@ fn huge_files() {
     let said = on("explain", &nothing);
     assert!(said
         .out
-        .starts_with("(a) setting ports: 0 is not in its row, 4\n"));
+        .starts_with("(a) setting ports: 0 is not in its row (4)\n"));
     assert_eq!((said.status, said.err.as_str()), (Some(1), ""));
 }
 

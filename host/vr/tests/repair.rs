@@ -55,6 +55,20 @@ fn what_is_kept_and_dropped() {
     assert_eq!(on("explain", &new).out, "a sound state\n");
 }
 
+/// One byte, one queue.
+#[test]
+fn one_of_something_is_said_so() {
+    let folder = Folder::new("repair-one");
+    let mut bytes = changed(&[(at::OUTWARD + 2 * 91, 2, 0)]);
+    bytes.push(7);
+    let (image, new) = (folder.file("image", &bytes), folder.path("new"));
+    let said = repair(&image, &new);
+    assert!(said.out.contains("\nkept: 1 byte past the state\n"));
+    assert!(said
+        .out
+        .contains("\ndropped: outward credit 100 (of 1 queue)\n"));
+}
+
 #[test]
 fn a_sound_state_is_emptied_too() {
     let folder = Folder::new("repair-sound");
