@@ -121,6 +121,8 @@ fn list(image: &Image, walk: &Walk) -> String {
             "queue",
             list.queue.map_or_else(null, |queue| queue.to_string()),
         ),
+        ("head", number(walk.head)),
+        ("tail", number(walk.tail)),
         ("count", number(walk.count)),
         ("wrong", text(wrong)),
         ("nodes", row(nodes)),
