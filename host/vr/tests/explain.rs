@@ -299,8 +299,18 @@ fn rules_in_their_order() {
 
 #[test]
 fn help_is_no_trouble() {
-    for word in ["help", "--help", "-h"] {
-        let said = vr(&[word]);
+    for line in [
+        "help",
+        "--help",
+        "-h",
+        "explain --help",
+        "dump --help",
+        "dump image --json -h",
+        "repair --help",
+    ] {
+        let words: Vec<&str> = line.split_whitespace().collect();
+        let said = vr(&words);
         assert_eq!((said.status, said.out.as_str()), (Some(0), vr::args::USAGE));
+        assert_eq!(said.err, "");
     }
 }
