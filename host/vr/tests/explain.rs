@@ -2,7 +2,7 @@
 
 mod common;
 
-use common::{at, changed, on, small, vr, Folder};
+use common::{at, changed, on, small, vr, Change, Folder};
 
 /// The rule's line of what is said.
 fn asks(letter: char) -> &'static str {
@@ -28,15 +28,15 @@ fn says(folder: &Folder, bytes: &[u8], item: u64, words: &str) {
 }
 
 /// A number of a table, two bytes wide.
-fn two(table: usize, element: usize, number: u32) -> (usize, usize, u32) {
+fn two(table: usize, element: usize, number: u32) -> Change {
     (table + 2 * element, 2, number)
 }
 
-fn one(table: usize, element: usize, number: u32) -> (usize, usize, u32) {
+fn one(table: usize, element: usize, number: u32) -> Change {
     (table + element, 1, number)
 }
 
-fn count(list: usize, number: u32) -> (usize, usize, u32) {
+fn count(list: usize, number: u32) -> Change {
     (at::COUNT + 4 * list, 4, number)
 }
 
