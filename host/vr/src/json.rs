@@ -148,3 +148,17 @@ fn node(image: &Image, entry: Entry, free: bool) -> String {
         ("price", number(record.price)),
     ])
 }
+
+#[cfg(test)]
+mod tests {
+    use super::*;
+
+    /// No words of vr need it so far; should they once, a reader is not misled.
+    #[test]
+    fn what_json_asks_for_is_escaped() {
+        let said = "a \"b\" \\ c\n\u{1f}, é".to_string();
+        let wanted = "\"a \\\"b\\\" \\\\ c\\u000a\\u001f, é\"";
+        assert_eq!(text(Some(said)), wanted);
+        assert_eq!(text(None), "null");
+    }
+}
