@@ -2,7 +2,7 @@
  *
  * Every call but vr_size and vr_find answers VR_DONE, which is 0, or a refusal's number (enum vr_answer); a refused call changes no byte
  * that was lent, the room for its answer included. Nothing has to be checked beforehand: any memory and any numbers are taken. Where a call
- * is refused 3, vr_find tells why, and vr_repair makes a state of most such memories again.
+ * is refused 3, vr_find tells why, and vr_repair makes a state again of every memory that keeps rule (a), whose packets are lost then.
  *
  * A packet's price is its length divided by the beat, rounded up; packets of queue 0 are free.
  *
@@ -96,12 +96,12 @@ uint32_t vr_ready(const uint8_t *mem, size_t len, uint32_t port, uint64_t *word,
  * queue or 0 (1), zero (1), position in the list from 0 (2). */
 uint32_t vr_where(const uint8_t *mem, size_t len, uint32_t entry, uint8_t place[8]);
 
-/* Writes where every node stands, port by port and index by index, eight bytes each as vr_where's: 32 for each of the nodes a port; what is
- * lent past them stays. Refused 3, then 27 if less is lent. */
+/* Writes where every node stands, port by port and index by index, eight bytes each as vr_where's: 32 bytes for each of the nodes a port, so
+ * 65,536 are always enough; what is lent past them stays. Refused 3, then 27 if less is lent. */
 uint32_t vr_audit(const uint8_t *mem, size_t len, uint8_t *places, size_t places_len);
 
 /* What is wrong with a memory, whatever it holds; never refused. Writes the first rule of soundness that it breaks, 1 to 7 for (a) to (g),
- * and the first item that shows it, in the order of docs/FINDINGS.md; 0 and 0 where it is a switch state. So rule (b), item 1 is port 1's
+ * and the first item that shows it, in the order of docs/FINDINGS.md; 0 and 0 where it is a switch state. So rule 2, item 1 is port 1's
  * last served queue out of range. */
 void vr_find(const uint8_t *mem, size_t len, uint32_t *rule, uint64_t *item);
 

@@ -3,7 +3,7 @@
 use model::{price, PORTS, QUEUES};
 use traffic::Random;
 
-use crate::reader::{nodes_of, set_nodes, Tables, LISTS, LISTS_PER_PORT};
+use crate::reader::{nodes_of, set_nodes, slot, Tables, LISTS, LISTS_PER_PORT};
 
 /// One byte set anew.
 #[derive(Debug, Clone, Copy, PartialEq, Eq)]
@@ -82,33 +82,15 @@ impl Damaged {
     /// Where to do damage: any byte, or one of a table, so that the small tables
     /// get their share.
     fn place(&self, random: &mut Random) -> usize {
-        let t = &self.tables;
-        let starts = [
-            t.setting,
-            t.mapped,
-            t.last,
-            t.arrival,
-            t.outward,
-            t.head,
-            t.tail,
-            t.count,
-            t.next,
-            t.length,
-            t.stamp,
-            t.queue,
-            t.dest,
-            t.poisoned,
-            t.transaction,
-            t.price,
-        ]
-        .map(|table| table.start);
+        let size = self.tables.size;
+        let starts = self.tables.in_order().map(|table| table.start);
         let (from, to) = if random.one_in(3) {
-            (0, t.size)
+            (0, size)
         } else {
             let table = random.below(16) as usize;
             (
                 starts[table],
-                starts.get(table + 1).map_or(t.size, |&end| end),
+                starts.get(table + 1).map_or(size, |&end| end),
             )
         };
         from + random.below((to - from) as u32) as usize
@@ -199,15 +181,10 @@ impl Damaged {
         match at.checked_sub(1) {
             None => self.tables.head.set(&mut self.memory, list, id),
             Some(before) => {
-                let slot = self.slot(of[before]);
+                let slot = slot(of[before], self.nodes);
                 self.tables.next.set(&mut self.memory, slot, id);
             }
         }
-    }
-
-    /// A node's element in the tables of nodes.
-    fn slot(&self, entry: u32) -> usize {
-        entry as usize / 2048 * self.nodes + entry as usize % 2048
     }
 
     fn no_node(&mut self, random: &mut Random) {
@@ -320,7 +297,7 @@ impl Damaged {
             .filter(recorded)
             .flat_map(|list| nodes_of(&self.memory, self.nodes, list))
             .collect();
-        (!nodes.is_empty()).then(|| self.slot(random.pick(&nodes)))
+        (!nodes.is_empty()).then(|| slot(random.pick(&nodes), self.nodes))
     }
 
     /// A field out of its range.

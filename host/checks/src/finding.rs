@@ -1,12 +1,17 @@
 //! The first rule of soundness that bytes break and the first item that shows
 //! it, read off any bytes by docs/LAYOUT.md and docs/FINDINGS.md alone: no
-//! ledger is made, and nothing is shared with the proved library.
+//! ledger is made, and nothing is shared with the proved library. With the
+//! reader of ledgers it shares only where elements stand.
 
 use std::cmp::Ordering;
 
-use model::{price, size, ListKind, DESTINATIONS, LONGEST, MOST_NODES, PORTS, QUEUES, SHORTEST};
+use model::{
+    price, size, ListKind, Settings, DESTINATIONS, LONGEST, MOST_NODES, PORTS, QUEUES, SHORTEST,
+};
 
-use crate::reader::{credit_cell, list_number, Table, Tables, LISTS, LISTS_PER_PORT};
+use crate::reader::{
+    credit_cell, list_number, node_slot, settings, Table, Tables, LISTS, LISTS_PER_PORT,
+};
 
 /// A broken rule.
 #[derive(Debug, Clone, Copy, PartialEq, Eq)]
@@ -78,9 +83,7 @@ struct Image<'m> {
     memory: &'m [u8],
     tables: Tables,
     nodes: usize,
-    beat: u32,
-    slots: u32,
-    credit: u32,
+    settings: Settings,
 }
 
 /// The settings' names and rows, in the memory's order.
@@ -102,21 +105,20 @@ impl<'m> Image<'m> {
         if memory.len() < 12 {
             return Err((6, "too short for settings"));
         }
-        let setting = |i: usize| u32::from(memory[2 * i]) << 8 | u32::from(memory[2 * i + 1]);
+        let setting = |i| Tables::of(0).setting.get(memory, i);
         for i in 0..6 {
             in_its_row(i, setting(i)).map_err(|name| (i as u64, name))?;
         }
-        if memory.len() < size(setting(2)) {
+        let settings = settings(memory);
+        if memory.len() < size(settings.nodes) {
             return Err((6, "too short for the state"));
         }
-        let nodes = setting(2) as usize;
+        let nodes = settings.nodes as usize;
         Ok(Image {
             memory,
             tables: Tables::of(nodes),
             nodes,
-            beat: setting(3),
-            slots: setting(4),
-            credit: setting(5),
+            settings,
         })
     }
 
@@ -153,7 +155,7 @@ impl<'m> Image<'m> {
         }
         for (port, queue) in (0..PORTS).flat_map(|p| (0..QUEUES).map(move |q| (p, q))) {
             let list = list_number(ListKind::Prefetch { port, queue });
-            if self.get(self.tables.count, list) > self.slots {
+            if self.get(self.tables.count, list) > self.settings.slots {
                 let item = PORTS + DESTINATIONS + port * QUEUES + queue;
                 return Some((item.into(), "too many prefetched"));
             }
@@ -161,18 +163,12 @@ impl<'m> Image<'m> {
         None
     }
 
-    /// A node's element in the tables of nodes; none if the id is no node's.
-    fn slot(&self, entry: u32) -> Option<usize> {
-        let (port, index) = (entry as usize / 2048, entry as usize % 2048);
-        (port < PORTS as usize && index < self.nodes).then(|| port * self.nodes + index)
-    }
-
     /// Rule (c), a list: of each node it is noted in which list it was met.
     fn list_once(&self, list: usize, met: &mut [Option<usize>]) -> Result<(), &'static str> {
         let mut entry = self.get(self.tables.head, list);
         let mut last = None;
         for _ in 0..self.get(self.tables.count, list) {
-            let slot = self.slot(entry).ok_or("an id that is no node")?;
+            let slot = node_slot(entry, self.nodes).ok_or("an id that is no node")?;
             match met[slot].replace(list) {
                 None => {}
                 Some(before) if before == list => return Err("a node twice in a list"),
@@ -209,7 +205,7 @@ impl<'m> Image<'m> {
         for list in 0..LISTS {
             let mut entry = self.get(self.tables.head, list);
             for _ in 0..self.get(self.tables.count, list) {
-                if let Some(slot) = self.slot(entry) {
+                if let Some(slot) = node_slot(entry, self.nodes) {
                     nodes.push((list, entry, slot));
                     entry = self.get(self.tables.next, slot);
                 }
@@ -270,7 +266,7 @@ impl<'m> Image<'m> {
             // As wide as the header's field.
             _ if field(self.tables.dest) > 3 => Err("destination"),
             _ if field(self.tables.poisoned) > 1 => Err("poisoned flag"),
-            _ if paid == price(length, queue, self.beat) => Ok(()),
+            _ if paid == price(length, queue, self.settings.beat) => Ok(()),
             _ if queue == 0 => Err("price in queue 0"),
             _ => Err("price"),
         }
@@ -291,7 +287,7 @@ impl<'m> Image<'m> {
         {
             let cell = credit_cell(port, queue);
             let both = self.get(self.tables.arrival, cell) + owed[port][queue];
-            match both.cmp(&self.credit) {
+            match both.cmp(&self.settings.credit) {
                 Ordering::Less => return Some((cell as u64, "too little")),
                 Ordering::Greater => return Some((cell as u64, "too much")),
                 Ordering::Equal => {}

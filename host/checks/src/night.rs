@@ -7,8 +7,8 @@ use ventorupo::calls;
 use crate::finding::{self, Finding};
 use crate::{difference, reader};
 
-/// The functions that answer it, and the test that every call but setup asks
-/// first. In tests one of them may have a slip.
+/// The functions that answer it, and the test that every call but setup, the
+/// finding and the repair asks first. In tests one of them may have a slip.
 #[derive(Clone, Copy)]
 pub struct Crew {
     pub is_state: fn(&[u8]) -> bool,

@@ -89,6 +89,52 @@ impl Tables {
         tables.size = end;
         tables
     }
+
+    /// All of them, in the memory's order.
+    pub fn in_order(&self) -> [Table; 16] {
+        [
+            self.setting,
+            self.mapped,
+            self.last,
+            self.arrival,
+            self.outward,
+            self.head,
+            self.tail,
+            self.count,
+            self.next,
+            self.length,
+            self.stamp,
+            self.queue,
+            self.dest,
+            self.poisoned,
+            self.transaction,
+            self.price,
+        ]
+    }
+}
+
+/// The settings behind ports and queues, in their rows or not, of at least the
+/// settings' bytes.
+pub fn settings(memory: &[u8]) -> Settings {
+    let setting = |i| Tables::of(0).setting.get(memory, i);
+    Settings {
+        nodes: setting(2),
+        beat: setting(3),
+        slots: setting(4),
+        credit: setting(5),
+    }
+}
+
+/// The element of an entry id in the tables of nodes. An id past its port's
+/// nodes is no node's, and has that of another port's node or none.
+pub fn slot(entry: u32, nodes: usize) -> usize {
+    entry as usize / 2048 * nodes + entry as usize % 2048
+}
+
+/// The same; none if the id is no node's.
+pub fn node_slot(entry: u32, nodes: usize) -> Option<usize> {
+    let (port, index) = (entry as usize / 2048, entry as usize % 2048);
+    (port < PORTS as usize && index < nodes).then(|| slot(entry, nodes))
 }
 
 /// The number of a credit cell of a queue above 0.
@@ -115,12 +161,12 @@ pub fn nodes_of(memory: &[u8], nodes: usize, list: usize) -> Vec<u32> {
     let mut entry = tables.head.get(memory, list);
     let mut met = Vec::new();
     while met.len() < count.min(PORTS as usize * nodes) {
-        let (port, index) = (entry as usize / 2048, entry as usize % 2048);
-        if port >= PORTS as usize || index >= nodes {
-            break;
-        }
+        let slot = match node_slot(entry, nodes) {
+            Some(slot) => slot,
+            None => break,
+        };
         met.push(entry);
-        entry = tables.next.get(memory, port * nodes + index);
+        entry = tables.next.get(memory, slot);
     }
     met
 }
@@ -134,8 +180,7 @@ pub fn set_nodes(memory: &mut [u8], nodes: usize, list: usize, of: &[u32]) {
         tables.tail.set(memory, list, *tail);
     }
     for pair in of.windows(2) {
-        let slot = pair[0] as usize / 2048 * nodes + pair[0] as usize % 2048;
-        tables.next.set(memory, slot, pair[1]);
+        tables.next.set(memory, slot(pair[0], nodes), pair[1]);
     }
 }
 
@@ -147,12 +192,6 @@ struct Reader<'m> {
 }
 
 impl Reader<'_> {
-    /// A node's element in the tables of nodes; none if the id is no node's.
-    fn element(&self, entry: u32) -> Option<usize> {
-        let (port, index) = (entry as usize / 2048, entry as usize % 2048);
-        (port < PORTS as usize && index < self.nodes).then(|| port * self.nodes + index)
-    }
-
     fn list(&self, kind: ListKind) -> Result<VecDeque<u16>, String> {
         let number = list_number(kind);
         let count = self.tables.count.get(self.memory, number) as usize;
@@ -163,11 +202,10 @@ impl Reader<'_> {
         let mut list = VecDeque::with_capacity(count);
         let mut entry = self.tables.head.get(self.memory, number);
         for _ in 0..count {
-            let element = self
-                .element(entry)
+            let slot = node_slot(entry, self.nodes)
                 .ok_or_else(|| format!("(c) {entry} in {kind:?} is no node"))?;
             list.push_back(entry as u16);
-            entry = self.tables.next.get(self.memory, element);
+            entry = self.tables.next.get(self.memory, slot);
         }
         let tail = self.tables.tail.get(self.memory, number);
         match list.back() {
@@ -179,8 +217,8 @@ impl Reader<'_> {
     }
 
     fn packet(&self, entry: u16) -> Result<Packet, String> {
-        let element = self.element(entry.into()).ok_or("(c) no node")?;
-        let get = |table: Table| table.get(self.memory, element);
+        let slot = node_slot(entry.into(), self.nodes).ok_or("(c) no node")?;
+        let get = |table: Table| table.get(self.memory, slot);
         let poisoned = get(self.tables.poisoned);
         // The model's flag has no room for more.
         if poisoned > 1 {
@@ -209,12 +247,7 @@ pub fn ledger(memory: &[u8]) -> Result<Ledger, String> {
     if (setting(0), setting(1)) != (PORTS, QUEUES) {
         return Err("(a) not 4 ports with 24 queues".into());
     }
-    let settings = Settings {
-        nodes: setting(2),
-        beat: setting(3),
-        slots: setting(4),
-        credit: setting(5),
-    };
+    let settings = settings(memory);
     if !settings.in_their_rows() {
         return Err(format!("(a) not in their rows: {settings:?}"));
     }
@@ -311,15 +344,8 @@ pub fn repaired(memory: &[u8]) -> Option<Vec<u8>> {
     if let Some(Finding { rule: 'a', .. }) = finding::first(memory) {
         return None;
     }
-    let setting = |i| Tables::of(0).setting.get(memory, i);
-    let settings = Settings {
-        nodes: setting(2),
-        beat: setting(3),
-        slots: setting(4),
-        credit: setting(5),
-    };
     let mapped = Tables::of(0).mapped;
-    let mut after = image(settings);
+    let mut after = image(settings(memory));
     for id in 0..DESTINATIONS as usize {
         let port = mapped.get(memory, id);
         mapped.set(&mut after, id, if port < PORTS { port } else { 0 });
@@ -358,29 +384,24 @@ mod tests {
                 ],
             ),
         ] {
-            let t = Tables::of(nodes);
-            let starts = [
-                t.setting,
-                t.mapped,
-                t.last,
-                t.arrival,
-                t.outward,
-                t.head,
-                t.tail,
-                t.count,
-                t.next,
-                t.length,
-                t.stamp,
-                t.queue,
-                t.dest,
-                t.poisoned,
-                t.transaction,
-                t.price,
-            ]
-            .map(|table| table.start);
+            let tables = Tables::of(nodes);
+            let starts = tables.in_order().map(|table| table.start);
             assert_eq!(starts, wanted[..16]);
-            assert_eq!(t.size, wanted[16]);
+            assert_eq!(tables.size, wanted[16]);
         }
+    }
+
+    #[test]
+    fn nodes_have_their_elements_and_other_ids_none() {
+        for (entry, nodes, wanted) in [(0, 1, 0), (2049, 3, 4), (6146, 3, 11), (8191, 2048, 8191)] {
+            assert_eq!(slot(entry, nodes), wanted);
+            assert_eq!(node_slot(entry, nodes), Some(wanted));
+        }
+        for (entry, nodes) in [(1, 1), (2051, 3), (8192, 2048), (65_535, 2048)] {
+            assert_eq!(node_slot(entry, nodes), None);
+        }
+        // Past port 0's nodes, where port 1's begin.
+        assert_eq!(slot(3, 3), slot(2048, 3));
     }
 
     #[test]

@@ -1,6 +1,6 @@
 //! The examples of docs/FINDINGS.md, through library and independent reader.
 
-use checks::finding::{self, Finding};
+use checks::finding::{self, Finding, WAYS};
 use checks::library;
 use checks::night::PROVED;
 use checks::reader;
@@ -97,15 +97,23 @@ fn the_pages_examples_are_found_so() {
     }
 }
 
-/// Every rule has its example, and every kind of item.
+/// Every rule has its examples: one for each way in which it can be broken, and
+/// so for every kind of item.
 #[test]
-fn the_page_has_an_example_for_each_rule() {
-    let rows = rows();
+fn the_page_has_an_example_for_each_way_to_break_a_rule() {
+    let (state, rows) = (state(), rows());
     let examples = |rule: &str| {
         rows.iter()
             .filter(|(found, _)| found.starts_with(rule))
             .count()
     };
     let counts = ["none", "(a)", "(b)", "(c)", "(d)", "(e)", "(f)", "(g)"].map(examples);
-    assert_eq!(counts, [1, 7, 3, 5, 1, 2, 3, 2]);
+    assert_eq!(counts, [1, 7, 3, 5, 2, 2, 7, 2]);
+    let way = |(_, row): &(&str, &str)| finding::first(&changed(&state, row));
+    let found = rows.iter().filter_map(way);
+    let mut ways: Vec<(char, &str)> = found.map(|found| (found.rule, found.way)).collect();
+    let mut wanted = WAYS.to_vec();
+    ways.sort_unstable();
+    wanted.sort_unstable();
+    assert_eq!(ways, wanted);
 }

@@ -130,17 +130,10 @@ fn traffic_goes_on_after_a_repair() {
 }
 
 fn settings_and_map(memory: &[u8]) -> (Settings, [u32; 4]) {
-    let tables = Tables::of(0);
-    let setting = |i| tables.setting.get(memory, i);
-    let settings = Settings {
-        nodes: setting(2),
-        beat: setting(3),
-        slots: setting(4),
-        credit: setting(5),
-    };
+    let mapped = Tables::of(0).mapped;
     (
-        settings,
-        [0, 1, 2, 3].map(|id| tables.mapped.get(memory, id)),
+        reader::settings(memory),
+        [0, 1, 2, 3].map(|id| mapped.get(memory, id)),
     )
 }
 

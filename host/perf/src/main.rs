@@ -1,9 +1,9 @@
 //! How fast the proved library is on this machine, told as Markdown: beside a
 //! bare walk over the same links, and beside the model.
 //!
-//! Every public call but setup and the finding first tests whether the memory is
-//! a state. That test by itself, the acts without it, and the checksum are timed
-//! too, from archives of their own.
+//! Every public call but setup, the finding and the repair first tests whether
+//! the memory is a state. That test by itself, the acts without it, and the
+//! checksum are timed too, from archives of their own.
 
 mod acts;
 mod night;

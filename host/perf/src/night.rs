@@ -1,8 +1,8 @@
 //! The night crew's calls beside the test for a state, and beside a bare walk.
 
 use checks::finding;
-use checks::reader::{nodes_of, set_nodes, Tables, LISTS, LISTS_PER_PORT};
-use model::{PLACE_BYTES, PORTS, QUEUES};
+use checks::reader::{self, nodes_of, set_nodes, slot, Tables, LISTS, LISTS_PER_PORT};
+use model::{price, LONGEST, PLACE_BYTES, PORTS, QUEUES, SHORTEST};
 use ventorupo::calls;
 
 use crate::{beside, in_turns, mean, used_memory, walk, MEMORIES};
@@ -81,8 +81,8 @@ const LATE: [Late; 8] = [
         let slot = last_packet(memory, nodes, PORTS);
         poison(memory, nodes, slot);
     }),
-    // Dearer where a walk of all rules at once ends early, and those of the
-    // single rules are long.
+    // The walk of all rules at once is short here; those of the single rules,
+    // which begin at the port where it stuck, are long.
     ('f', "the last packet at port 0", |memory, nodes| {
         let slot = last_packet(memory, nodes, 1);
         poison(memory, nodes, slot);
@@ -106,6 +106,63 @@ const LATE: [Late; 8] = [
     }),
 ];
 
+/// The dearest: all nodes are packets at port 0, and each is met by as many
+/// walks as a node can be, that of all rules at once and those of (c), (e), (f).
+const LATE_AT_PORT_0: Late = (
+    'f',
+    "the last packet, all nodes packets at port 0",
+    |memory, nodes| {
+        let slot = last_packet(memory, nodes, 1);
+        let price = Tables::of(nodes).price;
+        price.set(memory, slot, price.get(memory, slot) + 1);
+    },
+);
+
+/// Every node a packet in port 0's egress and prefetch lists, the slots of which
+/// are full. Rules (a) to (f) are kept, and (g) is not asked where (f) is broken.
+fn at_port_0(memory: &[u8], nodes: usize) -> Vec<u8> {
+    let mut memory = memory.to_vec();
+    let all: Vec<u32> = (0..LISTS)
+        .flat_map(|list| nodes_of(&memory, nodes, list))
+        .collect();
+    (0..LISTS).for_each(|list| set_nodes(&mut memory, nodes, list, &[]));
+    let queues = QUEUES as usize;
+    let slots = reader::settings(&memory).slots as usize;
+    let (prefetched, waiting) = all.split_at(slots * queues);
+    for queue in 0..queues {
+        let prefetched = &prefetched[slots * queue..][..slots];
+        set_nodes(&mut memory, nodes, 2 + queues + queue, prefetched);
+        let waiting: Vec<u32> = waiting
+            .iter()
+            .skip(queue)
+            .step_by(queues)
+            .copied()
+            .collect();
+        set_nodes(&mut memory, nodes, 2 + queue, &waiting);
+        for &entry in prefetched.iter().chain(&waiting) {
+            record(&mut memory, nodes, entry, queue as u32);
+        }
+    }
+    memory
+}
+
+/// A packet of a queue, recorded at its price; what traffic left of a free node
+/// may be anything.
+fn record(memory: &mut [u8], nodes: usize, entry: u32, queue: u32) {
+    let (tables, slot) = (Tables::of(nodes), slot(entry, nodes));
+    let length = SHORTEST + entry % (LONGEST - SHORTEST);
+    let price = price(length, queue, reader::settings(memory).beat);
+    for (table, number) in [
+        (tables.length, length),
+        (tables.queue, queue),
+        (tables.dest, 0),
+        (tables.poisoned, 0),
+        (tables.price, price),
+    ] {
+        table.set(memory, slot, number);
+    }
+}
+
 /// The element of the last packet in the egress and prefetch lists of the first
 /// so many ports. Where traffic has left none, one is put into the last list.
 fn last_packet(memory: &mut [u8], nodes: usize, ports: u32) -> usize {
@@ -120,7 +177,7 @@ fn last_packet(memory: &mut [u8], nodes: usize, ports: u32) -> usize {
         Tables::of(nodes).queue.set(memory, 0, QUEUES - 1);
         0
     });
-    entry as usize / 2048 * nodes + entry as usize % 2048
+    slot(entry, nodes)
 }
 
 /// Breaks rule (e) for a packet.
@@ -150,8 +207,8 @@ fn taken(memory: &mut [u8], nodes: usize, entry: u32) {
     set_nodes(memory, nodes, list, &of);
 }
 
-/// Nanoseconds for the bare walk of a sound image, and for the finding on a copy
-/// that is broken late.
+/// Nanoseconds for the bare walk of an image, and for the finding on a copy that
+/// is broken late.
 fn broken_late(memory: &[u8], nodes: u32, (rule, what, damage): Late) -> [f64; 2] {
     let tables = Tables::of(nodes as usize);
     let mut broken = memory.to_vec();
@@ -179,18 +236,56 @@ pub fn on_images_broken_late() {
             .map(|seed| used_memory(seed, nodes))
             .collect();
         for late in LATE {
-            let spent: Vec<[f64; 2]> = memories
-                .iter()
-                .map(|memory| broken_late(memory, nodes, late))
-                .collect();
-            println!(
-                "| {nodes} | ({}) | {} | {:.0} | {} |",
-                late.0,
-                late.1,
-                mean(&spent, 1),
-                beside(&spent, 1, 0)
-            );
+            on_each(&memories, nodes, late);
         }
+        let moved: Vec<Vec<u8>> = memories
+            .iter()
+            .map(|memory| at_port_0(memory, nodes as usize))
+            .collect();
+        on_each(&moved, nodes, LATE_AT_PORT_0);
     }
     println!();
+}
+
+fn on_each(memories: &[Vec<u8>], nodes: u32, late: Late) {
+    let spent: Vec<[f64; 2]> = memories
+        .iter()
+        .map(|memory| broken_late(memory, nodes, late))
+        .collect();
+    println!(
+        "| {nodes} | ({}) | {} | {:.0} | {} |",
+        late.0,
+        late.1,
+        mean(&spent, 1),
+        beside(&spent, 1, 0)
+    );
+}
+
+#[cfg(test)]
+mod tests {
+    use super::*;
+
+    /// Up to (f) the moved images are right; then the last packet of the last
+    /// list with any is found.
+    #[test]
+    fn packets_at_port_0_break_what_they_should() {
+        for nodes in NODES {
+            let moved = at_port_0(&used_memory(1, nodes), nodes as usize);
+            assert_eq!(finding::first(&moved).map(|found| found.rule), Some('g'));
+            let met = |lists: std::ops::Range<usize>| -> usize {
+                lists
+                    .map(|list| nodes_of(&moved, nodes as usize, list).len())
+                    .sum()
+            };
+            let prefetch = LISTS_PER_PORT - QUEUES as usize;
+            assert_eq!(met(2..LISTS_PER_PORT), (PORTS * nodes) as usize);
+            assert_eq!(met(prefetch..LISTS_PER_PORT), 8 * QUEUES as usize);
+            let last = nodes_of(&moved, nodes as usize, LISTS_PER_PORT - 1)[7];
+            let mut broken = moved.clone();
+            LATE_AT_PORT_0.2(&mut broken, nodes as usize);
+            let found = finding::first(&broken).expect("a broken image");
+            assert_eq!((found.rule, found.way), ('f', "price"));
+            assert_eq!(found.item, u64::from(last));
+        }
+    }
 }

@@ -1,5 +1,5 @@
-//! The proved test for a state, which every call but setup asks first, by
-//! itself: for checks and benchmarks alone.
+//! The proved test for a state, which every call but setup, the finding and the
+//! repair asks first, by itself: for checks and benchmarks alone.
 
 mod c {
     extern "C" {

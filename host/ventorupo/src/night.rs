@@ -95,8 +95,9 @@ pub fn find(memory: &[u8]) -> Option<Finding> {
 }
 
 /// Where every node stands, written into lent room: port by port and index by
-/// index, eight bytes each, as [`Place::from_bytes`] reads them. Refused 27 if
-/// there is less room; what is past them stays.
+/// index, eight bytes each, as [`Place::from_bytes`] reads them; what is past
+/// them stays. Refused 3 if the image is no switch state, then 27 if there is
+/// less room.
 ///
 /// ```
 /// use ventorupo::{audit, Refusal, Settings, Switch};
@@ -108,6 +109,7 @@ pub fn find(memory: &[u8]) -> Option<Finding> {
 /// assert_eq!(audit(&image, &mut room), Ok(()));
 /// // Port 3, node 1: second of its free list.
 /// assert_eq!(room[56..], [24, 1, 0, 3, 0, 0, 0, 1, 9]);
+/// assert_eq!(audit(&[0; 2092], &mut []), Err(Refusal::NoState));
 /// ```
 pub fn audit(memory: &[u8], room: &mut [u8]) -> Result<(), Refusal> {
     done(calls::audit(memory, room))
@@ -115,19 +117,20 @@ pub fn audit(memory: &[u8], room: &mut [u8]) -> Result<(), Refusal> {
 
 /// Writes the starting ledger for the settings that an image has, with its map;
 /// entries above the last port become 0. Packets are lost, also of a sound
-/// image. Refused 3 where rule (a) is broken: settings out of their rows, or
-/// memory too short for them.
+/// image; bytes past the state's size stay. Refused 3 where rule (a) is broken:
+/// settings out of their rows, or memory too short for them.
 ///
 /// ```
 /// use ventorupo::{find, repair, Refusal, Settings, Switch};
 ///
 /// let settings = Settings { nodes: 2, beat: 64, slots: 1, credit: 16 };
-/// let mut image = Switch::setup([0; 2092], settings).unwrap().into_memory();
+/// let mut image = Switch::setup([9; 2092 + 1], settings).unwrap().into_memory();
 /// image[12] = 3; // Destination 0 goes to port 3.
 /// image[17] = 200;
 /// repair(&mut image)?;
 /// assert_eq!(find(&image), None);
 /// assert_eq!(image[12], 3);
+/// assert_eq!(image[2092], 9);
 /// assert_eq!(repair(&mut [0; 2092]), Err(Refusal::NoState));
 /// # Ok::<(), Refusal>(())
 /// ```

@@ -5,6 +5,7 @@ use ventorupo::Refusal;
 
 const LEDGER: &str = include_str!("../../../crates/ledger/src/lib.rt");
 const CALLS: &str = include_str!("../src/calls.rs");
+const REFUSALS: &str = include_str!("../src/refusal.rs");
 const CAPI: &str = include_str!("../../../crates/capi/src/lib.rt");
 const HEADER: &str = include_str!("../../../include/ventorupo.h");
 const README: &str = include_str!("../../../README.md");
@@ -63,13 +64,28 @@ fn the_c_header_has_the_same_names_in_capitals() {
     assert_eq!(listed(lines, "VR_", " = "), answers);
 }
 
+/// Each refusal with the calls that give it, as the wrapper's own list has them.
+fn given_by() -> Vec<(Refusal, &'static str)> {
+    let lines = between(REFUSALS, "refusals! {", "}").lines();
+    let calls = lines.map(|line| line.split('"').nth(1).expect(line));
+    let given: Vec<_> = Refusal::ALL.iter().copied().zip(calls.clone()).collect();
+    assert_eq!(calls.count(), given.len());
+    given
+}
+
+/// Two calls as the wrapper joins them, where others have a comma.
+fn joined(calls: &str) -> String {
+    calls.replace(", ", " and ")
+}
+
 /// The calls that give a refusal, and its meaning, as the C header tells them
 /// behind its number; where N and D are meant, it has words of its own.
 #[test]
-fn the_c_header_has_the_same_meanings() {
+fn the_c_header_has_the_same_calls_and_meanings() {
     let lines = between(HEADER, "enum vr_answer {", "};").lines().skip(1);
-    for (line, refusal) in lines.zip(Refusal::ALL) {
-        let (_, told) = between(line, "/* ", " */").split_once(": ").expect(line);
+    for (line, (refusal, given)) in lines.zip(given_by()) {
+        let (calls, told) = between(line, "/* ", " */").split_once(": ").expect(line);
+        assert_eq!(joined(calls), given, "{line}");
         let wanted = refusal.to_string();
         let wanted = wanted.replace("N needs", "the nodes need");
         assert_eq!(told, wanted.replace("D slots", "all slots"), "{line}");
@@ -101,12 +117,14 @@ fn all_speak_of_the_same_calls() {
 }
 
 #[test]
-fn the_readme_has_the_same_names_and_meanings() {
+fn the_readme_has_the_same_names_meanings_and_calls() {
     let rows = between(README, "| given by |\n|---|---|---|---|\n", "\n\n").lines();
-    for (row, refusal) in rows.clone().zip(Refusal::ALL) {
-        let (number, name) = (refusal.number(), name(refusal));
+    for (row, (refusal, given)) in rows.clone().zip(given_by()) {
+        let (number, name) = (refusal.number(), name(&refusal));
         let start = format!("| {number} | {name} | {refusal} | ");
-        assert!(row.starts_with(&start), "{row}: not {start}");
+        let calls = row.strip_prefix(&start);
+        let calls = calls.unwrap_or_else(|| panic!("{row}: not {start}"));
+        assert_eq!(joined(calls), format!("{given} |"), "{row}");
     }
     assert_eq!(rows.count(), Refusal::ALL.len());
 }

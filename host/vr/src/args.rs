@@ -11,12 +11,12 @@ vr: images of a switch's state, explained, shown and repaired
     vr explain IMAGE         says that it is a sound state, or the first rule broken and what shows it
     vr dump IMAGE [--json]   shows settings, map, credits and every list with its packets
     vr repair IMAGE -o NEW   writes NEW: IMAGE with the starting state of its settings, the map kept
-    vr help                  says this
+    vr help                  says this; so does --help behind a command
 
 IMAGE is a file of a state's bytes (docs/LAYOUT.md), and is never written. NEW must not be there yet:
-vr overwrites nothing. Bytes of IMAGE past the state go to NEW as they are. A repair drops every packet
-and all outward credit, also of a sound state; it is refused where a setting is not in its row or the
-image is too short, and then NEW is not made.
+vr overwrites nothing. A name that starts with - is written ./-name. Bytes of IMAGE past the state go to
+NEW as they are. A repair drops every packet and all outward credit, also of a sound state; it is refused
+where a setting is not in its row or the image is too short, and then NEW is not made.
 
 Exit status: 0 a sound state, or repaired; 1 a broken state, or repair refused; 2 it could not be done
 (a wrong command, a file that cannot be read or written), with the reason on standard error.
@@ -43,8 +43,11 @@ struct Rest {
 pub fn command(words: impl Iterator<Item = OsString>) -> Result<Command, Trouble> {
     let mut words = words;
     let name = words.next().ok_or_else(|| bad("no command".into()))?;
+    let words: Vec<OsString> = words.collect();
+    let helps = |word: &OsString| word == "--help" || word == "-h";
     match name.to_str() {
         Some("help" | "--help" | "-h") => Ok(Command::Help),
+        Some("explain" | "dump" | "repair") if words.iter().any(helps) => Ok(Command::Help),
         Some("explain") => {
             let image = named(rest(words, &[])?.image)?;
             Ok(Command::Explain { image })
@@ -65,8 +68,8 @@ pub fn command(words: impl Iterator<Item = OsString>) -> Result<Command, Trouble
 }
 
 /// The words behind a command that takes these options.
-fn rest(words: impl Iterator<Item = OsString>, options: &[&str]) -> Result<Rest, Trouble> {
-    let mut words = words;
+fn rest(words: Vec<OsString>, options: &[&str]) -> Result<Rest, Trouble> {
+    let mut words = words.into_iter();
     let mut rest = Rest::default();
     while let Some(word) = words.next() {
         let taken = |option: &&str| options.contains(option);
@@ -83,6 +86,12 @@ impl Rest {
     fn put_new(&mut self, name: Option<OsString>) -> Result<(), Trouble> {
         let name = name.filter(|name| !name.is_empty());
         let name = name.ok_or_else(|| bad("-o needs a name behind it".into()))?;
+        if is_dashed(&name) {
+            let (word, file) = (quoted(&name), file_named(&name));
+            return Err(bad(format!(
+                "-o needs a name behind it, not {word}; {file}"
+            )));
+        }
         match self.new.replace(name.into()) {
             Some(_) => Err(bad("-o is there twice".into())),
             None => Ok(()),
@@ -90,9 +99,11 @@ impl Rest {
     }
 
     fn put_image(&mut self, word: OsString) -> Result<(), Trouble> {
-        let option = word.to_string_lossy().starts_with('-');
         match &self.image {
-            _ if option => Err(bad(format!("{} is no option here", quoted(&word)))),
+            _ if is_dashed(&word) => {
+                let (word, file) = (quoted(&word), file_named(&word));
+                Err(bad(format!("{word} is no option here; {file}")))
+            }
             Some(_) => Err(bad(format!("{} is one name too many", quoted(&word)))),
             None => {
                 self.image = Some(word.into());
@@ -104,6 +115,19 @@ impl Rest {
 
 fn named(image: Option<PathBuf>) -> Result<PathBuf, Trouble> {
     image.ok_or_else(|| bad("no image is named".into()))
+}
+
+/// Whether a word looks like an option: so it is no file's name.
+fn is_dashed(word: &OsStr) -> bool {
+    word.to_string_lossy().starts_with('-')
+}
+
+/// What to write if a file of such a name is meant.
+fn file_named(word: &OsStr) -> String {
+    format!(
+        "for a file of that name write `./{}`",
+        word.to_string_lossy()
+    )
 }
 
 fn quoted(word: &OsStr) -> String {
@@ -141,8 +165,22 @@ mod tests {
             let (image, new) = (image(), PathBuf::from("n"));
             assert_eq!(told(line), Ok(Command::Repair { image, new }));
         }
-        for line in ["help", "--help", "-h"] {
+        for line in [
+            "help",
+            "--help",
+            "-h",
+            "explain --help",
+            "dump -h",
+            "dump i --json --help",
+            "repair --help",
+            "repair i -o --help",
+        ] {
             assert_eq!(told(line), Ok(Command::Help));
+        }
+        // Such names as they are to be written.
+        for line in ["repair ./-i -o ./--json", "repair -o ./--json ./-i"] {
+            let (image, new) = (PathBuf::from("./-i"), PathBuf::from("./--json"));
+            assert_eq!(told(line), Ok(Command::Repair { image, new }));
         }
     }
 
@@ -151,14 +189,32 @@ mod tests {
         for (line, what) in [
             ("", "no command"),
             ("mend i", "`mend` is no command"),
+            ("mend --help", "`mend` is no command"),
             ("explain", "no image is named"),
             ("explain i j", "`j` is one name too many"),
-            ("explain i --json", "`--json` is no option here"),
-            ("dump -x", "`-x` is no option here"),
-            ("dump i -o n", "`-o` is no option here"),
+            (
+                "explain i --json",
+                "`--json` is no option here; for a file of that name write `./--json`",
+            ),
+            (
+                "dump -x",
+                "`-x` is no option here; for a file of that name write `./-x`",
+            ),
+            (
+                "dump i -o n",
+                "`-o` is no option here; for a file of that name write `./-o`",
+            ),
             ("repair i", "repair needs -o NEW"),
             ("repair -o n", "no image is named"),
             ("repair i -o", "-o needs a name behind it"),
+            (
+                "repair i -o -",
+                "-o needs a name behind it, not `-`; for a file of that name write `./-`",
+            ),
+            (
+                "repair -o --json i",
+                "-o needs a name behind it, not `--json`; for a file of that name write `./--json`",
+            ),
             ("repair i -o n -o n", "-o is there twice"),
             ("repair i n", "`n` is one name too many"),
         ] {

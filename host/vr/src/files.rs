@@ -1,7 +1,8 @@
 //! Files: an image read, and a new one written.
 
-use std::fs::{self, File, OpenOptions};
+use std::fs::{self, File, OpenOptions, Permissions};
 use std::io::{self, ErrorKind, Read, Write};
+use std::os::unix::fs::{OpenOptionsExt, PermissionsExt};
 use std::path::Path;
 
 use crate::layout::Shape;
@@ -13,6 +14,8 @@ pub struct Start {
     pub bytes: Vec<u8>,
     /// Bytes of the whole file.
     pub there: u64,
+    /// Who may read, write and run it.
+    mode: u32,
     /// What comes behind the start.
     rest: File,
 }
@@ -34,19 +37,27 @@ pub fn read(path: &Path) -> Result<Start, Trouble> {
         .take(most)
         .read_to_end(&mut bytes)
         .map_err(trouble)?;
-    let there = about.len().max(bytes.len() as u64);
-    Ok(Start { bytes, there, rest })
+    Ok(Start {
+        there: about.len().max(bytes.len() as u64),
+        bytes,
+        mode: about.permissions().mode() & 0o777,
+        rest,
+    })
 }
 
 impl Start {
-    /// Write the start as it is now, and the rest as it was, to a new file. One
-    /// that cannot be written whole is taken away again.
+    /// Write the start as it is now, and the rest as it was, to a new file of the
+    /// same permissions. One that cannot be written whole is taken away again.
     pub fn write(mut self, path: &Path) -> Result<(), Trouble> {
         let mut new = OpenOptions::new()
             .write(true)
             .create_new(true)
+            .mode(self.mode)
             .open(path)
             .map_err(|why| not_made(path, why))?;
+        // A umask may have left some out. Where this fails, the file has fewer, or
+        // those that its file system gives to all.
+        let _ = new.set_permissions(Permissions::from_mode(self.mode));
         let written = self.fill(&mut new);
         if written.is_err() {
             // What fails here is told by the error that led here.

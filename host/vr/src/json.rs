@@ -121,6 +121,8 @@ fn list(image: &Image, walk: &Walk) -> String {
             "queue",
             list.queue.map_or_else(null, |queue| queue.to_string()),
         ),
+        ("head", number(walk.head)),
+        ("tail", number(walk.tail)),
         ("count", number(walk.count)),
         ("wrong", text(wrong)),
         ("nodes", row(nodes)),
@@ -145,4 +147,18 @@ fn node(image: &Image, entry: Entry, free: bool) -> String {
         ("transaction_id", number(record.transaction)),
         ("price", number(record.price)),
     ])
+}
+
+#[cfg(test)]
+mod tests {
+    use super::*;
+
+    /// No words of vr need it so far; should they once, a reader is not misled.
+    #[test]
+    fn what_json_asks_for_is_escaped() {
+        let said = "a \"b\" \\ c\n\u{1f}, é".to_string();
+        let wanted = "\"a \\\"b\\\" \\\\ c\\u000a\\u001f, é\"";
+        assert_eq!(text(Some(said)), wanted);
+        assert_eq!(text(None), "null");
+    }
 }

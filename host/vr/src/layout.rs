@@ -1,5 +1,5 @@
 //! The settings' rows, and where the tables of a state stand, written from
-//! docs/LAYOUT.md alone.
+//! docs/FINDINGS.md and docs/LAYOUT.md alone.
 
 /// The bytes of the settings.
 pub const SETTINGS_BYTES: usize = 12;
@@ -169,6 +169,19 @@ impl Shape {
 #[cfg(test)]
 mod tests {
     use super::*;
+
+    /// As rule (a) has them in docs/FINDINGS.md: `nodes (1 to 2,048)`.
+    #[test]
+    fn rows_are_the_published_ones() {
+        let page = include_str!("../../../docs/FINDINGS.md");
+        let rule = page.lines().find(|line| line.starts_with("| (a) | "));
+        let plain = |text: &str| text.replace(',', "");
+        let rule = plain(rule.unwrap());
+        for Row { name, row, .. } in &ROWS {
+            let told = plain(&format!("{name} ({row}"));
+            assert!(rule.contains(&told), "{told}");
+        }
+    }
 
     /// The rows of the table of starts in docs/LAYOUT.md, as numbers.
     fn published() -> Vec<Vec<usize>> {

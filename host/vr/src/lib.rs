@@ -17,7 +17,7 @@ pub mod view;
 pub mod words;
 
 use std::ffi::OsString;
-use std::path::Path;
+use std::path::{Path, PathBuf};
 
 use args::Command;
 use files::Start;
@@ -33,15 +33,25 @@ const REFUSED: &str = "repair refused (3): it needs settings in their rows and a
 pub struct Answer {
     pub text: String,
     pub status: u8,
+    /// The file that it has made, which is there also if nothing can be said.
+    pub written: Option<PathBuf>,
+}
+
+impl Answer {
+    /// Of a command that has made no file.
+    fn new(text: String, status: u8) -> Answer {
+        Answer {
+            text,
+            status,
+            written: None,
+        }
+    }
 }
 
 /// Do what a command line asks for.
 pub fn answer(words: impl Iterator<Item = OsString>) -> Result<Answer, Trouble> {
     match args::command(words)? {
-        Command::Help => Ok(Answer {
-            text: args::USAGE.into(),
-            status: 0,
-        }),
+        Command::Help => Ok(Answer::new(args::USAGE.into(), 0)),
         Command::Explain { image } => Ok(explain(&view(&files::read(&image)?))),
         Command::Dump { image, json } => Ok(dump(&view(&files::read(&image)?), json)),
         Command::Repair { image, new } => repair(&image, &new),
@@ -59,8 +69,7 @@ pub fn explain(view: &View) -> Answer {
         let (letter, asks) = (finding.rule.letter(), words::asks(finding.rule));
         text += &format!("rule ({letter}): {asks}; item {}\n", finding.item);
     }
-    let status = view.status();
-    Answer { text, status }
+    Answer::new(text, view.status())
 }
 
 fn dump(view: &View, json: bool) -> Answer {
@@ -69,8 +78,7 @@ fn dump(view: &View, json: bool) -> Answer {
     } else {
         table::table(view)
     };
-    let status = view.status();
-    Answer { text, status }
+    Answer::new(text, view.status())
 }
 
 fn repair(path: &Path, new: &Path) -> Result<Answer, Trouble> {
@@ -79,7 +87,7 @@ fn repair(path: &Path, new: &Path) -> Result<Answer, Trouble> {
     let was = View::new(&before, start.there, ventorupo::find(&before));
     if ventorupo::repair(&mut start.bytes).is_err() {
         let text = format!("{}\n{REFUSED}\n", was.top());
-        return Ok(Answer { text, status: 1 });
+        return Ok(Answer::new(text, 1));
     }
     let mut text = mend::told(&was, &Image::new(&start.bytes));
     start.write(new)?;
@@ -88,5 +96,9 @@ fn repair(path: &Path, new: &Path) -> Result<Answer, Trouble> {
         new.display(),
         path.display()
     );
-    Ok(Answer { text, status: 0 })
+    Ok(Answer {
+        text,
+        status: 0,
+        written: Some(new.into()),
+    })
 }

@@ -19,6 +19,8 @@ pub enum Flaw {
     Ends {
         what: &'static str,
     },
+    /// The setting of nodes is not in its row, so no node has a known place.
+    NodesUnknown,
     NoNode {
         position: usize,
         entry: Entry,
@@ -39,6 +41,10 @@ pub enum Flaw {
 #[derive(Debug, Clone, PartialEq, Eq)]
 pub struct Walk {
     pub list: List,
+    /// The entry ids of its first and its last node, as they are stored; those of
+    /// an empty list say nothing.
+    pub head: Option<u32>,
+    pub tail: Option<u32>,
     /// How many nodes it has by its own count.
     pub count: Option<u32>,
     /// Those that were read.
@@ -61,12 +67,7 @@ impl Lists {
             walks: Vec::new(),
             spots: vec![None; image.shape.all_nodes()],
         };
-        // Without a node there is nothing to follow.
-        let known = match image.shape.nodes {
-            0 => 0,
-            _ => image.shape.lists(),
-        };
-        for number in 0..known {
+        for number in 0..image.shape.lists() {
             let walk = lists.walk_one(image, number);
             lists.walks.push(walk);
         }
@@ -76,31 +77,32 @@ impl Lists {
     fn walk_one(&mut self, image: &Image, number: usize) -> Walk {
         let mut walk = Walk {
             list: List::numbered(image.shape, number),
+            head: image.get(Table::Head, number),
+            tail: image.get(Table::Tail, number),
             count: image.get(Table::Count, number),
             nodes: Vec::new(),
             flaw: None,
         };
-        walk.flaw = self.follow(image, number, &mut walk).err();
+        walk.flaw = self.follow(image, &mut walk).err();
         walk
     }
 
-    fn follow(&mut self, image: &Image, number: usize, walk: &mut Walk) -> Result<(), Flaw> {
+    fn follow(&mut self, image: &Image, walk: &mut Walk) -> Result<(), Flaw> {
         let ends = |what| Flaw::Ends { what };
-        let count = walk.count.ok_or(ends("its count"))?;
-        let mut behind = image.get(Table::Head, number);
+        // Heads and tails stand before the counts, so with a count they are there.
+        let (head, tail, count) = walk.stored().ok_or(ends("its count"))?;
+        if count > 0 && image.shape.nodes == 0 {
+            return Err(Flaw::NodesUnknown);
+        }
+        let mut behind = Some(head);
         for position in 0..count as usize {
-            let what = match position {
-                0 => "its head",
-                _ => "the next node",
-            };
-            let entry = Entry(behind.ok_or(ends(what))?);
+            let entry = Entry(behind.ok_or(ends("the next node"))?);
             let slot = self.meet(image, walk.list, position, entry)?;
             walk.nodes.push(entry);
             behind = image.get(Table::Next, slot);
         }
-        let tail = || image.get(Table::Tail, number).ok_or(ends("its tail"));
         match walk.nodes.last() {
-            Some(&last) => last_is_tail(last, Entry(tail()?)),
+            Some(&last) => last_is_tail(last, Entry(tail)),
             None => Ok(()),
         }
     }
@@ -149,6 +151,13 @@ impl Lists {
     }
 }
 
+impl Walk {
+    /// Head, tail and count, if all of them can be read.
+    fn stored(&self) -> Option<(u32, u32, u32)> {
+        Some((self.head?, self.tail?, self.count?))
+    }
+}
+
 fn last_is_tail(last: Entry, tail: Entry) -> Result<(), Flaw> {
     if last == tail {
         Ok(())
@@ -162,6 +171,9 @@ impl Flaw {
     pub fn words(self, image: &Image, list: List) -> String {
         match self {
             Flaw::Ends { what } => format!("the image ends before {what}"),
+            Flaw::NodesUnknown => {
+                "the setting nodes is not in its row, so its nodes cannot be followed".into()
+            }
             Flaw::NoNode { position, entry } => {
                 let why = no_node(image, entry);
                 format!(

@@ -21,11 +21,18 @@ fn say(answer: Answer) -> Result<u8, Trouble> {
         .write_all(answer.text.as_bytes())
         .and_then(|()| out.flush());
     match written {
-        Err(why) if why.kind() != ErrorKind::BrokenPipe => {
-            Err(Trouble(format!("standard output: {why}")))
-        }
+        Err(why) if why.kind() != ErrorKind::BrokenPipe => Err(unsaid(why, answer)),
         _ => Ok(answer.status),
     }
+}
+
+/// The answer could not be said; but what it tells of is done.
+fn unsaid(why: io::Error, answer: Answer) -> Trouble {
+    let mut what = format!("standard output: {why}");
+    if let Some(new) = answer.written {
+        what += &format!("; {} was written", new.display());
+    }
+    Trouble(what)
 }
 
 /// Say why on standard error; where that is closed too, the status says it alone.

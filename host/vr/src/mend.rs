@@ -3,7 +3,7 @@
 use crate::image::{Image, Kind};
 use crate::layout::{Table, IDS};
 use crate::lists::Walk;
-use crate::view::{number, View};
+use crate::view::{counted, number, View};
 
 /// What is told of a repair: the image as it was, and as it is now.
 pub fn told(before: &View, after: &Image) -> String {
@@ -16,7 +16,7 @@ pub fn told(before: &View, after: &Image) -> String {
     lines.extend((0..IDS).filter_map(|id| map_entry(&before.image, after, id)));
     let past = before.there.saturating_sub(after.shape.size() as u64);
     if past > 0 {
-        lines.push(format!("kept: {past} bytes past the state"));
+        lines.push(format!("kept: {} past the state", counted(past, "byte")));
     }
     lines.push(packets(before));
     lines.push(outward(&before.image));
@@ -51,8 +51,10 @@ fn packets(before: &View) -> String {
     let stuck = |walk: &&Walk| walk.flaw.map_or(false, |flaw| flaw.stops());
     let more = match before.lists.walks.iter().filter(stuck).count() {
         0 => String::new(),
-        1 => ", and what could not be read in 1 list".into(),
-        lists => format!(", and what could not be read in {lists} lists"),
+        lists => format!(
+            ", and what could not be read in {}",
+            counted(lists as u64, "list")
+        ),
     };
     format!(
         "dropped: packets {all} (ingress {ingress}, egress {egress}, prefetch {prefetch}){more}"
@@ -64,5 +66,6 @@ fn outward(before: &Image) -> String {
     let credits = cells.filter_map(|cell| before.get(Table::Outward, cell));
     let some: Vec<u32> = credits.filter(|&credit| credit > 0).collect();
     let beats: u64 = some.iter().map(|&credit| u64::from(credit)).sum();
-    format!("dropped: outward credit {beats} (of {} queues)", some.len())
+    let queues = counted(some.len() as u64, "queue");
+    format!("dropped: outward credit {beats} (of {queues})")
 }

@@ -3,7 +3,7 @@
 use crate::image::{Entry, Image, Kind};
 use crate::layout::{Table, IDS};
 use crate::lists::Walk;
-use crate::view::{number, View};
+use crate::view::{counted, number, View};
 
 /// A line of entry ids gets no longer than about this.
 const WIDE: usize = 96;
@@ -108,11 +108,12 @@ fn port_lists(view: &View, port: usize) -> String {
     if walks.is_empty() {
         return String::new();
     }
-    let counted = |count| walks.iter().filter(|walk| walk.count == count).count();
-    let (empty, cut) = (counted(Some(0)), counted(None));
+    let of_count = |count| walks.iter().filter(|walk| walk.count == count).count();
+    let (empty, cut) = (of_count(Some(0)), of_count(None));
     let mut text = format!("\nport {port}\n");
     for walk in &walks {
-        if walk.count.unwrap_or(0) > 0 {
+        // Of an empty list nothing is said, and of others what can be read.
+        if walk.count != Some(0) && walk.head.is_some() {
             text += &list(&view.image, walk);
         }
     }
@@ -128,12 +129,20 @@ fn list(image: &Image, walk: &Walk) -> String {
         .list
         .queue
         .map_or_else(String::new, |queue| format!(", queue {queue}"));
-    let mut text = format!("  {}{queue}: {}\n", walk.list.kind.name(), how_many(walk));
+    let mut text = format!(
+        "  {}{queue}: {}; head {}, tail {}\n",
+        walk.list.kind.name(),
+        how_many(walk),
+        number(walk.head),
+        number(walk.tail)
+    );
     text += &match walk.list.kind {
         Kind::Free => runs("    ", &walk.nodes),
         _ => packets(image, walk),
     };
-    if let Some(flaw) = walk.flaw {
+    // Of one that is cut off, the heading has said so.
+    let flaw = walk.flaw.filter(|_| walk.count.is_some());
+    if let Some(flaw) = flaw {
         let what = flaw.words(image, walk.list);
         let start = if flaw.stops() { "reading stops: " } else { "" };
         text += &format!("    {start}{what}\n");
@@ -144,10 +153,10 @@ fn list(image: &Image, walk: &Walk) -> String {
 /// How many nodes a list has, and how many were read if these are not all.
 fn how_many(walk: &Walk) -> String {
     let read = walk.nodes.len();
-    match walk.count.unwrap_or(0) as usize {
-        1 if read == 1 => "1 node".into(),
-        count if count == read => format!("{count} nodes"),
-        count => format!("{count} by its count, {read} read"),
+    match walk.count {
+        None => "cut off".into(),
+        Some(count) if count as usize == read => counted(read as u64, "node"),
+        Some(count) => format!("{count} by its count, {read} read"),
     }
 }
 

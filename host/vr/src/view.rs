@@ -70,6 +70,14 @@ impl<'m> View<'m> {
     }
 }
 
+/// So many of something, in words: `1 node`, `2 nodes`.
+pub fn counted(how_many: u64, what: &str) -> String {
+    match how_many {
+        1 => format!("1 {what}"),
+        _ => format!("{how_many} {what}s"),
+    }
+}
+
 /// A number that was read, or a dash.
 pub fn number(read: Option<u32>) -> String {
     read.map_or_else(|| "-".into(), |number| number.to_string())

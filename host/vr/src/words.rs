@@ -3,6 +3,7 @@
 use crate::image::{price, Entry, Image, Kind, Record};
 use crate::layout::{Row, Table, BEAT, CREDIT, IDS, ROWS, SETTINGS_BYTES, SLOTS};
 use crate::lists::{Lists, Spot};
+use crate::view::counted;
 
 use ventorupo::{Finding, Rule};
 
@@ -50,22 +51,24 @@ fn item_words(image: &Image, lists: &Lists, rule: Rule, item: usize) -> Option<S
 
 fn too_short(image: &Image) -> Option<String> {
     let there = image.bytes.len();
+    let short = format!(
+        "the image is too short: it has {}",
+        counted(there as u64, "byte")
+    );
     if there < SETTINGS_BYTES {
-        return Some(format!(
-            "the image is too short: {there} bytes are there, the settings alone take {SETTINGS_BYTES}"
-        ));
+        return Some(format!("{short}, the settings alone take {SETTINGS_BYTES}"));
     }
     let needed = image.needed().filter(|&needed| there < needed)?;
-    let nodes = image.shape.nodes;
-    Some(format!(
-        "the image is too short: {there} bytes are there, {nodes} nodes a port need {needed}"
-    ))
+    let nodes = counted(image.shape.nodes as u64, "node");
+    Some(format!("{short}, a state of {nodes} a port takes {needed}"))
 }
 
 fn setting(image: &Image, item: usize) -> Option<String> {
     let Row { name, row, has } = ROWS.get(item)?;
     let number = image.setting(item).filter(|&number| !has(number))?;
-    Some(format!("setting {name}: {number} is not in its row, {row}"))
+    Some(format!(
+        "setting {name}: {number} is not in its row ({row})"
+    ))
 }
 
 fn range(image: &Image, item: usize) -> Option<String> {

@@ -9,7 +9,7 @@ use std::os::unix::ffi::OsStrExt;
 use std::path::Path;
 use std::process::Stdio;
 
-use common::{command, on, small, switch, vr, Folder, SMALL};
+use common::{command, full, on, small, switch, vr, Folder, Said, SMALL};
 use ventorupo::Settings;
 
 const HINT: &str = " (`vr help` tells the commands)";
@@ -24,9 +24,18 @@ fn wrong_command_lines() {
         ("dump", "no image is named"),
         ("dump --json", "no image is named"),
         ("explain one two", "`two` is one name too many"),
-        ("explain one --json", "`--json` is no option here"),
-        ("dump one --jsn", "`--jsn` is no option here"),
-        ("dump one -o two", "`-o` is no option here"),
+        (
+            "explain one --json",
+            "`--json` is no option here; for a file of that name write `./--json`",
+        ),
+        (
+            "dump one --jsn",
+            "`--jsn` is no option here; for a file of that name write `./--jsn`",
+        ),
+        (
+            "dump one -o two",
+            "`-o` is no option here; for a file of that name write `./-o`",
+        ),
         ("repair", "no image is named"),
         ("repair -o new", "no image is named"),
         ("repair one", "repair needs -o NEW"),
@@ -41,6 +50,30 @@ fn wrong_command_lines() {
     }
     let said = vr(&["repair", "one", "-o", ""]);
     assert_eq!(said.err, format!("vr: -o needs a name behind it{HINT}\n"));
+}
+
+/// An option behind -o is not taken for a name: no file is made of it.
+#[test]
+fn names_that_look_like_options() {
+    let folder = Folder::new("bad-dashes");
+    folder.file("image", &small());
+    let run = |words: &[&str]| -> Said {
+        let output = command().args(words).current_dir(folder.path("")).output();
+        output.unwrap().into()
+    };
+    for new in ["--json", "-", "-o", "-new"] {
+        let said = run(&["repair", "image", "-o", new]);
+        let wanted = format!(
+            "vr: -o needs a name behind it, not `{new}`; for a file of that name write `./{new}`{HINT}\n"
+        );
+        assert_eq!(said.err, wanted);
+        assert_eq!((said.status, said.out.as_str()), (Some(2), ""));
+        assert!(!folder.path(new).exists());
+        // Written as the message says, it is a name.
+        let file = format!("./{new}");
+        assert_eq!(run(&["repair", "image", "-o", &file]).status, Some(0));
+        assert_eq!(run(&["explain", &file]).out, "a sound state\n");
+    }
 }
 
 /// Each command on a file that cannot be read.
@@ -98,7 +131,7 @@ fn names_that_are_no_text() {
     let said = vr(&[OsString::from("dump"), OsStr::from_bytes(b"-\xFF").into()]);
     assert_eq!(
         said.err,
-        format!("vr: `-\u{FFFD}` is no option here{HINT}\n")
+        format!("vr: `-\u{FFFD}` is no option here; for a file of that name write `./-\u{FFFD}`{HINT}\n")
     );
     let said = vr(&[OsStr::from_bytes(b"\xFF")]);
     assert_eq!(said.err, format!("vr: `\u{FFFD}` is no command{HINT}\n"));
@@ -123,7 +156,7 @@ fn huge_files() {
     let said = on("explain", &nothing);
     assert!(said
         .out
-        .starts_with("(a) setting ports: 0 is not in its row, 4\n"));
+        .starts_with("(a) setting ports: 0 is not in its row (4)\n"));
     assert_eq!((said.status, said.err.as_str()), (Some(1), ""));
 }
 
@@ -156,25 +189,25 @@ fn an_output_pipe_that_closes() {
     }
 }
 
-/// Standard error closed too: the status says it alone.
+/// A standard error that takes nothing: the status says it alone, and is not
+/// that of a panic.
 #[test]
-fn an_error_pipe_that_is_closed() {
-    let mut child = command()
-        .arg("mend")
-        .stderr(Stdio::piped())
-        .spawn()
-        .unwrap();
-    drop(child.stderr.take());
-    assert_eq!(child.wait().unwrap().code(), Some(2));
+fn an_error_output_that_is_full() {
+    let full = match full() {
+        Some(full) => full,
+        None => return,
+    };
+    let output = command().arg("mend").stderr(full).output().unwrap();
+    assert_eq!(output.status.code(), Some(2));
+    assert_eq!(output.stdout, b"");
 }
 
 /// An output that takes nothing is told.
 #[test]
 fn an_output_that_is_full() {
-    let full = match fs::OpenOptions::new().write(true).open("/dev/full") {
-        Ok(full) => full,
-        // Not every machine has one.
-        Err(_) => return,
+    let full = match full() {
+        Some(full) => full,
+        None => return,
     };
     let output = command().arg("help").stdout(full).output().unwrap();
     assert_eq!(output.status.code(), Some(2));

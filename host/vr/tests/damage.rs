@@ -6,7 +6,7 @@ mod common;
 use std::collections::BTreeMap;
 use std::ops::Range;
 
-use common::reading::{nodes_of_json, Json};
+use common::reading::{nodes_of_json, stored_of_json, stored_of_table, Json};
 use common::{busy, on, small, vr, Folder};
 use traffic::Random;
 use ventorupo::{Finding, Rule};
@@ -78,8 +78,10 @@ fn looked_at(memory: &[u8]) -> Option<Rule> {
     assert!(!said.text.contains(UNSEEN), "{}", said.text);
     assert_eq!(said.status, view.finding.is_some() as u8);
     let top = said.text.lines().next().unwrap();
-    assert!(table(&view).starts_with(&format!("{top}\n\n")));
+    let table = table(&view);
+    assert!(table.starts_with(&format!("{top}\n\n")));
     let dump = Json::read(&json(&view));
+    assert_eq!(stored_of_table(&table), stored_of_json(&dump));
     let flaws = view
         .lists
         .walks

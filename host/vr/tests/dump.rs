@@ -7,9 +7,12 @@ use std::ffi::OsStr;
 use std::fs;
 use std::path::Path;
 
-use common::reading::{nodes_of_json, nodes_of_table, Json, Nodes, Stands};
+use common::reading::{
+    nodes_of_json, nodes_of_table, stored_of_json, stored_of_table, Json, Nodes, Stands, Stored,
+};
 use common::{at, busy, changed, on, small, switch, vr, Folder, Said};
 use ventorupo::Settings;
+use vr::view::View;
 
 fn json(file: &Path) -> Said {
     vr(&[OsStr::new("dump"), file.as_os_str(), OsStr::new("--json")])
@@ -89,8 +92,9 @@ fn agrees_with_the_audit(folder: &Folder, memory: &[u8], nodes: u32) {
     let (table, json) = (on("dump", &file), json(&file));
     assert_eq!((table.status, json.status), (Some(0), Some(0)));
     let listed = nodes_of_table(&table.out);
-    let read = nodes_of_json(&Json::read(&json.out));
-    assert_eq!(listed, read);
+    let json = Json::read(&json.out);
+    assert_eq!(listed, nodes_of_json(&json));
+    assert_eq!(stored_of_table(&table.out), stored_of_json(&json));
     assert_eq!(without_records(&listed), audited(memory, nodes));
     assert_eq!(listed.len(), 4 * nodes as usize);
 }
@@ -147,23 +151,42 @@ fn numbers_are_the_calls() {
 /// The image cut at every byte: what is there is shown, and where it ends is said.
 #[test]
 fn an_image_cut_anywhere() {
-    let folder = Folder::new("dump-cut");
     let whole = small();
-    for there in (0..at::SIZE).step_by(41).chain([11, 12, 16, at::SIZE - 1]) {
-        let file = folder.file("image", &whole[..there]);
-        let (table, json) = (on("dump", &file), json(&file));
-        assert_eq!((table.status, json.status), (Some(1), Some(1)));
+    for there in 0..at::SIZE {
+        let cut = &whole[..there];
+        let view = View::new(cut, there as u64, ventorupo::find(cut));
+        let (table, dump) = (vr::table::table(&view), Json::read(&vr::json::json(&view)));
         let ends = match there {
             0..=11 => "the image ends within the settings".to_string(),
             _ => format!("the image ends at byte {there} of 2092"),
         };
-        assert!(table.out.starts_with("(a) the image is too short: "));
-        assert!(table.out.ends_with(&format!("\nreading stops: {ends}\n")));
-        assert_eq!(cut_off(&table.out), lists_behind(there));
-        let dump = Json::read(&json.out);
+        assert!(table.starts_with("(a) the image is too short: "));
+        assert!(table.ends_with(&format!("\nreading stops: {ends}\n")));
+        assert_eq!(cut_off(&table), lists_behind(there, at::COUNT, 4));
+        let stored = stored_of_json(&dump);
+        assert_eq!(stored_of_table(&table), stored);
+        assert_eq!(none_of(&stored, 0), heads_without(there, at::COUNT, 4));
+        assert_eq!(none_of(&stored, 2), heads_without(there, at::TAIL, 2));
         assert_eq!(dump.of("stops").text(), ends);
         assert_eq!(dump.of("finding").of("rule").text(), "a");
         assert_eq!(dump.of("finding").of("item").number(), 6);
+    }
+}
+
+/// Some of the cuts by the program itself.
+#[test]
+fn files_that_are_cut() {
+    let folder = Folder::new("dump-cut");
+    for there in [0, 3, 11, 12, 16, 600, 1000, 1600, 2000, at::SIZE - 1] {
+        let cut = &small()[..there];
+        let view = View::new(cut, there as u64, ventorupo::find(cut));
+        let file = folder.file("image", cut);
+        let (table, json) = (on("dump", &file), json(&file));
+        assert_eq!(table.out, vr::table::table(&view));
+        assert_eq!(json.out, vr::json::json(&view));
+        for said in [table, json] {
+            assert_eq!((said.status, said.err.as_str()), (Some(1), ""));
+        }
     }
 }
 
@@ -175,13 +198,24 @@ fn cut_off(table: &str) -> usize {
     said.map(|number| number.parse::<usize>().unwrap()).sum()
 }
 
-/// The lists whose counts stand behind a byte; of an image without the number
-/// of its nodes nothing is told.
-fn lists_behind(there: usize) -> usize {
+/// The lists whose element of a table stands behind a byte; of an image without
+/// the numbers of its ports and queues nothing is told.
+fn lists_behind(there: usize, table: usize, width: usize) -> usize {
     match there {
-        0..=5 => 0,
-        _ => 200 - (there.saturating_sub(at::COUNT) / 4).min(200),
+        0..=3 => 0,
+        _ => 200 - (there.saturating_sub(table) / width).min(200),
     }
+}
+
+/// The lists whose head is there, and whose element of another table is not.
+fn heads_without(there: usize, table: usize, width: usize) -> usize {
+    lists_behind(there, table, width) - lists_behind(there, at::HEAD, 2)
+}
+
+/// The lists of which this number could not be read.
+fn none_of(stored: &Stored, which: usize) -> usize {
+    let none = |numbers: &&[Option<u64>; 3]| numbers[which].is_none();
+    stored.values().filter(none).count()
 }
 
 #[test]
@@ -201,7 +235,7 @@ fn settings_out_of_their_rows() {
         (
             2,
             Some("nodes is not in its row, so the lists cannot be followed"),
-            0,
+            200,
         ),
         (3, None, 200),
         (4, None, 200),
@@ -211,6 +245,7 @@ fn settings_out_of_their_rows() {
         assert_eq!((table.status, json.status), (Some(1), Some(1)));
         let dump = Json::read(&json.out);
         assert_eq!(dump.of("lists").elements().len(), lists);
+        assert_eq!(stored_of_table(&table.out), stored_of_json(&dump));
         assert_eq!(dump.of("map").elements()[3], Json::Number(3));
         match stops {
             Some(why) => {
@@ -222,5 +257,35 @@ fn settings_out_of_their_rows() {
                 assert_eq!(nodes_of_table(&table.out), nodes_of_json(&dump));
             }
         }
+    }
+}
+
+/// Without the number of its nodes, what is stored of each list is shown, and
+/// why no node is.
+#[test]
+fn nodes_out_of_their_row() {
+    let folder = Folder::new("dump-nodes");
+    let why = "the setting nodes is not in its row, so its nodes cannot be followed";
+    let sound = Json::read(&json(&folder.file("sound", &small())).out);
+    for nodes in [0, 2049, 65_535] {
+        let file = folder.file("image", &changed(&[(4, 2, nodes)]));
+        let (table, json) = (on("dump", &file).out, Json::read(&json(&file).out));
+        assert_eq!(*json.of("in_no_list"), Json::Array(vec![]));
+        let lists = json.of("lists").elements();
+        for (list, was) in lists.iter().zip(sound.of("lists").elements()) {
+            for name in ["port", "kind", "queue", "head", "tail", "count"] {
+                assert_eq!(list.of(name), was.of(name));
+            }
+            assert_eq!(*list.of("nodes"), Json::Array(vec![]));
+            match list.of("count").number() {
+                0 => assert_eq!(*list.of("wrong"), Json::Null),
+                _ => assert_eq!(list.of("wrong").text(), why),
+            }
+        }
+        let free = format!(
+            "\nport 1\n  free: 2 by its count, 0 read; head 2048, tail 2049\n    reading stops: {why}\n"
+        );
+        assert!(table.contains(&free), "{table}");
+        assert_eq!(table.matches(why).count(), 5);
     }
 }

@@ -2,7 +2,7 @@
 
 mod common;
 
-use common::{at, changed, on, small, vr, Folder};
+use common::{at, changed, on, small, vr, Change, Folder};
 
 /// The rule's line of what is said.
 fn asks(letter: char) -> &'static str {
@@ -28,15 +28,15 @@ fn says(folder: &Folder, bytes: &[u8], item: u64, words: &str) {
 }
 
 /// A number of a table, two bytes wide.
-fn two(table: usize, element: usize, number: u32) -> (usize, usize, u32) {
+fn two(table: usize, element: usize, number: u32) -> Change {
     (table + 2 * element, 2, number)
 }
 
-fn one(table: usize, element: usize, number: u32) -> (usize, usize, u32) {
+fn one(table: usize, element: usize, number: u32) -> Change {
     (table + element, 1, number)
 }
 
-fn count(list: usize, number: u32) -> (usize, usize, u32) {
+fn count(list: usize, number: u32) -> Change {
     (at::COUNT + 4 * list, 4, number)
 }
 
@@ -61,21 +61,21 @@ fn a_sound_state() {
 fn rule_a_settings() {
     let folder = Folder::new("explain-a");
     for (setting, number, words) in [
-        (0, 5, "(a) setting ports: 5 is not in its row, 4"),
-        (1, 0, "(a) setting queues: 0 is not in its row, 24"),
-        (2, 0, "(a) setting nodes: 0 is not in its row, 1 to 2048"),
+        (0, 5, "(a) setting ports: 5 is not in its row (4)"),
+        (1, 0, "(a) setting queues: 0 is not in its row (24)"),
+        (2, 0, "(a) setting nodes: 0 is not in its row (1 to 2048)"),
         (
             2,
             2049,
-            "(a) setting nodes: 2049 is not in its row, 1 to 2048",
+            "(a) setting nodes: 2049 is not in its row (1 to 2048)",
         ),
         (
             3,
             65,
-            "(a) setting beat: 65 is not in its row, 64, 128, 256 or 512",
+            "(a) setting beat: 65 is not in its row (64, 128, 256 or 512)",
         ),
-        (4, 0, "(a) setting slots: 0 is not in its row, 1 to 8"),
-        (4, 9, "(a) setting slots: 9 is not in its row, 1 to 8"),
+        (4, 0, "(a) setting slots: 0 is not in its row (1 to 8)"),
+        (4, 9, "(a) setting slots: 9 is not in its row (1 to 8)"),
     ] {
         let bytes = changed(&[two(0, setting, number)]);
         says(&folder, &bytes, setting as u64, words);
@@ -86,26 +86,31 @@ fn rule_a_settings() {
         &folder,
         &bytes,
         3,
-        "(a) setting beat: 7 is not in its row, 64, 128, 256 or 512",
+        "(a) setting beat: 7 is not in its row (64, 128, 256 or 512)",
     );
 }
 
 #[test]
 fn rule_a_too_short() {
     let folder = Folder::new("explain-short");
-    let short = |there: usize, needs: &str| {
-        let words = format!("(a) the image is too short: {there} bytes are there, {needs}");
-        says(&folder, &small()[..there], 6, &words);
+    let short = |bytes: &[u8], needs: &str| {
+        let has = match bytes.len() {
+            1 => "1 byte".to_string(),
+            there => format!("{there} bytes"),
+        };
+        let words = format!("(a) the image is too short: it has {has}, {needs}");
+        says(&folder, bytes, 6, &words);
     };
     for there in [0, 1, 11] {
-        short(there, "the settings alone take 12");
+        short(&small()[..there], "the settings alone take 12");
     }
     for there in [12, 100, at::SIZE - 1] {
-        short(there, "2 nodes a port need 2092");
+        short(&small()[..there], "a state of 2 nodes a port takes 2092");
     }
+    let one = changed(&[two(0, 2, 1)]);
+    short(&one[..2039], "a state of 1 node a port takes 2040");
     let most = changed(&[two(0, 2, 2048)]);
-    let words = "(a) the image is too short: 2092 bytes are there, 2048 nodes a port need 108484";
-    says(&folder, &most, 6, words);
+    short(&most, "a state of 2048 nodes a port takes 108484");
 }
 
 #[test]
@@ -285,7 +290,7 @@ fn rules_in_their_order() {
     for (change, item, words) in [
         (one(at::POISONED, 5, 9), 4097, "(f) node 1 of port 2 (entry id 4097) at position 1 of the ingress list of port 2: poisoned flag 9 is above 1"),
         (one(at::LAST, 2, 99), 2, "(b) port 2: last served queue 99 is none of 24"),
-        (two(0, 4, 0), 4, "(a) setting slots: 0 is not in its row, 1 to 8"),
+        (two(0, 4, 0), 4, "(a) setting slots: 0 is not in its row (1 to 8)"),
     ] {
         changes.push(change);
         says(&folder, &changed(&changes), item, words);
@@ -294,8 +299,18 @@ fn rules_in_their_order() {
 
 #[test]
 fn help_is_no_trouble() {
-    for word in ["help", "--help", "-h"] {
-        let said = vr(&[word]);
+    for line in [
+        "help",
+        "--help",
+        "-h",
+        "explain --help",
+        "dump --help",
+        "dump image --json -h",
+        "repair --help",
+    ] {
+        let words: Vec<&str> = line.split_whitespace().collect();
+        let said = vr(&words);
         assert_eq!((said.status, said.out.as_str()), (Some(0), vr::args::USAGE));
+        assert_eq!(said.err, "");
     }
 }

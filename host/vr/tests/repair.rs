@@ -3,10 +3,14 @@
 mod common;
 
 use std::ffi::OsStr;
-use std::fs;
+use std::fs::{self, Permissions};
+use std::os::unix::fs::PermissionsExt;
 use std::path::Path;
+use std::process::Command;
 
-use common::{at, busy, changed, on, small, switch, vr, Folder, Said, SMALL};
+use common::{
+    at, busy, changed, command, full, on, small, switch, vr, Change, Folder, Said, SMALL,
+};
 
 fn repair(image: &Path, new: &Path) -> Said {
     let words = [
@@ -55,6 +59,20 @@ fn what_is_kept_and_dropped() {
     assert_eq!(on("explain", &new).out, "a sound state\n");
 }
 
+/// One byte, one queue.
+#[test]
+fn one_of_something_is_said_so() {
+    let folder = Folder::new("repair-one");
+    let mut bytes = changed(&[(at::OUTWARD + 2 * 91, 2, 0)]);
+    bytes.push(7);
+    let (image, new) = (folder.file("image", &bytes), folder.path("new"));
+    let said = repair(&image, &new);
+    assert!(said.out.contains("\nkept: 1 byte past the state\n"));
+    assert!(said
+        .out
+        .contains("\ndropped: outward credit 100 (of 1 queue)\n"));
+}
+
 #[test]
 fn a_sound_state_is_emptied_too() {
     let folder = Folder::new("repair-sound");
@@ -67,26 +85,32 @@ fn a_sound_state_is_emptied_too() {
     assert_eq!(fs::read(&new).unwrap(), fresh([0, 1, 2, 3]));
 }
 
-/// One broken image for each rule from (b) on, and a list that loops.
+/// The last nodes of two free lists, changed over.
+const OTHERS_NODES: [Change; 4] = [
+    (at::NEXT + 2 * 2, 2, 6145),
+    (at::TAIL + 2 * 50, 2, 6145),
+    (at::NEXT + 2 * 6, 2, 2049),
+    (at::TAIL + 2 * 150, 2, 2049),
+];
+
+/// One broken image for each rule from (b) on; that of (c) has a list that loops.
 #[test]
 fn every_rule_is_mended() {
     let folder = Folder::new("repair-rules");
-    for (i, (change, stuck)) in [
-        ((at::LAST + 3, 1, 24), ""),
-        (
-            (at::NEXT + 4, 2, 2048),
-            ", and what could not be read in 1 list",
-        ),
-        ((at::QUEUE, 1, 9), ""),
-        ((at::POISONED + 4, 1, 2), ""),
-        ((at::ARRIVAL, 2, 3), ""),
-    ]
-    .iter()
-    .enumerate()
-    {
-        let image = folder.file("image", &changed(&[*change]));
-        let new = folder.path(format!("new{i}"));
+    let loops = ", and what could not be read in 1 list";
+    let broken: [(char, &[Change], &str); 6] = [
+        ('b', &[(at::LAST + 3, 1, 24)], ""),
+        ('c', &[(at::NEXT + 4, 2, 2048)], loops),
+        ('d', &OTHERS_NODES, ""),
+        ('e', &[(at::QUEUE, 1, 9)], ""),
+        ('f', &[(at::POISONED + 4, 1, 2)], ""),
+        ('g', &[(at::ARRIVAL, 2, 3)], ""),
+    ];
+    for (rule, changes, stuck) in broken {
+        let image = folder.file("image", &changed(changes));
+        let new = folder.path(format!("new{rule}"));
         let said = repair(&image, &new);
+        assert!(said.out.starts_with(&format!("was: ({rule}) ")));
         let packets = format!("\ndropped: packets 4 (ingress 2, egress 1, prefetch 1){stuck}\n");
         assert!(said.out.contains(&packets), "{}", said.out);
         assert_eq!((said.status, said.err.as_str()), (Some(0), ""));
@@ -158,6 +182,60 @@ fn a_place_that_is_not_there() {
         new.display()
     );
     assert_eq!((said.status, said.err), (Some(2), wanted));
+}
+
+/// Who may read the image may read the copy, and nobody else.
+#[test]
+fn the_copy_has_the_images_permissions() {
+    let folder = Folder::new("repair-mode");
+    let mode_of = |path: &Path| fs::metadata(path).unwrap().permissions().mode();
+    for mode in [0o400, 0o600, 0o640, 0o644, 0o666, 0o777, 0o4755] {
+        let image = folder.file(format!("image{mode:o}"), &small());
+        fs::set_permissions(&image, Permissions::from_mode(mode)).unwrap();
+        let new = folder.path(format!("new{mode:o}"));
+        assert_eq!(repair(&image, &new).status, Some(0));
+        assert_eq!(mode_of(&new) & 0o7777, mode & 0o777, "{mode:o}");
+        assert_eq!(mode_of(&image) & 0o7777, mode);
+    }
+}
+
+/// A copy that cannot be written whole is taken away again. Here no file may
+/// grow past some blocks, and the signal that tells of it is ignored.
+#[test]
+fn a_copy_that_does_not_fit() {
+    let folder = Folder::new("repair-limit");
+    let (image, new) = (folder.file("image", &small()), folder.path("new"));
+    let output = Command::new("sh")
+        .args(["-c", "trap '' XFSZ; ulimit -f 2; exec \"$@\"", "sh"])
+        .args([env!("CARGO_BIN_EXE_vr"), "repair", "-o"])
+        .args([&new, &image])
+        .output();
+    let said = Said::from(output.unwrap());
+    let wanted = format!("vr: {}: File too large (os error 27)\n", new.display());
+    assert_eq!(said.err, wanted);
+    assert_eq!((said.status, said.out.as_str()), (Some(2), ""));
+    assert!(!new.exists());
+    assert_eq!(fs::read(&image).unwrap(), small());
+}
+
+/// The copy is there though nothing can be said of it, and that is told.
+#[test]
+fn a_copy_of_which_nothing_can_be_said() {
+    let full = match full() {
+        Some(full) => full,
+        None => return,
+    };
+    let folder = Folder::new("repair-full");
+    let (image, new) = (folder.file("image", &small()), folder.path("new"));
+    let mut vr = command();
+    vr.args(["repair", "-o"]).args([&new, &image]).stdout(full);
+    let said = Said::from(vr.output().unwrap());
+    let wanted = format!(
+        "vr: standard output: No space left on device (os error 28); {} was written\n",
+        new.display()
+    );
+    assert_eq!((said.status, said.err), (Some(2), wanted));
+    assert_eq!(fs::read(&new).unwrap(), fresh([0, 1, 2, 3]));
 }
 
 /// The largest state with bytes behind it: all of them are in the copy.

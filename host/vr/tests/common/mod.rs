@@ -5,7 +5,7 @@
 pub mod reading;
 
 use std::ffi::OsStr;
-use std::fs;
+use std::fs::{self, File};
 use std::path::{Path, PathBuf};
 use std::process::{Command, Output};
 
@@ -98,6 +98,11 @@ pub fn on(name: &str, file: &Path) -> Said {
     vr(&[OsStr::new(name), file.as_os_str()])
 }
 
+/// A file that takes no byte; not every machine has one.
+pub fn full() -> Option<File> {
+    fs::OpenOptions::new().write(true).open("/dev/full").ok()
+}
+
 pub fn switch(settings: Settings) -> Switch<Vec<u8>> {
     let memory = vec![0; ventorupo::size(settings.nodes).unwrap()];
     Switch::setup(memory, settings).unwrap()
@@ -127,8 +132,11 @@ pub fn small() -> Vec<u8> {
     switch.into_memory()
 }
 
-/// The small image with numbers changed: where, how many bytes, and what.
-pub fn changed(changes: &[(usize, usize, u32)]) -> Vec<u8> {
+/// A number changed: where, how many bytes, and what.
+pub type Change = (usize, usize, u32);
+
+/// The small image with numbers changed.
+pub fn changed(changes: &[Change]) -> Vec<u8> {
     let mut memory = small();
     for &(at, width, number) in changes {
         memory[at..at + width].copy_from_slice(&number.to_be_bytes()[4 - width..]);

@@ -259,3 +259,56 @@ fn put_row(nodes: &mut Nodes, list: &mut Stands, row: &str) {
         }
     }
 }
+
+/// A list's port, kind 0 to 3, and queue or 0.
+pub type Place = (u64, u8, u64);
+
+/// What a dump says that is stored of a list: count, head and tail, as far as
+/// they could be read. Of empty lists, and of those behind the image's end, the
+/// table says nothing, so they are left out.
+pub type Stored = BTreeMap<Place, [Option<u64>; 3]>;
+
+/// What is stored of the lists, of a dump in JSON.
+pub fn stored_of_json(dump: &Json) -> Stored {
+    let mut stored = Stored::new();
+    for list in dump.of("lists").elements() {
+        let of = |name| match list.of(name) {
+            Json::Null => None,
+            number => Some(number.number()),
+        };
+        let numbers = ["count", "head", "tail"].map(of);
+        if numbers[0] != Some(0) && numbers[1].is_some() {
+            let kind = kind_of(list.of("kind").text());
+            let place = (list.of("port").number(), kind, of("queue").unwrap_or(0));
+            assert_eq!(stored.insert(place, numbers), None);
+        }
+    }
+    stored
+}
+
+/// The same of a dump as a table.
+pub fn stored_of_table(dump: &str) -> Stored {
+    let mut stored = Stored::new();
+    let mut port = 0;
+    let start = dump.find("\nport 0\n").unwrap_or(dump.len());
+    let lists = dump[start..].lines();
+    for line in lists.take_while(|line| !line.starts_with("in no list")) {
+        if let Some(number) = line.strip_prefix("port ") {
+            port = number.parse().unwrap();
+        } else if let Some((name, numbers)) = heading(line) {
+            let (kind, queue) = name.split_once(", queue ").unwrap_or((name, "0"));
+            let place = (port, kind_of(kind), queue.parse().unwrap());
+            assert_eq!(stored.insert(place, numbers), None);
+        }
+    }
+    stored
+}
+
+/// A list's heading: `  free: 9 by its count, 1 read; head 2048, tail 2049`.
+fn heading(line: &str) -> Option<(&str, [Option<u64>; 3])> {
+    let (name, said) = line.strip_prefix("  ")?.split_once(": ")?;
+    let (many, ends) = said.split_once("; head ")?;
+    let (head, tail) = ends.split_once(", tail ")?;
+    let count = many.split(' ').next()?;
+    Some((name, [count, head, tail].map(|number| number.parse().ok())))
+}
