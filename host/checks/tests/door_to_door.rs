@@ -111,8 +111,8 @@ impl Scene {
 fn on_a_quiet_switch_the_packet_leaves_in_its_fourth_round() {
     let mut scene = Scene::new(5);
     scene.arrive_behind_two();
-    let [a, b, c, d, e] = scene.line[..].try_into().unwrap();
-    let [x, y, packet] = scene.ingress[..].try_into().unwrap();
+    let [a, b, c, d, e]: [EntryId; 5] = scene.line[..].try_into().unwrap();
+    let [x, y, packet]: [EntryId; 3] = scene.ingress[..].try_into().unwrap();
     assert_eq!(scene.round(), [Some(x), Some(a)]);
     assert_eq!(scene.round(), [Some(y), Some(b)]);
     scene.three_are_ahead(&[c, d, e]);
@@ -145,7 +145,7 @@ fn on_a_busy_switch_the_packet_leaves_in_its_round_96() {
         scene.switch.credit(OUT, queue, 4 * PRICE).unwrap();
     }
     scene.arrive_behind_two();
-    let [_, c, d, e] = scene.line[..].try_into().unwrap();
+    let [_, c, d, e]: [EntryId; 4] = scene.line[..].try_into().unwrap();
     let packet = scene.packet();
     sent[QUEUE as usize].push(packet);
     for port in 0..4 {

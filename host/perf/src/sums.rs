@@ -3,21 +3,21 @@
 
 mod c {
     extern "C" {
-        pub fn sum_by_table(bytes: *const u8, len: usize) -> u8;
-        pub fn sum_by_bits(bytes: *const u8, len: usize) -> u8;
+        pub fn sum_by_table(bytes: *const u8, len: usize) -> u32;
+        pub fn sum_by_bits(bytes: *const u8, len: usize) -> u32;
     }
 }
 
 /// The proved checksum, as the library has it.
 pub fn by_table(bytes: &[u8]) -> u8 {
     // Sound: the slice is lent for the call, and its contract asks nothing.
-    unsafe { c::sum_by_table(bytes.as_ptr(), bytes.len()) }
+    unsafe { c::sum_by_table(bytes.as_ptr(), bytes.len()) as u8 }
 }
 
 /// The proved checksum that the library had before its table.
 pub fn by_bits(bytes: &[u8]) -> u8 {
     // Sound: as above.
-    unsafe { c::sum_by_bits(bytes.as_ptr(), bytes.len()) }
+    unsafe { c::sum_by_bits(bytes.as_ptr(), bytes.len()) as u8 }
 }
 
 const fn eight_bits(mut sum: u8) -> u8 {

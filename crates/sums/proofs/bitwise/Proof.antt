@@ -1,4 +1,4 @@
--- `sums::sum_by_bits` meets its contract. The loop's invariant: the bytes that are left, from the sum so far, give the whole sum. The
+-- `sums::bitwise` meets its contract. The loop's invariant: the bytes that are left, from the sum so far, give the whole sum. The
 -- measure is their count. Assumes nothing.
 use Prim.Native.Nat.{ℕ, _+_, _-_, _≤_}
 use mathlib.Core.Path.{_≡_, refl, sym, ap, _∙_}
@@ -6,8 +6,8 @@ use native.Mathlib.Omega.{arith}
 use lib.ListN.{length, drop}
 use Rattle.crc.specs.Crc.{crcFrom, crc8}
 use Rattle.crc.proofs.Crc.{from-next, from-end}
-use Rattle.sums.proofs.sum_by_bits.Statement.{statement}
-use Rattle.sums.proofs.sum_by_bits.Tie as tie
+use Rattle.sums.proofs.bitwise.Statement.{statement}
+use Rattle.sums.proofs.bitwise.Tie as tie
 
 abbrev Inv-loop : tie.InvT-loop
 Inv-loop s c₀ i₀ c i = (i ≤ length s) × (crcFrom c (drop i s) ≡ crc8 s)
@@ -45,8 +45,8 @@ returns c =
     let s = c .before .before .before .args .s .now in
     sym (from-end (at .c) s (at .i) (omega arith)) ∙ at .inv .1
 
-pub sum-by-bits-spec : {M : Type 1} → statement M
-sum-by-bits-spec =
+pub bitwise-spec : {M : Type 1} → statement M
+bitwise-spec =
     tie.close
     (tie.spec
     Inv-loop
