@@ -7,7 +7,7 @@ use ventorupo::calls;
 
 use crate::{beside, in_turns, mean, used_memory, walk, MEMORIES};
 
-const NODES: [u32; 2] = [256, 2048];
+const NODES: [u32; 4] = [1, 16, 256, 2048];
 
 /// The number of the first broken rule.
 fn found(memory: &[u8]) -> u32 {
@@ -119,7 +119,7 @@ const LATE_AT_PORT_0: Late = (
 );
 
 /// Every node a packet in port 0's egress and prefetch lists, the slots of which
-/// are full. Rules (a) to (f) are kept, and (g) is not asked where (f) is broken.
+/// are full, or all as full as there are nodes. Rules (a) to (f) are kept, and (g) is not asked where (f) is broken.
 fn at_port_0(memory: &[u8], nodes: usize) -> Vec<u8> {
     let mut memory = memory.to_vec();
     let all: Vec<u32> = (0..LISTS)
@@ -127,7 +127,7 @@ fn at_port_0(memory: &[u8], nodes: usize) -> Vec<u8> {
         .collect();
     (0..LISTS).for_each(|list| set_nodes(&mut memory, nodes, list, &[]));
     let queues = QUEUES as usize;
-    let slots = reader::settings(&memory).slots as usize;
+    let slots = (reader::settings(&memory).slots as usize).min(all.len() / queues);
     let (prefetched, waiting) = all.split_at(slots * queues);
     for queue in 0..queues {
         let prefetched = &prefetched[slots * queue..][..slots];
@@ -279,8 +279,12 @@ mod tests {
             };
             let prefetch = LISTS_PER_PORT - QUEUES as usize;
             assert_eq!(met(2..LISTS_PER_PORT), (PORTS * nodes) as usize);
-            assert_eq!(met(prefetch..LISTS_PER_PORT), 8 * QUEUES as usize);
-            let last = nodes_of(&moved, nodes as usize, LISTS_PER_PORT - 1)[7];
+            let slots = (PORTS * nodes / QUEUES).min(8);
+            assert_eq!(met(prefetch..LISTS_PER_PORT), (slots * QUEUES) as usize);
+            let last = (2..LISTS_PER_PORT)
+                .rev()
+                .find_map(|list| nodes_of(&moved, nodes as usize, list).pop())
+                .expect("a packet");
             let mut broken = moved.clone();
             LATE_AT_PORT_0.2(&mut broken, nodes as usize);
             let found = finding::first(&broken).expect("a broken image");
