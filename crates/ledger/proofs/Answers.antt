@@ -9,7 +9,7 @@ use Rattle.ledger.specs.Answers.{numberOf, kindOf, exitOf, sentOf, plain
 use Rattle.ledger.specs.declared.Refusal.{Refusal}
 use Rattle.ledger.specs.declared.Refusal.the-variants.{ShortMemory, BadSetting, NoState, NoPort, NoQueue, HeaderSize, Checksum, Source}
 use Rattle.ledger.specs.declared.Refusal.the-variants.{TooShort, NoCredit, NoFreeNode, NothingThere, SlotsInUse, TooMuchCredit, NoSuchId}
-use Rattle.ledger.specs.declared.Refusal.the-variants.{HeaderQueue, ReservedBit, ShortRoom}
+use Rattle.ledger.specs.declared.Refusal.the-variants.{HeaderQueue, ReservedBit, NoFit, ShortRoom}
 use Rattle.ledger.specs.declared.ListKind.{ListKind}
 use Rattle.ledger.specs.declared.ListKind.the-variants.{Free, Ingress, Egress, Prefetch}
 use Rattle.ledger.specs.declared.Exit.{Exit}
@@ -33,7 +33,7 @@ refusals : List Refusal
 refusals =
     ShortMemory ∷ ShortMemory ∷ BadSetting ∷ NoState ∷ NoPort ∷ NoQueue ∷ HeaderSize ∷ Checksum ∷ Source ∷ TooShort
     ∷ NoCredit ∷ NoFreeNode ∷ NothingThere ∷ SlotsInUse ∷ TooMuchCredit ∷ NoSuchId ∷ ShortMemory ∷ ShortMemory ∷ ShortMemory ∷ HeaderQueue
-    ∷ ReservedBit ∷ ShortMemory ∷ ShortMemory ∷ ShortMemory ∷ ShortMemory ∷ ShortMemory ∷ ShortMemory ∷ ShortRoom ∷ []
+    ∷ ReservedBit ∷ NoFit ∷ ShortMemory ∷ ShortMemory ∷ ShortMemory ∷ ShortMemory ∷ ShortMemory ∷ ShortRoom ∷ []
 
 refusalOf : ℕ → Refusal
 refusalOf n = getD refusals n ShortMemory
@@ -57,6 +57,7 @@ refusal-back TooMuchCredit = refl
 refusal-back NoSuchId = refl
 refusal-back HeaderQueue = refl
 refusal-back ReservedBit = refl
+refusal-back NoFit = refl
 refusal-back ShortRoom = refl
 
 pub number-inj : (r s : Refusal) → numberOf r ≡ numberOf s → r ≡ s

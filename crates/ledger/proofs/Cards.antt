@@ -3,8 +3,8 @@ use mathlib.Core.Path.{refl}
 use Rattle.numbers.specs.Bytes.{number}
 use Rattle.numbers.specs.Fields.{bits}
 use Rattle.crc.specs.Crc.{crcBit, crcBits, crcByte, crcFrom, crc8}
-use Rattle.ledger.specs.Settings.{isBeat, inRows, row, size}
-use Rattle.ledger.specs.Header.{fieldsOf, price}
+use Rattle.ledger.specs.Settings.{isBeat, portsIn, queuesIn, inRows, row, size}
+use Rattle.ledger.specs.Header.{widthOf, formOf, frontBits, frontBytes, spare, bodySize, headerSize, leastLength, fieldsOf, price}
 use Rattle.ledger.specs.Ledger.{isNode, recorded, place#, placeOf, cell, creditAt, setCredit, pop, push, move}
 use Rattle.ledger.specs.Ledger.{start, change}
 use Rattle.ledger.specs.Ready.{isReady, wordOf, readyWord, maskedAbove, pick}
@@ -14,9 +14,10 @@ use Rattle.ledger.specs.Rounds.{roundActs, answerBytes, bytesOf, answers
 use Rattle.ledger.specs.Cards.{Holds, cards}
 
 pub cards-hold : All Holds cards
-unfolding number bits crcBit crcBits crcByte crcFrom crc8 isBeat inRows row size fieldsOf price isNode recorded place# placeOf cell creditAt
+unfolding number bits crcBit crcBits crcByte crcFrom crc8 isBeat portsIn queuesIn inRows row size widthOf formOf frontBits
+    frontBytes spare bodySize headerSize leastLength fieldsOf price isNode recorded place# placeOf cell creditAt
     setCredit pop push move change start isReady wordOf readyWord maskedAbove pick arrived stitchRecord served roundActs answerBytes
-    bytesOf answersIn lib.Count.ones lib.Count.trailingZeros onRefusal
+    bytesOf answersIn lib.Count.ones lib.Count.leadingZeros lib.Count.trailingZeros onRefusal
 cards-hold = (
   refl,
   (

@@ -8,7 +8,7 @@ use native.Mathlib.Decide.{map-dec, decLe, decLt, ℕ-discrete}
 use native.Mathlib.Omega.{arith}
 use lib.ListN.{length, getD}
 use Rattle.ledger.specs.Settings.{Settings, inRows, row}
-use Rattle.ledger.specs.Header.{leastLength, price}
+use Rattle.ledger.specs.Header.{form, leastLength, price}
 use Rattle.ledger.specs.Ledger.{owner, index, entryId, isNode, Packet, Place, free, ingress, egress, prefetched, placeOf, Ledger, listAt}
 use Rattle.ledger.specs.Ledger.{arrivalOf, Column, column#, tall, bound}
 use Rattle.ledger.specs.Ready.{bit}
@@ -116,10 +116,10 @@ module _ (S : Settings) where
         price-is = t .1 .1 .1 .1 .1 .1 .1;
       })
       (λ r. (r .len-low, (r .len-high, (r .queue-in, (r .dest-in, (r .stamp-in, (r .poisoned-in, (r .transaction-in, r .price-is))))))))
-      (and-dec (decLe leastLength (k .len))
+      (and-dec (decLe (leastLength (form S)) (k .len))
       (and-dec (decLt (k .len) (2 ^ 13))
       (and-dec (decLt (k .queue) (S .queues))
-      (and-dec (decLt (k .dest) (2 ^ 2))
+      (and-dec (decLt (k .dest) (2 ^ form S .portBits))
       (and-dec (decLt (k .stamp) (2 ^ 32))
       (and-dec (decLt (k .poisoned) 2)
       (and-dec (decLt (k .transaction) 256) (ℕ-discrete (k .price) (price (S .beat) (k .queue) (k .len))))))))))

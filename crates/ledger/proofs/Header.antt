@@ -1,41 +1,129 @@
 -- The laws of a header's fields and of its price. Assumes nothing.
 use mathlib.Core.Path.{_≡_, refl}
+use mathlib.Core.Bool.{Bool, true, false, cond}
 use mathlib.Core.List.{List}
 use Prim.Native.Nat.{ℕ, zero, suc, _+_, _*_, _-_, _/_, _^_, _≤_, _<_}
-use native.Mathlib.Nat.{div-add-mod', div-lt-iff-lt-mul, le-of-suc-le-suc, mod-lt}
+use native.Mathlib.Nat.{pow-suc, div-add-mod', div-lt-iff-lt-mul, le-of-suc-le-suc, mod-lt}
 use native.Mathlib.Omega.{arith}
+use native.Mathlib.Decide.{decLe}
+use lib.Count.{leadingZeros, leading-top}
+use lib.Pow.{pow-mono}
+use lib.Dec.{eqb}
 use Rattle.numbers.specs.Bytes.{number}
 use Rattle.numbers.proofs.Bytes.{number-lt}
 use Rattle.numbers.proofs.Fields.{bits-lt}
-use Rattle.ledger.specs.Header.{fieldsOf, price}
+use Rattle.ledger.specs.Settings.{Settings, tenBytes, ids}
+use Rattle.ledger.specs.Header.{Form, widthOf, formOf, form, frontBits, frontBytes, spare, bodySize, leastLength, fieldsOf, price}
+use Rattle.ledger.specs.Sound.{Roomy}
 
 -- every field is as small as its width says, whatever the bytes are
-pub record FieldsIn (h : List ℕ) : Type 0 where
-  pub dest : fieldsOf h .dest < 2 ^ 2
-  pub source : fieldsOf h .source < 2 ^ 2
-  pub queue : fieldsOf h .queue < 2 ^ 5
-  pub len : fieldsOf h .len < 2 ^ 13
-  pub poisoned : fieldsOf h .poisoned < 2
-  pub reserved : fieldsOf h .reserved < 2
-  pub stamp : fieldsOf h .stamp < 2 ^ 32
-  pub offered : fieldsOf h .offered < 256
-  pub transaction : fieldsOf h .transaction < 256
-  pub check : fieldsOf h .check < 256
+pub record FieldsIn (F : Form) (h : List ℕ) : Type 0 where
+  pub dest : fieldsOf F h .dest < 2 ^ F .portBits
+  pub source : fieldsOf F h .source < 2 ^ F .portBits
+  pub queue : fieldsOf F h .queue < 2 ^ F .queueBits
+  pub len : fieldsOf F h .len < 2 ^ 13
+  pub poisoned : fieldsOf F h .poisoned < 2
+  pub reserved : fieldsOf F h .reserved < 2 ^ spare F
+  pub stamp : fieldsOf F h .stamp < 2 ^ 32
+  pub offered : fieldsOf F h .offered < 2 ^ (8 * F .offerBytes)
+  pub transaction : fieldsOf F h .transaction < 256
+  pub check : fieldsOf F h .check < 256
 
-pub fields-in : (h : List ℕ) → FieldsIn h
+pub fields-in : (F : Form) (h : List ℕ) → FieldsIn F h
 unfolding fieldsOf
-fields-in h = record {
-  dest = bits-lt 22 2 (number 3 h 0);
-  source = bits-lt 20 2 (number 3 h 0);
-  queue = bits-lt 15 5 (number 3 h 0);
-  len = bits-lt 2 13 (number 3 h 0);
-  poisoned = bits-lt 1 1 (number 3 h 0);
-  reserved = bits-lt 0 1 (number 3 h 0);
-  stamp = number-lt 4 h 3;
-  offered = number-lt 1 h 7;
-  transaction = number-lt 1 h 8;
-  check = number-lt 1 h 9;
-}
+fields-in F h =
+    let n = number (bodySize F) h 0 in
+    record {
+      dest = bits-lt _ (F .portBits) n;
+      source = bits-lt _ (F .portBits) n;
+      queue = bits-lt _ (F .queueBits) n;
+      len = bits-lt _ 13 n;
+      poisoned = bits-lt _ 1 n;
+      reserved = bits-lt _ (spare F) n;
+      stamp = bits-lt _ 32 n;
+      offered = bits-lt _ (8 * F .offerBytes) n;
+      transaction = bits-lt _ 8 n;
+      check = number-lt 1 h (bodySize F);
+    }
+
+-- ---- how wide a port and a queue are
+
+-- the width holds every number below the count, and no smaller one holds the last of them
+pub record Needed (n w : ℕ) : Type 0 where
+  pub holds : n ≤ 2 ^ w
+  pub some : 1 ≤ w
+  pub least : 2 ^ w < 2 * n
+
+pub width-needed : (n : ℕ) → 2 ≤ n → n ≤ 64 → Needed n (widthOf n)
+unfolding widthOf
+width-needed n low high =
+    let t = leading-top 32 (n - 1) (omega arith) (omega arith) in
+    let w : 32 - leadingZeros 32 (n - 1) ≡ suc (t .0) = omega (arith, t .1) in
+    let double : 2 ^ suc (t .0) ≡ 2 ^ t .0 * 2 = pow-suc 2 (t .0) in
+    rw w (record { holds = omega (arith, t .3); some = omega arith; least = omega (arith, t .2) })
+
+-- ---- the form of a switch
+
+-- a width w whose numbers are fewer than 2 ^ m has fewer bits
+few-bits : (w m : ℕ) → 2 ^ w < 2 ^ m → w < m
+few-bits w m h = go (decLe m w)
+  where
+    go : Dec (m ≤ w) → w < m
+    go (yes k) = absurd (omega (arith, pow-mono k))
+    go (no k) = omega arith
+
+-- how narrow the parts of a form are
+pub record Narrow (F : Form) : Type 0 where
+  pub some-port : 1 ≤ F .portBits
+  pub few-port : F .portBits ≤ 5
+  pub some-queue : 1 ≤ F .queueBits
+  pub few-queue : F .queueBits ≤ 6
+  pub some-offer : 1 ≤ F .offerBytes
+  pub few-offer : F .offerBytes ≤ 2
+  pub three : 3 ≤ frontBytes F
+  pub four : frontBytes F ≤ 4
+  pub spared : frontBits F + spare F ≡ 8 * frontBytes F
+
+pub narrow : (e p q : ℕ) → 2 ≤ p → p ≤ 32 → 2 ≤ q → q ≤ 64 → Narrow (formOf e p q)
+unfolding formOf frontBits frontBytes spare
+narrow e p q some few some′ few′ =
+    let port = width-needed p some (omega arith) in
+    let queue = width-needed q some′ few′ in
+    let w : widthOf p < 6 = few-bits (widthOf p) 6 (omega (arith, port .least)) in
+    let v : widthOf q < 7 = few-bits (widthOf q) 7 (omega (arith, queue .least)) in
+    let o = offered (eqb e tenBytes) in
+    record {
+      some-port = port .some;
+      few-port = omega arith;
+      some-queue = queue .some;
+      few-queue = omega arith;
+      some-offer = o .0;
+      few-offer = o .1;
+      three = omega (arith, port .some, queue .some);
+      four = omega arith;
+      spared = omega arith;
+    }
+  where
+    offered : (b : Bool) → (1 ≤ cond b 1 2) × (cond b 1 2 ≤ 2)
+    offered true = (omega arith, omega arith)
+    offered false = (omega arith, omega arith)
+
+module _ (S : Settings) (ok : Roomy S) where
+  pub port-width : Needed (S .ports) (form S .portBits)
+  unfolding formOf
+  port-width = width-needed (S .ports) (ok .some-ports) (omega (arith, ok .few-ports))
+
+  pub queue-width : Needed (S .queues) (form S .queueBits)
+  unfolding formOf
+  queue-width = width-needed (S .queues) (ok .some-queues) (ok .few-queues)
+
+  -- whatever destination a header can name, the map has it: it is judged by its field's width, not by the ports
+  pub dest-mapped : (d : ℕ) → d < 2 ^ form S .portBits → d < ids
+  dest-mapped d h = omega (arith, port-width .least, ok .few-ports)
+
+pub least-some : (F : Form) → 0 < leastLength F
+unfolding leastLength
+least-some F = omega arith
 
 pub price-free : (beat len : ℕ) → price beat 0 len ≡ 0
 unfolding price

@@ -19,6 +19,7 @@ use Rattle.ledger.specs.Calls.{isEmpty, firstOf, arriving, arrived, serv
 use Rattle.ledger.specs.Sound.{sum, Orderly, Roomy}
 use Rattle.ledger.specs.Demand.{isTurn, InHand}
 use Rattle.ledger.specs.Door.{lineOf}
+use Rattle.ledger.proofs.Header.{dest-mapped}
 use Rattle.ledger.proofs.Tests.{true≢false, leb-is, leb-no, leb-not, eqb-is, eqb-yes, eqb-no, or-is, or-is-right}
 use Rattle.ledger.proofs.Lists.{cons-form}
 use Rattle.ledger.proofs.Places.{credit-same, credit-other}
@@ -75,7 +76,7 @@ pub stitch-in : (S : Settings) (ok : Roomy S) (L : Ledger) → Orderly S L → (
     → (k : Packet) → k ≡ firstOf S L (ingress r) → Place·In S (egress (mapOf L (k .dest)) (k .queue))
 stitch-in S ok L s r hr e k first =
     let f = rw (← first) at (first-fits S ok L s (ingress r) (hr, some-queue S ok L s) e .2) in
-    (s .ranges .numbers-in mapped (k .dest) (f .dest-in), f .queue-in)
+    (s .ranges .numbers-in mapped (k .dest) (dest-mapped S ok (k .dest) (f .dest-in)), f .queue-in)
 
 module _ (S : Settings) (ok : Roomy S) (p q : ℕ) (hp : p < S .ports) (hq : q < S .queues) where
   -- the slots of our queue, and its egress list

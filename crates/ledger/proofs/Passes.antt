@@ -9,7 +9,7 @@ use lib.Dec.{eqb}
 use Rattle.crc.specs.Crc.{crc8}
 use Rattle.ledger.specs.Settings.{Settings}
 use Rattle.ledger.specs.Rules.{Rule, refuse, guard, Clear}
-use Rattle.ledger.specs.Header.{fieldsOf, headerSize, leastLength, headerRules}
+use Rattle.ledger.specs.Header.{Form, form, bodySize, headerSize, leastLength, fieldsOf, arrivalRules}
 use Rattle.ledger.specs.Ledger.{free, Ledger, listAt, arrivalOf}
 use Rattle.ledger.specs.Calls.{arrive, isEmpty, arriving, lastRules, rules}
 use Rattle.ledger.proofs.Tests.{true≢false, leb-no, leb-not, ltb-no, ltb-not, eqb-yes, eqb-is, not-yes}
@@ -30,15 +30,15 @@ guard-after [] ts no′ out c = refl
 guard-after (refuse n true ∷ rs) ts no′ out c = absurd (true≢false (c .0))
 guard-after (refuse n false ∷ rs) ts no′ out c = guard-after rs ts no′ out (c .1)
 
--- ---- a header with no fault of its own, at port p of a switch of n queues
+-- ---- a header with no fault of its own, of form F, at port p of a switch of n queues
 
-pub record Passes (n p : ℕ) (h : List ℕ) : Type 0 where
-  pub ten : length h ≡ headerSize
-  pub summed : fieldsOf h .check ≡ crc8 (take 9 h)
-  pub unreserved : fieldsOf h .reserved ≡ 0
-  pub own : fieldsOf h .source ≡ p
-  pub long : leastLength ≤ fieldsOf h .len
-  pub queue : fieldsOf h .queue < n
+pub record Passes (F : Form) (n p : ℕ) (h : List ℕ) : Type 0 where
+  pub sized : length h ≡ headerSize F
+  pub summed : fieldsOf F h .check ≡ crc8 (take (bodySize F) h)
+  pub unreserved : fieldsOf F h .reserved ≡ 0
+  pub own : fieldsOf F h .source ≡ p
+  pub long : leastLength F ≤ fieldsOf F h .len
+  pub queue : fieldsOf F h .queue < n
 
 same : (a b : ℕ) → not (eqb a b) ≡ false → a ≡ b
 same a b e = eqb-yes a b (not-yes (eqb a b) e)
@@ -46,30 +46,30 @@ same a b e = eqb-yes a b (not-yes (eqb a b) e)
 not-other : (a b : ℕ) → a ≡ b → not (eqb a b) ≡ false
 not-other a b e = ap not (eqb-is a b e)
 
-module _ (n p : ℕ) (h : List ℕ) where
-  pub passes : Clear (headerRules n p h) → Passes n p h
+module _ (F : Form) (n p : ℕ) (h : List ℕ) where
+  pub passes : Clear (arrivalRules F n p h) → Passes F n p h
   passes c = record {
-    ten = same (length h) headerSize (c .0);
-    summed = same (fieldsOf h .check) (crc8 (take 9 h)) (c .1 .0);
-    unreserved = same (fieldsOf h .reserved) 0 (c .1 .1 .0);
-    own = same (fieldsOf h .source) p (c .1 .1 .1 .0);
-    long = ltb-no (fieldsOf h .len) leastLength (c .1 .1 .1 .1 .0);
-    queue = leb-no n (fieldsOf h .queue) (c .1 .1 .1 .1 .1 .0);
+    sized = same (length h) (headerSize F) (c .0);
+    summed = same (fieldsOf F h .check) (crc8 (take (bodySize F) h)) (c .1 .0);
+    unreserved = same (fieldsOf F h .reserved) 0 (c .1 .1 .0);
+    own = same (fieldsOf F h .source) p (c .1 .1 .1 .0);
+    long = ltb-no (fieldsOf F h .len) (leastLength F) (c .1 .1 .1 .1 .0);
+    queue = leb-no n (fieldsOf F h .queue) (c .1 .1 .1 .1 .1 .0);
   }
 
   -- and these facts are all that the rules ask
-  pub passes-clear : Passes n p h → Clear (headerRules n p h)
+  pub passes-clear : Passes F n p h → Clear (arrivalRules F n p h)
   passes-clear f = (
-    not-other (length h) headerSize (f .ten),
+    not-other (length h) (headerSize F) (f .sized),
     (
-      not-other (fieldsOf h .check) (crc8 (take 9 h)) (f .summed),
+      not-other (fieldsOf F h .check) (crc8 (take (bodySize F) h)) (f .summed),
       (
-        not-other (fieldsOf h .reserved) 0 (f .unreserved),
+        not-other (fieldsOf F h .reserved) 0 (f .unreserved),
         (
-          not-other (fieldsOf h .source) p (f .own),
+          not-other (fieldsOf F h .source) p (f .own),
           (
-            ltb-not (fieldsOf h .len) leastLength (f .long),
-            (leb-not n (fieldsOf h .queue) (f .queue), tt),
+            ltb-not (fieldsOf F h .len) (leastLength F) (f .long),
+            (leb-not n (fieldsOf F h .queue) (f .queue), tt),
           ),
         ),
       ),
@@ -80,16 +80,16 @@ module _ (n p : ℕ) (h : List ℕ) where
 
 pub record Admits (S : Settings) (L : Ledger) (p : ℕ) (h : List ℕ) : Type 0 where
   pub port : p < S .ports
-  pub header : Passes (S .queues) p h
+  pub header : Passes (form S) (S .queues) p h
   pub afford : arriving S L p h .price ≤ arrivalOf S L p (arriving S L p h .queue)
   pub some : isEmpty (listAt S L (free p)) ≡ false
 
 pub admits : (S : Settings) (L : Ledger) (p : ℕ) (h : List ℕ) → Clear (rules S L (arrive p h)) → Admits S L p h
 admits S L p h c =
-    let last : Clear (lastRules S L p (arriving S L p h)) = clear-right (headerRules (S .queues) p h) (lastRules S L p (arriving S L p h)) (c .1) in
+    let last : Clear (lastRules S L p (arriving S L p h)) = clear-right (arrivalRules (form S) (S .queues) p h) (lastRules S L p (arriving S L p h)) (c .1) in
     record {
       port = leb-no (S .ports) p (c .0);
-      header = passes (S .queues) p h (clear-left (headerRules (S .queues) p h) (lastRules S L p (arriving S L p h)) (c .1));
+      header = passes (form S) (S .queues) p h (clear-left (arrivalRules (form S) (S .queues) p h) (lastRules S L p (arriving S L p h)) (c .1));
       afford = ltb-no (arrivalOf S L p (arriving S L p h .queue)) (arriving S L p h .price) (last .0);
       some = last .1 .0;
     }

@@ -10,7 +10,7 @@ use lib.ListN.{length, getD}
 use lib.Dec.{eqb, ltb}
 use Rattle.ledger.specs.Settings.{Settings, inRows}
 use Rattle.ledger.specs.Rules.{refuse, guard, Clear}
-use Rattle.ledger.specs.Header.{fieldsOf, headerRules}
+use Rattle.ledger.specs.Header.{form, fieldsOf, arrivalRules}
 use Rattle.ledger.specs.Ledger.{owner, isNode, Packet, bare, recorded, Place, free, prefetched, place#, Ledger, listAt, arrivalOf, lastOf}
 use Rattle.ledger.specs.Ledger.{start, change, Place·In}
 use Rattle.ledger.specs.Ready.{isReady, wordOf, countOf, readyWord, pick}
@@ -20,7 +20,7 @@ use Rattle.ledger.specs.Calls.{serve, rules, result, step, onRefusal}
 use Rattle.ledger.specs.Desk.{Desk, none, has, Call, setup, act, setupRules, desk, after}
 use Rattle.ledger.specs.Sound.{All, OwnPort, Proper, Orderly, Roomy, Sound}
 use Rattle.ledger.proofs.Tests.{true≢false, leb-no, leb-not, ltb-yes, eqb-yes, eqb-no, not-yes}
-use Rattle.ledger.proofs.Header.{price-pays}
+use Rattle.ledger.proofs.Header.{least-some, price-pays}
 use Rattle.ledger.proofs.Places.{place-number}
 use Rattle.ledger.proofs.Keep.{some-queue, len, first-fits, first-node, to-moved}
 use Rattle.ledger.proofs.Rows.{roomy}
@@ -121,14 +121,14 @@ ready-counts S L p hp = rw (leb-not (S .ports) p hp, count-is-ones (isReady S L 
 
 -- no refusal tested before 10 applies: 4, 6, 7, 20, 8, 9 and 19 (3 is the desk's: there is a ledger)
 abbrev pub SoundArrival : Settings → ℕ → List ℕ → Type 0
-SoundArrival S p h = Clear (noPort S p ∷ headerRules (S .queues) p h)
+SoundArrival S p h = Clear (noPort S p ∷ arrivalRules (form S) (S .queues) p h)
 
 -- that is, the port is in the switch and the header has no fault of its own
-pub sound-means : (S : Settings) (p : ℕ) (h : List ℕ) → SoundArrival S p h → (p < S .ports) × Passes (S .queues) p h
-sound-means S p h c = (leb-no (S .ports) p (c .0), passes (S .queues) p h (c .1))
+pub sound-means : (S : Settings) (p : ℕ) (h : List ℕ) → SoundArrival S p h → (p < S .ports) × Passes (form S) (S .queues) p h
+sound-means S p h c = (leb-no (S .ports) p (c .0), passes (form S) (S .queues) p h (c .1))
 
-pub means-sound : (S : Settings) (p : ℕ) (h : List ℕ) → p < S .ports → Passes (S .queues) p h → SoundArrival S p h
-means-sound S p h hp f = (leb-not (S .ports) p hp, passes-clear (S .queues) p h f)
+pub means-sound : (S : Settings) (p : ℕ) (h : List ℕ) → p < S .ports → Passes (form S) (S .queues) p h → SoundArrival S p h
+means-sound S p h hp f = (leb-not (S .ports) p hp, passes-clear (form S) (S .queues) p h f)
 
 -- why it may be turned away all the same, with nothing changed; else it is taken in, by the oldest free node and as the ledger says
 pub data Wanting (S : Settings) (L : Ledger) (p : ℕ) (h : List ℕ) : Reply × Ledger → Type 0 where
@@ -143,7 +143,7 @@ empty-is (k ∷ ks) e = absurd (true≢false (sym e))
 pub sound-arrival : (S : Settings) (L : Ledger) (p : ℕ) (h : List ℕ) → SoundArrival S p h → Wanting S L p h (step S L (arrive p h))
 sound-arrival S L p h c =
     let no′ : ℕ → Reply × Ledger = λ n. (refused n, onRefusal S n (arrive p h) L) in
-    rw (guard-after (noPort S p ∷ headerRules (S .queues) p h) (lastRules S L p (arriving S L p h)) no′ (result S L (arrive p h)) c)
+    rw (guard-after (noPort S p ∷ arrivalRules (form S) (S .queues) p h) (lastRules S L p (arriving S L p h)) no′ (result S L (arrive p h)) c)
     (go (ltb (arrivalOf S L p (arriving S L p h .queue)) (arriving S L p h .price)) refl (isEmpty (listAt S L (free p))) refl)
   where
     go : (a : Bool) → ltb (arrivalOf S L p (arriving S L p h .queue)) (arriving S L p h .price) ≡ a → (b : Bool) → isEmpty (listAt S L (free p)) ≡ b
@@ -156,10 +156,10 @@ sound-arrival S L p h c =
 
 pub none-for-nothing : (S : Settings) → Roomy S → (k : Packet) → Proper S k → 0 < k .queue → 0 < k .price
 none-for-nothing S ok k h above =
-    rw (h .price-is) (price-pays (S .beat) (k .queue) (k .len) (omega (arith, ok .low-beat)) above (omega (arith, h .len-low)))
+    rw (h .price-is) (price-pays (S .beat) (k .queue) (k .len) (omega (arith, ok .low-beat)) above (omega (arith, h .len-low, least-some (form S))))
 
 -- and the queue is the one that the header names: a header that is taken in pays unless it names queue 0
-pub no-free-ride : (S : Settings) → Roomy S → (L : Ledger) (p : ℕ) (h : List ℕ) → Clear (rules S L (arrive p h)) → 0 < fieldsOf h .queue
+pub no-free-ride : (S : Settings) → Roomy S → (L : Ledger) (p : ℕ) (h : List ℕ) → Clear (rules S L (arrive p h)) → 0 < fieldsOf (form S) h .queue
     → 0 < arriving S L p h .price
 unfolding recorded
 no-free-ride S ok L p h c above =

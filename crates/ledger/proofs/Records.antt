@@ -20,6 +20,7 @@ use Rattle.ledger.specs.Calls.{stitched, isEmpty, firstOf, stitchRecord,
 use Rattle.ledger.specs.Desk.{Desk, has, Call, setup, act, desk, afterCalls, answersOf, SetupsRefused}
 use Rattle.ledger.specs.Sound.{All, Everywhere, sum, weigh, one, Proper, Orderly, Roomy}
 use Rattle.ledger.specs.Order.{isFree, gathered, heldFrom, held, broughtBy, broughtIn, Latest, Tells, GoesAlong}
+use Rattle.ledger.proofs.Header.{dest-mapped}
 use Rattle.ledger.proofs.Tests.{true≢false, leb-no, eqb-is}
 use Rattle.ledger.proofs.Lists.{sum-append, weigh-pop, length-pop, nowhere, All-map, All-of, All-append, All-split, All-front, everywhere-both}
 use Rattle.ledger.proofs.Lists.{everywhere-pop, everywhere-push}
@@ -193,7 +194,7 @@ module _ (S : Settings) (ok : Roomy S) where
         let k : Packet = firstOf S L (ingress p) in
         let f = first-fits S ok L s (ingress p) v-in (c .1 .0) in
         nothing-in (result S L (stitch p) .1)
-        (moved (ingress p) (egress (mapOf L (k .dest)) (k .queue)) v-in (s .ranges .numbers-in mapped (k .dest) (f .2 .dest-in), f .2 .queue-in) k
+        (moved (ingress p) (egress (mapOf L (k .dest)) (k .queue)) v-in (s .ranges .numbers-in mapped (k .dest) (dest-mapped S ok (k .dest) (f .2 .dest-in)), f .2 .queue-in) k
         (λ z. first-latest (ingress p) v-in (c .1 .0) refl))
     result-holds (prefetch p q) c =
         let v-in : Place·In S (egress p q) = (leb-no (S .ports) p (c .0), leb-no (S .queues) q (c .1 .0)) in

@@ -74,7 +74,7 @@ module _ (S : Settings) (ports : List ℕ) where
         let o = start-orderly S r in
         keep-changed S r (start S) o mapped (λ e. let z : _≡_ {A = ℕ} 0 1 = cc in omega arith) (λ xs. map (mended S) ports)
         (length-map ports (mended S) ∙ long ∙ sym (o .shaped .numbers-long mapped))
-        (λ d h. rw (entry-is d) (mended-in S (r .some-ports) (getD ports d 0)))
+        (λ d h. rw (entry-is d) (mended-in S (omega (arith, r .some-ports)) (getD ports d 0)))
 
     pub restart-sound : inRows S ≡ true → Sound S (restart S ports)
     restart-sound e = record { rows = e; orderly = restart-orderly (roomy S e) }

@@ -1,14 +1,15 @@
 -- Settings that are in their rows: which beats there are, what each row says, and the bytes that a state takes. Assumes nothing.
-use mathlib.Core.Path.{_≡_, refl}
+use mathlib.Core.Path.{_≡_, refl, sym, ap, _∙_, subst}
 use mathlib.Core.Logic.{_⊎_, inl, inr, _≢_}
 use mathlib.Core.Bool.{Bool, true, false, cond, _&&_, _||_}
 use Prim.Native.Nat.{ℕ, zero, suc, _+_, _-_, _*_, _≤_, _<_}
-use native.Mathlib.Nat.{not-suc-le-zero}
+use native.Mathlib.Nat.{not-suc-le-zero, add-zero, zero-add, mul-add, mul-suc, mul-left-comm, mul-le-mul}
 use native.Mathlib.Decide.{ℕ-discrete}
 use native.Mathlib.Omega.{arith}
 use lib.Dec.{eqb, leb}
 use lib.Count.{ones}
-use Rattle.ledger.specs.Settings.{Settings, isBeat, inRow, inRows, firstOut, row, size}
+use Rattle.ledger.specs.Settings.{Settings, tenBytes, wide, isBeat, portsIn, queuesIn, settingCount, inRow, rowsFrom, inRows, outFrom, firstOut}
+use Rattle.ledger.specs.Settings.{row, size}
 use Rattle.ledger.specs.Sound.{Roomy}
 use Rattle.ledger.proofs.Tests.{is-false, leb-yes, leb-is, leb-not, eqb-yes, eqb-is, eqb-not, and-left, and-right}
 
@@ -74,124 +75,197 @@ beat-is b (inr (inr (inr e))) = rw e
 
 -- ---- the rows
 
+-- a number between two bounds, or not
+row-is : (a n b : ℕ) → (leb a n && leb n b) ≡ true → (a ≤ n) × (n ≤ b)
+row-is a n b e = let h = leb-and a n _ e in (h .0, leb-yes n b (h .1))
+
+in-row : (a n b : ℕ) → a ≤ n → n ≤ b → (leb a n && leb n b) ≡ true
+in-row a n b l h = rw (leb-is a n l, leb-is n b h)
+
+off-row : (a n b : ℕ) → (a ≤ n → n ≤ b → ⊥) → (leb a n && leb n b) ≡ false
+off-row a n b out = is-false (leb a n && leb n b) (λ e. let h = row-is a n b e in out (h .0) (h .1))
+
+-- a count whose row is one number in the ten-byte edition, and reaches from 2 to `most` in the others
+abbrev CountIn : ℕ → ℕ → ℕ → ℕ → Type 0
+CountIn ten most e n = (e ≡ tenBytes → n ≡ ten) × ((e ≡ tenBytes → ⊥) → (2 ≤ n) × (n ≤ most))
+
+count-in : (ten most e n : ℕ) → cond (eqb e tenBytes) (eqb n ten) (leb 2 n && leb n most) ≡ true → CountIn ten most e n
+count-in ten most e n t = (
+  λ is. eqb-yes n ten (rw (eqb-is e tenBytes is) at t),
+  λ other. row-is 2 n most (rw (eqb-not e tenBytes other) at t),
+)
+
+in-count : (ten most e n : ℕ) → CountIn ten most e n → cond (eqb e tenBytes) (eqb n ten) (leb 2 n && leb n most) ≡ true
+in-count ten most e n c = go (ℕ-discrete e tenBytes)
+  where
+    go : Dec (e ≡ tenBytes) → cond (eqb e tenBytes) (eqb n ten) (leb 2 n && leb n most) ≡ true
+    go (yes is) = rw (eqb-is e tenBytes is, eqb-is n ten (c .0 is))
+    go (no other) = rw (eqb-not e tenBytes other, in-row 2 n most (c .1 other .0) (c .1 other .1))
+
+-- either way it is from 2 to `most`
+count-range : (ten most e n : ℕ) → 2 ≤ ten → ten ≤ most → CountIn ten most e n → (2 ≤ n) × (n ≤ most)
+count-range ten most e n low high c = go (ℕ-discrete e tenBytes)
+  where
+    go : Dec (e ≡ tenBytes) → (2 ≤ n) × (n ≤ most)
+    go (yes is) = let k = c .0 is in (omega arith, omega arith)
+    go (no other) = c .1 other
+
 -- what each row says
+abbrev pub PortsIn : ℕ → ℕ → Type 0
+PortsIn = CountIn 4 32
+
+abbrev pub QueuesIn : ℕ → ℕ → Type 0
+QueuesIn = CountIn 24 64
+
+pub ports-in : (e p : ℕ) → portsIn e p ≡ true → PortsIn e p
+unfolding portsIn
+ports-in e p t = count-in 4 32 e p t
+
+pub queues-in : (e q : ℕ) → queuesIn e q ≡ true → QueuesIn e q
+unfolding queuesIn
+queues-in e q t = count-in 24 64 e q t
+
+pub in-ports : (e p : ℕ) → PortsIn e p → portsIn e p ≡ true
+unfolding portsIn
+in-ports e p c = in-count 4 32 e p c
+
+pub in-queues : (e q : ℕ) → QueuesIn e q → queuesIn e q ≡ true
+unfolding queuesIn
+in-queues e q c = in-count 24 64 e q c
+
+pub ports-range : (e p : ℕ) → portsIn e p ≡ true → (2 ≤ p) × (p ≤ 32)
+ports-range e p t = count-range 4 32 e p (omega arith) (omega arith) (ports-in e p t)
+
+pub queues-range : (e q : ℕ) → queuesIn e q ≡ true → (2 ≤ q) × (q ≤ 64)
+queues-range e q t = count-range 24 64 e q (omega arith) (omega arith) (queues-in e q t)
+
 pub record Rows (S : Settings) : Type 0 where
-  pub four-ports : S .ports ≡ 4
-  pub all-queues : S .queues ≡ 24
+  pub are-ports : portsIn (S .edition) (S .ports) ≡ true
+  pub are-queues : queuesIn (S .edition) (S .queues) ≡ true
   pub some-nodes : 1 ≤ S .nodes
   pub few-nodes : S .nodes ≤ 2048
   pub is-beat : isBeat (S .beat) ≡ true
   pub some-slots : 1 ≤ S .slots
   pub few-slots : S .slots ≤ 8
   pub low-credit : S .credit ≤ 65535
+  pub is-edition : S .edition ≤ wide
+  pub no-packets : S .packets ≡ 0
 
 pub and-true : (a : Bool) → (a && true) ≡ a
 and-true true = refl
 and-true false = refl
 
+-- each of n settings from i on is in its row
+rows-at : (S : Settings) (i n : ℕ) → rowsFrom S i n ≡ true → (k : ℕ) → k < n → inRow S (i + k) ≡ true
+rows-at S i zero e k h = absurd (not-suc-le-zero h)
+rows-at S i (suc n) e zero h = rw (add-zero i) (and-left (inRow S i) (rowsFrom S (suc i) n) e)
+rows-at S i (suc n) e (suc k) h =
+    let next : suc i + k ≡ i + suc k = omega arith in
+    subst (λ (j : ℕ). inRow S j ≡ true) next (rows-at S (suc i) n (and-right (inRow S i) (rowsFrom S (suc i) n) e) k (omega arith))
+
 module _ (S : Settings) (h : inRows S ≡ true) where
-  pub rows : Rows S
+  row-at : (k : ℕ) → k < settingCount → inRow S k ≡ true
   unfolding inRows
+  row-at k l = subst (λ (j : ℕ). inRow S j ≡ true) (zero-add k) (rows-at S 0 settingCount h k l)
+
+  pub rows : Rows S
   rows =
-      let p = eqb-and (S .ports) 4 _ h in
-      let q = eqb-and (S .queues) 24 _ (p .1) in
-      let n = leb-and 1 (S .nodes) _ (and-left (inRow S 2) _ (q .1)) in
-      let b = and-right (inRow S 2) _ (q .1) in
-      let k = and-right (isBeat (S .beat)) _ b in
-      let d = leb-and 1 (S .slots) _ (and-left (inRow S 4) _ k) in
+      let n = row-is 1 (S .nodes) 2048 (row-at 2 (omega arith)) in
+      let d = row-is 1 (S .slots) 8 (row-at 4 (omega arith)) in
       record {
-        four-ports = p .0;
-        all-queues = q .0;
+        are-ports = row-at 0 (omega arith);
+        are-queues = row-at 1 (omega arith);
         some-nodes = n .0;
-        few-nodes = leb-yes (S .nodes) 2048 (n .1);
-        is-beat = and-left (isBeat (S .beat)) _ b;
+        few-nodes = n .1;
+        is-beat = row-at 3 (omega arith);
         some-slots = d .0;
-        few-slots = leb-yes (S .slots) 8 (d .1);
-        low-credit = leb-yes (S .credit) 65535 (and-right (inRow S 4) _ k);
+        few-slots = d .1;
+        low-credit = leb-yes (S .credit) 65535 (row-at 5 (omega arith));
+        is-edition = leb-yes (S .edition) wide (row-at 6 (omega arith));
+        no-packets = eqb-yes (S .packets) 0 (row-at 7 (omega arith));
       }
 
-  pub this-build : (S .ports ≡ 4) × (S .queues ≡ 24)
-  this-build = (rows .four-ports, rows .all-queues)
+  -- the ten-byte edition's ports and queues
+  pub ten-byte-counts : S .edition ≡ tenBytes → (S .ports ≡ 4) × (S .queues ≡ 24)
+  ten-byte-counts e = (ports-in (S .edition) (S .ports) (rows .are-ports) .0 e, queues-in (S .edition) (S .queues) (rows .are-queues) .0 e)
 
   pub roomy : Roomy S
-  roomy = let r = rows in let b = beat-range (S .beat) (rows .is-beat) in omega arith
+  roomy =
+      let r = rows in
+      let b = beat-range (S .beat) (rows .is-beat) in
+      let p = ports-range (S .edition) (S .ports) (rows .are-ports) in
+      let q = queues-range (S .edition) (S .queues) (rows .are-queues) in
+      omega arith
 
-  -- twelve bytes of settings, four of the map, four marks, 92 cells of 4, 200 lists of 8, and 52 for each node index
-  pub size-is : size S ≡ 1988 + 52 * S .nodes
+  -- four ports of 24 queues: sixteen bytes of settings, 4,096 of the map, four marks, 92 cells of 4, 200 lists of 8, and 52 for each node index
+  pub size-ten : S .edition ≡ tenBytes → size S ≡ 6084 + 52 * S .nodes
   unfolding size row
-  size-is = rw (rows .four-ports, rows .all-queues) (omega arith)
+  size-ten e = rw (ten-byte-counts e .0, ten-byte-counts e .1) (omega arith)
 
   -- at most 64 bytes for each node above 256, over all ports together
-  pub size-bound : size S ≤ 65536 + 64 * (S .nodes - 256)
-  size-bound = let r = rows in omega (arith, size-is)
+  pub size-ten-bound : S .edition ≡ tenBytes → size S ≤ 65536 + 64 * (S .nodes - 256)
+  size-ten-bound e = let r = rows in omega (arith, size-ten e)
+
+-- ---- the bytes of a state
+
+-- what a port takes of them, for so many queues and nodes
+abbrev pub portSize : ℕ → ℕ → ℕ
+portSize q n = 13 + (20 * q + 13 * n)
+
+pub size-is : (S : Settings) → 1 ≤ S .queues → size S ≡ 4112 + S .ports * portSize (S .queues) (S .nodes)
+unfolding size row
+size-is S some =
+    let less : S .ports * S .queues ≡ S .ports * (S .queues - 1) + S .ports =
+    ap (λ (q : ℕ). S .ports * q) (let e : S .queues ≡ suc (S .queues - 1) = omega arith in e) ∙ mul-suc (S .ports) (S .queues - 1) in
+    omega (
+      arith,
+      mul-add (S .ports) 13 (20 * S .queues + 13 * S .nodes),
+      mul-add (S .ports) (20 * S .queues) (13 * S .nodes),
+      mul-add (S .ports) 2 (2 * S .queues),
+      mul-left-comm (S .ports) 20 (S .queues),
+      mul-left-comm (S .ports) 2 (S .queues),
+      mul-left-comm (S .ports) 13 (S .nodes),
+    )
+
+-- it rises in each count
+pub size-rises : (S T : Settings) → Roomy S → Roomy T
+    → S .ports ≤ T .ports → S .queues ≤ T .queues → S .nodes ≤ T .nodes → size S ≤ size T
+size-rises S T ok ok′ p q n =
+    let most = mul-le-mul p (let k : portSize (S .queues) (S .nodes) ≤ portSize (T .queues) (T .nodes) = omega arith in k) in
+    omega (arith, size-is S (omega (arith, ok .some-queues)), size-is T (omega (arith, ok′ .some-queues)))
+
+-- "at most 64 bytes for each node, 128 for each queue of each port, 512 for each port and 16,384 beside" (paper 02, Q-7)
+pub size-bound : (S : Settings) → 1 ≤ S .queues
+    → size S ≤ 64 * (S .ports * S .nodes) + 128 * (S .ports * S .queues) + 512 * S .ports + 16384
+size-bound S some =
+    omega (
+      arith,
+      size-is S some,
+      mul-add (S .ports) 13 (20 * S .queues + 13 * S .nodes),
+      mul-add (S .ports) (20 * S .queues) (13 * S .nodes),
+      mul-left-comm (S .ports) 20 (S .queues),
+      mul-left-comm (S .ports) 13 (S .nodes),
+    )
+
+-- ---- the first that is not in its row
 
 -- each is in its row exactly if none is the first that is not
-pub rows-out : (S : Settings) → inRows S ≡ eqb (firstOut S) 6
-unfolding inRows firstOut
-rows-out S = go (inRow S 0) (inRow S 1) (inRow S 2) (inRow S 3) (inRow S 4) (inRow S 5)
+rows-out-from : (S : Settings) (i n : ℕ) → rowsFrom S i n ≡ eqb (outFrom S i n) (i + n)
+rows-out-from S i zero = sym (eqb-is i (i + 0) (omega arith))
+rows-out-from S i (suc n) = go (inRow S i) (rows-out-from S (suc i) n)
   where
-    go : (a b c d e f : Bool)
-        → (a && (b && (c && (d && (e && f))))) ≡ eqb (cond a (cond b (cond c (cond d (cond e (cond f 6 5) 4) 3) 2) 1) 0) 6
-    go false b c d e f = refl
-    go true false c d e f = refl
-    go true true false d e f = refl
-    go true true true false e f = refl
-    go true true true true false f = refl
-    go true true true true true false = refl
-    go true true true true true true = refl
+    go : (b : Bool) → rowsFrom S (suc i) n ≡ eqb (outFrom S (suc i) n) (suc i + n)
+        → (b && rowsFrom S (suc i) n) ≡ eqb (cond b (outFrom S (suc i) n) i) (i + suc n)
+    go true rest = rest ∙ ap (λ (k : ℕ). eqb (outFrom S (suc i) n) k) (let e : suc i + n ≡ i + suc n = omega arith in e)
+    go false rest = sym (eqb-not i (i + suc n) (λ e. omega arith))
 
--- a number is not in a row of two bounds
-off-row : (a n b : ℕ) → (a ≤ n → n ≤ b → ⊥) → (leb a n && leb n b) ≡ false
-off-row a n b out = is-false (leb a n && leb n b) (λ e. let h = leb-and a n _ e in out (h .0) (leb-yes n b (h .1)))
+pub rows-out : (S : Settings) → inRows S ≡ eqb (firstOut S) settingCount
+unfolding inRows firstOut
+rows-out S = rows-out-from S 0 settingCount
 
--- the first setting that is not in its row, one after another
-module _ (S : Settings) where
-  pub out-ports : S .ports ≢ 4 → firstOut S ≡ 0
-  unfolding firstOut
-  out-ports n = rw (eqb-not (S .ports) 4 n)
+-- setting i, where those before it are in their rows
+pub out-at : (S : Settings) (i n : ℕ) → inRow S i ≡ false → outFrom S i (suc n) ≡ i
+out-at S i n e = rw e
 
-  module _ (p : S .ports ≡ 4) where
-    pub out-queues : S .queues ≢ 24 → firstOut S ≡ 1
-    unfolding firstOut
-    out-queues n = rw (eqb-is (S .ports) 4 p, eqb-not (S .queues) 24 n)
-
-    module _ (q : S .queues ≡ 24) where
-      pub out-nodes : (1 ≤ S .nodes → S .nodes ≤ 2048 → ⊥) → firstOut S ≡ 2
-      unfolding firstOut
-      out-nodes n = rw (eqb-is (S .ports) 4 p, eqb-is (S .queues) 24 q, off-row 1 (S .nodes) 2048 n)
-
-      module _ (n : 1 ≤ S .nodes) (n′ : S .nodes ≤ 2048) where
-        pub out-beat : isBeat (S .beat) ≡ false → firstOut S ≡ 3
-        unfolding firstOut
-        out-beat b = rw (eqb-is (S .ports) 4 p, eqb-is (S .queues) 24 q, leb-is 1 (S .nodes) n, leb-is (S .nodes) 2048 n′, b)
-
-        module _ (b : isBeat (S .beat) ≡ true) where
-          pub out-slots : (1 ≤ S .slots → S .slots ≤ 8 → ⊥) → firstOut S ≡ 4
-          unfolding firstOut
-          out-slots d =
-              rw (eqb-is (S .ports) 4 p, eqb-is (S .queues) 24 q, leb-is 1 (S .nodes) n, leb-is (S .nodes) 2048 n′, b, off-row 1 (S .slots) 8 d)
-
-          module _ (d : 1 ≤ S .slots) (d′ : S .slots ≤ 8) where
-            -- where all before it are, the credit decides
-            out-last : (c : Bool) → leb (S .credit) 65535 ≡ c → firstOut S ≡ cond c 6 5
-            unfolding firstOut
-            out-last c k =
-                rw (
-                  eqb-is (S .ports) 4 p,
-                  eqb-is (S .queues) 24 q,
-                  leb-is 1 (S .nodes) n,
-                  leb-is (S .nodes) 2048 n′,
-                  b,
-                  leb-is 1 (S .slots) d,
-                  leb-is (S .slots) 8 d′,
-                  k,
-                )
-
-            pub out-credit : 65535 < S .credit → firstOut S ≡ 5
-            out-credit k = out-last false (leb-not (S .credit) 65535 k)
-
-            pub out-none : S .credit ≤ 65535 → firstOut S ≡ 6
-            out-none k = out-last true (leb-is (S .credit) 65535 k)
-
-pub size-rises : (S S′ : Settings) → inRows S ≡ true → inRows S′ ≡ true → S .nodes ≤ S′ .nodes → size S ≤ size S′
-size-rises S S′ h h′ k = omega (arith, size-is S h, size-is S′ h′)
+pub out-past : (S : Settings) (i n : ℕ) → inRow S i ≡ true → outFrom S i (suc n) ≡ outFrom S (suc i) n
+out-past S i n e = rw e

@@ -8,7 +8,7 @@ use lib.ListN.{length}
 use lib.Dec.{eqb}
 use Rattle.ledger.specs.Settings.{Settings}
 use Rattle.ledger.specs.Rules.{Rule, refuse, guard, Clear}
-use Rattle.ledger.specs.Header.{fieldsOf}
+use Rattle.ledger.specs.Header.{form, fieldsOf}
 use Rattle.ledger.specs.Ledger.{owner, Packet, bare, recorded, free, ingress, egress, prefetched, Ledger, listAt, arrivalOf, outwardOf, lastOf}
 use Rattle.ledger.specs.Ledger.{mapOf, move, putCredit, arrival, outward, last, mapped, Column, Place·In}
 use Rattle.ledger.specs.Ready.{covered, isReady, wordOf, readyWord, pick}
@@ -18,7 +18,7 @@ use Rattle.ledger.specs.Sound.{Proper, owes, Orderly, Roomy}
 use Rattle.ledger.proofs.Tests.{leb-no, ltb-no}
 use Rattle.ledger.proofs.Places.{credit-in}
 use Rattle.ledger.proofs.Keep.{some-queue, first-fits, first-node, keep-moved, keep-traded, keep-outward, lowered, raised, keep-put}
-use Rattle.ledger.proofs.Header.{fields-in}
+use Rattle.ledger.proofs.Header.{fields-in, dest-mapped}
 use Rattle.ledger.proofs.Passes.{Passes, Admits, admits}
 use Rattle.ledger.proofs.Ready.{picked-ready}
 
@@ -63,10 +63,10 @@ covered-some q c (k ∷ ks) e = refl
 
 module _ (S : Settings) (roomy : Roomy S) where
   -- what is recorded of a header with no fault is proper
-  pub recorded-proper : (x p : ℕ) (h : List ℕ) → Passes (S .queues) p h → Proper S (recorded S x (fieldsOf h))
+  pub recorded-proper : (x p : ℕ) (h : List ℕ) → Passes (form S) (S .queues) p h → Proper S (recorded S x (fieldsOf (form S) h))
   unfolding recorded
   recorded-proper x p h good =
-      let f = fields-in h in
+      let f = fields-in (form S) h in
       record {
         len-low = good .long;
         len-high = f .len;
@@ -123,7 +123,7 @@ module _ (S : Settings) (roomy : Roomy S) where
         let v-in : Place·In S (ingress p) = (hp, some-queue S roomy L s) in
         let f = first-fits S roomy L s (ingress p) v-in e in
         keep-moved S roomy L s (ingress p) v-in e (egress (mapOf L (k .dest)) (k .queue))
-        (s .ranges .numbers-in mapped (k .dest) (f .2 .dest-in), f .2 .queue-in) k refl
+        (s .ranges .numbers-in mapped (k .dest) (dest-mapped S roomy (k .dest) (f .2 .dest-in)), f .2 .queue-in) k refl
         (λ i. let z : _≡_ {A = ℕ} 0 1 = cc in omega arith)
         (λ a b i. absurd (let z : _≡_ {A = ℕ} 0 1 = cc in omega arith))
         (tt, refl, f .2)

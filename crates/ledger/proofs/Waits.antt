@@ -7,14 +7,14 @@ use Prim.Native.Nat.{ℕ, _+_, _*_, _≤_, _<_}
 use native.Mathlib.Nat.{le-of-suc-le-suc, not-suc-le-zero}
 use native.Mathlib.Omega.{arith}
 use lib.ListN.{length, drop, take, length-append}
-use Rattle.ledger.specs.Settings.{Settings}
+use Rattle.ledger.specs.Settings.{Settings, tenBytes}
 use Rattle.ledger.specs.Ledger.{Packet, egress, prefetched, Ledger, listAt}
 use Rattle.ledger.specs.Ready.{bit}
 use Rattle.ledger.specs.Calls.{Act, turn, Reply, isEmpty, step}
 use Rattle.ledger.specs.Desk.{Desk, has, Call, setup, act, desk, afterCalls, SetupsRefused}
 use Rattle.ledger.specs.Sound.{Roomy, Orderly, Sound}
 use Rattle.ledger.specs.Demand.{isTurn, Stands, turnsIn, ShowsWaiting, NobodyStarvesFrom, NobodyStarvesAtDesk, NobodyStarvesAtDesk24}
-use Rattle.ledger.proofs.Rows.{roomy, this-build}
+use Rattle.ledger.proofs.Rows.{roomy, ten-byte-counts}
 use Rattle.ledger.proofs.Courses.{first-refused, Faithful, act-answer, act-shows, refused-shows, desk-faithful}
 use Rattle.ledger.proofs.Walk.{Does, ends, nears, Course, Standing, countCalls, comes-in}
 use Rattle.ledger.proofs.Line.{isChance, Leaving, Waits, waits-some, waits-move, waits-from}
@@ -109,15 +109,16 @@ pub nobody-starves-at-desk : NobodyStarvesAtDesk
 unfolding NobodyStarvesAtDesk
 nobody-starves-at-desk n S ok L s = nobody-starves-from (desk n) (λ D. D) (λ D. n) (desk-faithful n) S ok (has S L) L refl s
 
--- with the numbers of this build
-pub this-build-from : {X : Type 0} (call : X → Call → Reply × X) (shows : X → Desk) (S : Settings) (L : Ledger) (x : X) → Sound S L
+-- with the numbers of the ten-byte edition
+pub ten-bytes-from : {X : Type 0} (call : X → Call → Reply × X) (shows : X → Desk) (S : Settings) (L : Ledger) (x : X) → Sound S L
+    → S .edition ≡ tenBytes
     → NobodyStarvesFrom call shows S L (S .ports) (S .queues) x → NobodyStarvesFrom call shows S L 4 24 x
-this-build-from call shows S L x s f =
-    let b = this-build S (s .rows) in
+ten-bytes-from call shows S L x s e f =
+    let b = ten-byte-counts S (s .rows) e in
     subst (λ (P : ℕ). NobodyStarvesFrom call shows S L P 24 x) (b .0)
     (subst (λ (Q : ℕ). NobodyStarvesFrom call shows S L (S .ports) Q x) (b .1) f)
 
 pub nobody-starves-at-desk-24 : NobodyStarvesAtDesk24
 unfolding NobodyStarvesAtDesk NobodyStarvesAtDesk24
-nobody-starves-at-desk-24 n S L s =
-    this-build-from (desk n) (λ D. D) S L (has S L) s (nobody-starves-at-desk n S (roomy S (s .rows)) L (s .orderly))
+nobody-starves-at-desk-24 n S L s e =
+    ten-bytes-from (desk n) (λ D. D) S L (has S L) s e (nobody-starves-at-desk n S (roomy S (s .rows)) L (s .orderly))

@@ -6,6 +6,7 @@ use Prim.Native.Nat.{ℕ, zero, suc, _+_, _*_, _≤_, _<_}
 use native.Mathlib.Omega.{arith}
 use lib.ListN.{length, getD, replicate}
 use Rattle.ledger.specs.Settings.{Settings, settings, row}
+use Rattle.ledger.specs.Header.{widthOf, formOf, frontBits, frontBytes, bodySize, headerSize}
 use Rattle.ledger.specs.Ledger.{owner, Packet, free, place#, placeOf, Ledger, pop, start}
 use Rattle.ledger.specs.Calls.{Act, arrive, stitch, prefetch, credit, mapTo, turn, ready, whereIs, Side, outside, Reply, refused, entry}
 use Rattle.ledger.specs.Calls.{stitched, idle, leaves, isRefused, sideOf, onRefusal}
@@ -149,7 +150,7 @@ abbrev pub leaks : ℕ → Desk → Call → Reply × Desk
 leaks n D c = (desk n D c .0, relisted (cond (isRefused (desk n D c .0)) (pop 0) (λ ls. ls)) (desk n D c .1))
 
 pub pool-leaked : (n : ℕ) → PoolKept (leaks n) (λ D. D) two (start two) 0 (has two (start two)) (act (arrive 0 []) ∷ []) → ⊥
-unfolding oldestFree start row place# pop onRefusal
+unfolding oldestFree start row place# pop onRefusal widthOf formOf frontBits frontBytes bodySize headerSize lib.Count.leadingZeros
 pool-leaked n k =
     let e : _≡_ {A = ℕ} 1 0 = ap oldestFree (k .shown) ∙ ap (λ (xs : List ℕ). getD xs 0 0) (k .in-order .stays-behind) in
     omega arith

@@ -7,7 +7,7 @@ use Rattle.ledger.specs.Calls.{Side, inside, outside, Reply, refused, do
 use Rattle.ledger.specs.declared.Refusal.{Refusal}
 use Rattle.ledger.specs.declared.Refusal.the-variants.{ShortMemory, BadSetting, NoState, NoPort, NoQueue, HeaderSize, Checksum, Source}
 use Rattle.ledger.specs.declared.Refusal.the-variants.{TooShort, NoCredit, NoFreeNode, NothingThere, SlotsInUse, TooMuchCredit, NoSuchId}
-use Rattle.ledger.specs.declared.Refusal.the-variants.{HeaderQueue, ReservedBit, ShortRoom}
+use Rattle.ledger.specs.declared.Refusal.the-variants.{HeaderQueue, ReservedBit, NoFit, ShortRoom}
 use Rattle.ledger.specs.declared.ListKind.{ListKind}
 use Rattle.ledger.specs.declared.ListKind.the-variants.{Free, Ingress, Egress, Prefetch}
 use Rattle.ledger.specs.declared.Exit.{Exit}
@@ -24,7 +24,7 @@ use Rattle.ledger.specs.declared.Readiness.the-variants as words
 use Rattle.ledger.specs.declared.Whereabouts.{Whereabouts}
 use Rattle.ledger.specs.declared.Whereabouts.the-variants as places
 
--- the number of a refusal in the table; 19, 20 and 27 are paper 02's, and 16 to 18 and 21 to 26 aren't given yet
+-- the number of a refusal in the table; 19 to 21 and 27 are paper 02's, and 16 to 18 and 22 to 26 aren't given yet
 abbrev pub numberOf : Refusal → ℕ
 numberOf ShortMemory = 1
 numberOf BadSetting = 2
@@ -43,6 +43,7 @@ numberOf TooMuchCredit = 14
 numberOf NoSuchId = 15
 numberOf HeaderQueue = 19
 numberOf ReservedBit = 20
+numberOf NoFit = 21
 numberOf ShortRoom = 27
 
 abbrev pub kindOf : ListKind → Place

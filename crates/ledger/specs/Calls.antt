@@ -8,7 +8,7 @@ use lib.Dec.{eqb, ltb, leb}
 use lib.Count.{ones}
 use Rattle.ledger.specs.Settings.{Settings, ids}
 use Rattle.ledger.specs.Rules.{Rule, refuse, guard}
-use Rattle.ledger.specs.Header.{fieldsOf, headerRules}
+use Rattle.ledger.specs.Header.{form, fieldsOf, arrivalRules}
 use Rattle.ledger.specs.Ledger.{owner, isNode, Packet, bare, recorded, Place, free, ingress, egress, prefetched, placeOf, Ledger, listAt}
 use Rattle.ledger.specs.Ledger.{arrival, outward, last, mapped, arrivalOf, outwardOf, lastOf, mapOf, oldest, move, putIn, putCredit}
 use Rattle.ledger.specs.Ready.{readyWord, pick}
@@ -62,7 +62,7 @@ firstOf S L v = oldest (listAt S L v)
 
 -- what the packet of header h is at port p: the oldest free node with the header recorded
 abbrev pub arriving : Settings → Ledger → ℕ → List ℕ → Packet
-arriving S L p h = recorded S (firstOf S L (free p) .node) (fieldsOf h)
+arriving S L p h = recorded S (firstOf S L (free p) .node) (fieldsOf (form S) h)
 
 -- the refusals that are left where port and header are right, packet k being what arrives: for want of credit, and of a node
 abbrev pub lastRules : Settings → Ledger → ℕ → Packet → List Rule
@@ -115,7 +115,7 @@ which y (l ∷ ls) = cond (ltb (position y l) (length l)) 0 (suc (which y ls))
 -- ---- the refusals of each act, in order
 
 abbrev pub rules : Settings → Ledger → Act → List Rule
-rules S L (arrive p h) = noPort S p ∷ (headerRules (S .queues) p h ++ lastRules S L p (arriving S L p h))
+rules S L (arrive p h) = noPort S p ∷ (arrivalRules (form S) (S .queues) p h ++ lastRules S L p (arriving S L p h))
 rules S L (stitch p) = noPort S p ∷ refuse 12 (isEmpty (listAt S L (ingress p))) ∷ []
 rules S L (prefetch p q) =
     noPort S p

@@ -178,7 +178,7 @@ cards =
     (done ∷ entry 0 ∷ refused 11 ∷ twelve-record ∷ entry 0 ∷ leaves (plain 0 12 0) inside ∷ entry 0 ∷ [])
     ∷ says (setUp 1 64 1 0 ∷ act (credit 0 1 65535) ∷ act (credit 0 1 0) ∷ act (credit 0 1 1) ∷ [])
     (done ∷ done ∷ done ∷ refused 14 ∷ [])
-    ∷ says (setUp 256 64 1 0 ∷ setUp 0 64 1 0 ∷ setUp 2049 64 1 0 ∷ setUp 1222 64 1 0 ∷ setUp 1223 64 1 0 ∷ setUp 2048 64 1 0 ∷ [])
+    ∷ says (setUp 256 64 1 0 ∷ setUp 0 64 1 0 ∷ setUp 2049 64 1 0 ∷ setUp 1143 64 1 0 ∷ setUp 1144 64 1 0 ∷ setUp 2048 64 1 0 ∷ [])
     (done ∷ refused 2 ∷ refused 2 ∷ done ∷ refused 1 ∷ refused 1 ∷ [])
     ∷ lent (size (settings 2048 64 1 0) - 1) (setUp 2048 64 1 0 ∷ []) (refused 1 ∷ [])
     ∷ lent (size (settings 2048 64 1 0))

@@ -6,7 +6,7 @@ use mathlib.Core.List.{List, [], _∷_, _++_}
 use Prim.Native.Nat.{ℕ, _+_, _*_, _≤_, _<_}
 use lib.ListN.{length, getD, take}
 use lib.Dec.{eqb}
-use Rattle.ledger.specs.Settings.{Settings}
+use Rattle.ledger.specs.Settings.{Settings, tenBytes}
 use Rattle.ledger.specs.Ledger.{Packet, prefetched, Ledger, listAt, outwardOf}
 use Rattle.ledger.specs.Ready.{bit}
 use Rattle.ledger.specs.Calls.{Act, arrive, stitch, prefetch, credit, mapTo, turn, ready, whereIs, Reply, leaves, sideOf}
@@ -78,6 +78,7 @@ unfoldable pub NobodyStarvesAtDesk : Type 0
 NobodyStarvesAtDesk =
     (n : ℕ) (S : Settings) → Roomy S → (L : Ledger) → Orderly S L → NobodyStarvesFrom (desk n) (λ D. D) S L (S .ports) (S .queues) (has S L)
 
--- and in this build: turn 24 (k + 1)
+-- and of the ten-byte edition, as paper 01 says it: turn 24 (k + 1)
 unfoldable pub NobodyStarvesAtDesk24 : Type 0
-NobodyStarvesAtDesk24 = (n : ℕ) (S : Settings) (L : Ledger) → Sound S L → NobodyStarvesFrom (desk n) (λ D. D) S L 4 24 (has S L)
+NobodyStarvesAtDesk24 =
+    (n : ℕ) (S : Settings) (L : Ledger) → Sound S L → S .edition ≡ tenBytes → NobodyStarvesFrom (desk n) (λ D. D) S L 4 24 (has S L)

@@ -8,7 +8,7 @@ use Prim.Native.Nat.{ℕ, _+_, _<_}
 use lib.ListN.{length, getD}
 use lib.Dec.{eqb}
 use Rattle.ledger.specs.Settings.{Settings}
-use Rattle.ledger.specs.Header.{fieldsOf}
+use Rattle.ledger.specs.Header.{form, fieldsOf}
 use Rattle.ledger.specs.Ledger.{owner, Packet, recorded, free, ingress, place#, placeOf, Column, arrival, Ledger, listAt, arrivalOf}
 use Rattle.ledger.specs.Ready.{bit}
 use Rattle.ledger.specs.Calls.{Reply, refused, entry}
@@ -29,8 +29,8 @@ pub record OnlyAt (S : Settings) (p : ℕ) (L N : Ledger) : Type 0 where
 pub record TakenIn (S : Settings) (L : Ledger) (p : ℕ) (h : List ℕ) (x : ℕ) (N : Ledger) : Type 0 where
   pub own : owner x ≡ p
   pub from-pool : idsAt S L (free p) ≡ x ∷ idsAt S N (free p)
-  pub to-ingress : listAt S N (ingress p) ≡ listAt S L (ingress p) ++ (recorded S x (fieldsOf h) ∷ [])
-  pub paid : (q : ℕ) → q < S .queues → arrivalOf S N p q + owes p q (recorded S x (fieldsOf h)) ≡ arrivalOf S L p q
+  pub to-ingress : listAt S N (ingress p) ≡ listAt S L (ingress p) ++ (recorded S x (fieldsOf (form S) h) ∷ [])
+  pub paid : (q : ℕ) → q < S .queues → arrivalOf S N p q + owes p q (recorded S x (fieldsOf (form S) h)) ≡ arrivalOf S L p q
   pub only : OnlyAt S p L N
 
 -- what an arrival at port p of any bytes h answers and leaves of the ledger L: a refusal and nothing else, or an own node with the header

@@ -9,7 +9,7 @@ use lib.ListN.{length, getD, take, drop}
 use lib.Dec.{eqb}
 use Rattle.numbers.specs.Bytes.{number}
 use Rattle.ledger.specs.Settings.{Settings}
-use Rattle.ledger.specs.Header.{fieldsOf}
+use Rattle.ledger.specs.Header.{form, fieldsOf}
 use Rattle.ledger.specs.Ledger.{owner, Packet, recorded, Place, free, ingress, egress, prefetched, portOf, kindIn, queueIn, placeOf, Ledger, listAt}
 use Rattle.ledger.specs.Calls.{Act, arrive, stitch, prefetch, credit, mapTo, turn, ready, whereIs, Side, Reply, refused, done, entry, stitched}
 use Rattle.ledger.specs.Calls.{idle, leaves, word, found}
@@ -119,7 +119,7 @@ held S L = heldFrom S 0 (L .lists)
 
 -- the packet that a call brought in: an arrival's header, recorded for the node that its answer names
 abbrev pub broughtBy : Settings → Act → Reply → List Packet
-broughtBy S (arrive p h) r = named [] (λ x. recorded S x (fieldsOf h) ∷ []) (λ b. []) (λ k. []) r
+broughtBy S (arrive p h) r = named [] (λ x. recorded S x (fieldsOf (form S) h) ∷ []) (λ b. []) (λ k. []) r
 broughtBy S (stitch p) r = []
 broughtBy S (prefetch p q) r = []
 broughtBy S (credit p q n) r = []

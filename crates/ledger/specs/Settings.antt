@@ -1,6 +1,6 @@
--- Paper 01, "What the switch has": the settings, which values each may have, and the bytes that a state of such settings takes.
--- Ports and queues are settings like the others, so that nothing but `inRows` knows how many this build has. Assumes nothing.
-use mathlib.Core.Bool.{Bool, cond, _&&_}
+-- Paper 01, "What the switch has", and paper 02, Q-7: the settings, which values each may have, and the bytes that a state of such settings
+-- takes. Ports and queues are settings like the others, so that nothing but `inRow` knows how many there may be. Assumes nothing.
+use mathlib.Core.Bool.{Bool, true, cond, _&&_}
 use Prim.Native.Nat.{ℕ, zero, suc, _+_, _-_, _*_}
 use lib.Dec.{eqb, leb}
 use lib.Count.{ones}
@@ -12,32 +12,54 @@ pub record Settings : Type 0 where
   pub beat : ℕ
   pub slots : ℕ
   pub credit : ℕ
+  pub edition : ℕ
+  pub packets : ℕ
 
--- what setup is told: N, beat, D and K; this build has four ports of 24 queues
+-- the editions of the header: ten bytes, which four ports of 24 queues have, and wide, for every number of them
+abbrev pub tenBytes : ℕ
+tenBytes = 0
+
+abbrev pub wide : ℕ
+wide = 1
+
+-- a switch of the ten-byte header by its N, beat, D and K: what the bench program sets up
 abbrev pub settings : ℕ → ℕ → ℕ → ℕ → Settings
-settings N b D K = record { ports = 4; queues = 24; nodes = N; beat = b; slots = D; credit = K }
+settings N b D K = record { ports = 4; queues = 24; nodes = N; beat = b; slots = D; credit = K; edition = tenBytes; packets = 0 }
 
 -- "Within 64 to 512, a beat size has a single one among its bits; nothing else is a beat."
 unfoldable pub isBeat : ℕ → Bool
 isBeat b = leb 64 b && (leb b 512 && eqb (ones b) 1)
 
+-- ports and queues by edition: "2 to 32 ports and 2 to 64 queues"; the ten-byte one "needs 4 ports and 24 queues" (paper 02, Q-7)
+unfoldable pub portsIn : ℕ → ℕ → Bool
+portsIn e p = cond (eqb e tenBytes) (eqb p 4) (leb 2 p && leb p 32)
+
+unfoldable pub queuesIn : ℕ → ℕ → Bool
+queuesIn e q = cond (eqb e tenBytes) (eqb q 24) (leb 2 q && leb q 64)
+
 -- how many settings there are
 abbrev pub settingCount : ℕ
-settingCount = 6
+settingCount = 8
 
 -- setting i, in the order in which a memory has them, is in its row of the table; N reaches 2,048, the most that an entry id allows
--- (paper 02, Q-5)
+-- (paper 02, Q-5); no switch keeps packets yet
 abbrev pub inRow : Settings → ℕ → Bool
-inRow S zero = eqb (S .ports) 4
-inRow S (suc zero) = eqb (S .queues) 24
+inRow S zero = portsIn (S .edition) (S .ports)
+inRow S (suc zero) = queuesIn (S .edition) (S .queues)
 inRow S (suc (suc zero)) = leb 1 (S .nodes) && leb (S .nodes) 2048
 inRow S (suc (suc (suc zero))) = isBeat (S .beat)
 inRow S (suc (suc (suc (suc zero)))) = leb 1 (S .slots) && leb (S .slots) 8
-inRow S (suc (suc (suc (suc (suc i))))) = leb (S .credit) 65535
+inRow S (suc (suc (suc (suc (suc zero))))) = leb (S .credit) 65535
+inRow S (suc (suc (suc (suc (suc (suc zero)))))) = leb (S .edition) wide
+inRow S (suc (suc (suc (suc (suc (suc (suc i))))))) = eqb (S .packets) 0
 
--- each is
+-- each is, of n settings from i on
+abbrev pub rowsFrom : Settings → ℕ → ℕ → Bool
+rowsFrom S i zero = true
+rowsFrom S i (suc n) = inRow S i && rowsFrom S (suc i) n
+
 unfoldable pub inRows : Settings → Bool
-inRows S = inRow S 0 && (inRow S 1 && (inRow S 2 && (inRow S 3 && (inRow S 4 && inRow S 5))))
+inRows S = rowsFrom S 0 settingCount
 
 -- the first of n settings from i on that is not; the number after them where each is
 abbrev pub outFrom : Settings → ℕ → ℕ → ℕ
@@ -47,14 +69,14 @@ outFrom S i (suc n) = cond (inRow S i) (outFrom S (suc i) n) i
 unfoldable pub firstOut : Settings → ℕ
 firstOut S = outFrom S 0 settingCount
 
--- entries of the map: one for each destination id
+-- entries of the map: one for each destination id (paper 02, Q-7), in every edition
 abbrev pub ids : ℕ
-ids = 4
+ids = 4096
 
 -- lists of a port: free, ingress, and for each queue egress and prefetch
 unfoldable pub row : Settings → ℕ
 row S = 2 + 2 * S .queues
 
--- the bytes of a state: six settings of 2, the map, the marks, two credits of 2 for each port and queue but 0, 8 for each list, 13 for each node
+-- the bytes of a state: settings of 2, the map, the marks, two credits of 2 for each port and queue but 0, 8 for each list, 13 for each node
 unfoldable pub size : Settings → ℕ
-size S = 12 + ids + S .ports + 4 * (S .ports * (S .queues - 1)) + 8 * (S .ports * row S) + 13 * (S .ports * S .nodes)
+size S = 2 * settingCount + ids + S .ports + 4 * (S .ports * (S .queues - 1)) + 8 * (S .ports * row S) + 13 * (S .ports * S .nodes)

@@ -6,7 +6,7 @@ use Prim.Native.Nat.{ℕ, suc, _+_, _*_, _^_, _≤_, _<_}
 use lib.ListN.{length, getD}
 use lib.Dec.{eqb}
 use Rattle.ledger.specs.Settings.{Settings, inRows, row}
-use Rattle.ledger.specs.Header.{leastLength, price}
+use Rattle.ledger.specs.Header.{form, leastLength, price}
 use Rattle.ledger.specs.Ledger.{owner, isNode, Packet, Place, free, ingress, egress, prefetched, placeOf, Column, tall, bound, Ledger, listAt}
 use Rattle.ledger.specs.Ledger.{arrivalOf}
 use Rattle.ledger.specs.Ready.{bit}
@@ -65,10 +65,10 @@ OwnQueue (prefetched p q) k = k .queue ≡ q
 
 -- (f) every field is in its header field's range; length, price and queue obey the rules
 pub record Proper (S : Settings) (k : Packet) : Type 0 where
-  pub len-low : leastLength ≤ k .len
+  pub len-low : leastLength (form S) ≤ k .len
   pub len-high : k .len < 2 ^ 13
   pub queue-in : k .queue < S .queues
-  pub dest-in : k .dest < 2 ^ 2
+  pub dest-in : k .dest < 2 ^ form S .portBits
   pub stamp-in : k .stamp < 2 ^ 32
   pub poisoned-in : k .poisoned < 2
   pub transaction-in : k .transaction < 256
@@ -109,9 +109,9 @@ pub record Sound (S : Settings) (L : Ledger) : Type 0 where
   pub rows : inRows S ≡ true
   pub orderly : Orderly S L
 
--- what proofs use of (a): it holds of every switch that may come, so nothing but `inRows` knows this build's numbers
+-- what proofs use of (a), so that nothing but `inRow` knows an edition's numbers
 pub record Roomy (S : Settings) : Type 0 where
-  pub some-ports : 1 ≤ S .ports
+  pub some-ports : 2 ≤ S .ports
   pub few-ports : S .ports ≤ 32
   pub some-queues : 2 ≤ S .queues
   pub few-queues : S .queues ≤ 64
