@@ -8,7 +8,7 @@ use Rattle.settings.proofs.in_rows.Statement.{statement}
 use Rattle.settings.proofs.in_rows.Tie as tie
 
 returns : tie.Need-returns
-returns c = ap (λ (n : ℕ). eqb n 6) (c .first-out .ensures) ∙ sym (rows-out _)
+returns c = ap (λ (n : ℕ). eqb n 8) (c .first-out .ensures) ∙ sym (rows-out _)
 
 pub in-rows-spec : {M : Type 1} → statement M
 in-rows-spec = tie.close (tie.spec (λ c κs. search needs) returns)

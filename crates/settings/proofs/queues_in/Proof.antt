@@ -1,0 +1,21 @@
+use borrow.Author.Needs.{needs}
+use Rattle.settings.proofs.queues_in.Statement.{statement}
+use Rattle.settings.proofs.queues_in.Tie as tie
+use Rattle.settings.proofs.queues_in.Reads as reads
+use Rattle.settings.proofs.queues_in.Lts as lts
+use Rattle.settings.proofs.between.Reads as between-reads
+
+-- src/lib.rt:67:9
+returns : tie.Need-returns
+returns c = ?
+
+-- src/lib.rt:69:5
+between-requires : tie.Need-between-requires
+between-requires c κs = search needs
+
+-- src/lib.rt:63:1
+returns-2 : tie.Need-returns-2
+returns-2 c = ?
+
+pub queues-in-spec : {M : Type 1} → statement M
+queues-in-spec = tie.close (tie.spec returns between-requires returns-2)
