@@ -1,17 +1,17 @@
--- The laws of `number` and `store`, over the count of bytes k. Assumes nothing.
+-- The laws of `number`, `store` and `digits`, over the count of bytes k. Assumes nothing.
 use mathlib.Core.Path.{_≡_, refl, sym, ap, ap₂, _∙_}
 use mathlib.Core.Logic.{_⊎_, inl, inr}
-use mathlib.Core.List.{List, [], _∷_}
+use mathlib.Core.List.{List, [], _∷_, _++_}
 use Prim.Native.Nat.{ℕ, zero, suc, _+_, _*_, _/_, _%_, _^_, _≤_, _<_}
-use native.Mathlib.Nat.{mod-lt, mod-eq-of-lt, one-le-pow, zero-lt-suc, pow-succ', zero-add, add-zero, suc-add, mul-assoc, add-mul, add-assoc}
+use native.Mathlib.Nat.{mod-lt, mod-mod, mod-eq-of-lt, div-one, div-add-mod', div-div-eq-div-mul, mul-add-div-right, mul-add-mod-self-right, one-le-pow, zero-lt-suc, pow-suc, pow-succ', zero-add, add-zero, suc-add, add-suc, add-comm, mul-suc, mul-assoc, add-mul, add-assoc}
 use native.Mathlib.Omega.{arith}
-use lib.Arith.{digits-lt, mod-mul}
-use lib.ListN.{length, getD, set, length-set}
+use lib.Arith.{digits-lt, digits-div, mod-mul}
+use lib.ListN.{length, getD, set, take, drop, length-set}
 use lib.Pow.{pow-add}
-use lib.Seq.{getD-set-same, getD-set-other}
-use Rattle.numbers.specs.Bytes.{number, store}
+use lib.Seq.{drop-cons, getD-append-add, getD-set-same, getD-set-other}
+use Rattle.numbers.specs.Bytes.{number, store, digits}
 
--- the byte of v that has k bytes below it: the first that a store of suc k bytes sets
+-- the byte of v that has k bytes below it: the first of suc k bytes
 abbrev byte : ℕ → ℕ → ℕ
 byte k v = v / 256 ^ k % 256
 
@@ -87,3 +87,108 @@ unfolding store
 stored-bytes-small zero m at v i h = h
 stored-bytes-small (suc k) m at v i h =
     stored-bytes-small k (set m at (byte k v)) (suc at) v i (set-small m at (byte k v) i (omega arith) h)
+
+-- ---- the bytes of a number
+
+pub length-digits : (k v : ℕ) → length (digits k v) ≡ k
+unfolding digits
+length-digits zero v = refl
+length-digits (suc k) v = ap suc (length-digits k v)
+
+pub digits-low : (k v i : ℕ) → getD (digits k v) i 0 < 256
+unfolding digits
+digits-low zero v i = zero-lt-suc 255
+digits-low (suc k) v zero = mod-lt (v / 256 ^ k) (zero-lt-suc 255)
+digits-low (suc k) v (suc i) = digits-low k v i
+
+-- what lies above the k bytes is left out
+pub digits-above : (k x y : ℕ) → digits k (x * 256 ^ k + y) ≡ digits k y
+unfolding digits
+digits-above zero x y = refl
+digits-above (suc k) x y =
+    let e : x * 256 ^ suc k ≡ x * 256 * 256 ^ k = rw (pow-succ' 256 k, mul-assoc x 256 (256 ^ k)) in
+    let first : byte k (x * 256 * 256 ^ k + y) ≡ byte k y =
+    ap (λ (n : ℕ). n % 256) (mul-add-div-right (positive k) (x * 256) y) ∙ mul-add-mod-self-right x 256 (y / 256 ^ k) in
+    ap (λ (n : ℕ). byte k (n + y) ∷ digits k (n + y)) e
+    ∙ ap₂ (λ (b : ℕ) (bs : List ℕ). b ∷ bs) first (digits-above k (x * 256) y)
+
+pub digits-mod : (k v : ℕ) → digits k (v % 256 ^ k) ≡ digits k v
+digits-mod k v = sym (digits-above k (v / 256 ^ k) (v % 256 ^ k)) ∙ ap (digits k) (div-add-mod' v (256 ^ k))
+
+-- the bytes of a number put together: first those of the high part
+pub digits-join : (a b x y : ℕ) → y < 256 ^ b → digits (a + b) (x * 256 ^ b + y) ≡ digits a x ++ digits b y
+unfolding digits
+digits-join zero b x y small = rw zero-add (digits-above b x y)
+digits-join (suc a) b x y small =
+    let n : ℕ = x * 256 ^ b + y in
+    let first : byte (a + b) n ≡ byte a x =
+    ap (λ (e : ℕ). n / 256 ^ e % 256) (add-comm a b)
+    ∙ ap (λ (p : ℕ). n / p % 256) (pow-add 256 b a)
+    ∙ sym (ap (λ (q : ℕ). q % 256) (div-div-eq-div-mul n (256 ^ b) (256 ^ a)))
+    ∙ ap (λ (q : ℕ). q / 256 ^ a % 256) (digits-div x small) in
+    ap (λ (k : ℕ). digits k n) (suc-add a b)
+    ∙ ap₂ (λ (c : ℕ) (cs : List ℕ). c ∷ cs) first (digits-join a b x y small)
+
+-- a number that stands behind some bytes
+pub number-append : (k : ℕ) (ys m : List ℕ) (at : ℕ) → number k (ys ++ m) (length ys + at) ≡ number k m at
+unfolding number
+number-append zero ys m at = refl
+number-append (suc k) ys m at =
+    ap₂ (λ (b r : ℕ). b % 256 * 256 ^ k + r) (getD-append-add ys m at 0)
+    (ap (number k (ys ++ m)) (sym (add-suc (length ys) at)) ∙ number-append k ys m (suc at))
+
+-- what is read where the bytes of a number stand
+pub number-digits : (k v : ℕ) (xs : List ℕ) → number k (digits k v ++ xs) 0 ≡ v % 256 ^ k
+unfolding number digits
+number-digits zero v xs = omega arith
+number-digits (suc k) v xs =
+    let b : ℕ = byte k v in
+    let rest : number k (b ∷ (digits k v ++ xs)) 1 ≡ v % 256 ^ k = number-append k (b ∷ []) (digits k v ++ xs) 0 ∙ number-digits k v xs in
+    ap₂ (λ (x y : ℕ). x * 256 ^ k + y) (mod-mod (v / 256 ^ k) 256) rest
+    ∙ sym (ap (λ (x : ℕ). v % x) (pow-succ' 256 k) ∙ mod-mul v (zero-lt-suc 255) (positive k))
+
+pub number-digits-at : (k v : ℕ) (ys xs : List ℕ) → number k (ys ++ (digits k v ++ xs)) (length ys) ≡ v % 256 ^ k
+number-digits-at k v ys xs =
+    ap (number k (ys ++ (digits k v ++ xs))) (sym (add-zero (length ys)))
+    ∙ number-append k ys (digits k v ++ xs) 0
+    ∙ number-digits k v xs
+
+-- the bytes of a number that was read are those that stand there
+pub digits-number-at : (k : ℕ) (h : List ℕ) (at : ℕ) → ((i : ℕ) → getD h i 0 < 256) → at + k ≤ length h → digits k (number k h at) ≡ take k (drop at h)
+unfolding number digits
+digits-number-at zero h at small room = refl
+digits-number-at (suc k) h at small room =
+    let b : ℕ = getD h at 0 in
+    let r : ℕ = number k h (suc at) in
+    let whole : b % 256 ≡ b = mod-eq-of-lt (small at) in
+    let first : byte k (b * 256 ^ k + r) ≡ b = ap (λ (n : ℕ). n % 256) (digits-div b (number-lt k h (suc at))) ∙ whole in
+    ap (λ (n : ℕ). byte k (n * 256 ^ k + r) ∷ digits k (n * 256 ^ k + r)) whole
+    ∙ ap₂ (λ (c : ℕ) (cs : List ℕ). c ∷ cs) first (digits-above k b r ∙ digits-number-at k h (suc at) small (omega arith))
+    ∙ sym (ap (take (suc k)) (drop-cons h at 0 (omega arith)))
+
+pub digits-number : (k : ℕ) (h : List ℕ) → ((i : ℕ) → getD h i 0 < 256) → k ≤ length h → digits k (number k h 0) ≡ take k h
+digits-number k h small room = digits-number-at k h 0 small (omega arith)
+
+pub pow-bytes : (k : ℕ) → 256 ^ k ≡ 2 ^ (8 * k)
+pow-bytes zero = refl
+pow-bytes (suc k) =
+    pow-suc 256 k
+    ∙ ap (λ (n : ℕ). n * 256) (pow-bytes k)
+    ∙ sym (ap (λ (n : ℕ). 2 ^ n) (mul-suc 8 k) ∙ pow-add 2 (8 * k) 8)
+
+-- the bytes as the code makes them
+pub digits-one : (v : ℕ) → digits 1 v ≡ v % 256 ∷ []
+unfolding digits
+digits-one v = simp div-one
+
+pub digits-two : (v : ℕ) → digits 2 v ≡ v / 256 % 256 ∷ v % 256 ∷ []
+unfolding digits
+digits-two v = simp div-one
+
+pub digits-three : (v : ℕ) → digits 3 v ≡ v / 65536 % 256 ∷ v / 256 % 256 ∷ v % 256 ∷ []
+unfolding digits
+digits-three v = simp div-one
+
+pub digits-four : (v : ℕ) → digits 4 v ≡ v / 16777216 % 256 ∷ v / 65536 % 256 ∷ v / 256 % 256 ∷ v % 256 ∷ []
+unfolding digits
+digits-four v = simp div-one

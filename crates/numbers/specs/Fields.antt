@@ -1,4 +1,4 @@
--- Fields of bits in a number, one by one and side by side. Assumes nothing.
+-- Fields of bits in a number, and fields of given widths that make up a number, the first highest. Assumes nothing.
 use mathlib.Core.Bool.{Bool, true, false, _&&_}
 use mathlib.Core.List.{List, [], _∷_}
 use Prim.Native.Nat.{ℕ, _+_, _*_, _/_, _%_, _^_, _<_}
@@ -17,3 +17,22 @@ total (w ∷ ws) = w + total ws
 abbrev pub unpack : List ℕ → ℕ → List ℕ
 unpack [] n = []
 unpack (w ∷ ws) n = bits (total ws) w n ∷ unpack ws n
+
+-- the number that has these fields
+abbrev pub pack : List ℕ → List ℕ → ℕ
+pack [] vs = 0
+pack (w ∷ ws) [] = 0
+pack (w ∷ ws) (v ∷ vs) = v * 2 ^ total ws + pack ws vs
+
+-- a value for each width, and each fits: as a test, and as a fact
+abbrev pub fitting : List ℕ → List ℕ → Bool
+fitting [] [] = true
+fitting [] (v ∷ vs) = false
+fitting (w ∷ ws) [] = false
+fitting (w ∷ ws) (v ∷ vs) = ltb v (2 ^ w) && fitting ws vs
+
+abbrev pub Fit : List ℕ → List ℕ → Type 0
+Fit [] [] = Unit {0}
+Fit [] (v ∷ vs) = ⊥
+Fit (w ∷ ws) [] = ⊥
+Fit (w ∷ ws) (v ∷ vs) = (v < 2 ^ w) × Fit ws vs
