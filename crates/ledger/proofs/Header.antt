@@ -13,7 +13,7 @@ use Rattle.numbers.specs.Bytes.{number}
 use Rattle.numbers.proofs.Bytes.{number-lt}
 use Rattle.numbers.proofs.Fields.{bits-lt}
 use Rattle.ledger.specs.Settings.{Settings, tenBytes, ids}
-use Rattle.ledger.specs.Header.{Form, widthOf, formOf, form, frontBits, frontBytes, spare, bodySize, leastLength, fieldsOf, price}
+use Rattle.ledger.specs.Header.{Form, Narrow, widthOf, formOf, form, frontBits, frontBytes, spare, bodySize, leastLength, fieldsOf, price}
 use Rattle.ledger.specs.Sound.{Roomy}
 
 -- every field is as small as its width says, whatever the bytes are
@@ -72,18 +72,10 @@ few-bits w m h = go (decLe m w)
     go (yes k) = absurd (omega (arith, pow-mono k))
     go (no k) = omega arith
 
--- how narrow the parts of a form are
-pub record Narrow (F : Form) : Type 0 where
-  pub some-port : 1 ≤ F .portBits
-  pub few-port : F .portBits ≤ 5
-  pub some-queue : 1 ≤ F .queueBits
-  pub few-queue : F .queueBits ≤ 6
-  pub some-offer : 1 ≤ F .offerBytes
-  pub few-offer : F .offerBytes ≤ 2
-  pub three : 3 ≤ frontBytes F
-  pub four : frontBytes F ≤ 4
-  pub spared : frontBits F + spare F ≡ 8 * frontBytes F
+pub narrow-width : (n : ℕ) → 2 ≤ n → n ≤ 64 → widthOf n ≤ 6
+narrow-width n low high = let w = few-bits (widthOf n) 7 (omega (arith, width-needed n low high .least)) in omega arith
 
+-- the parts of a switch's form are narrow
 pub narrow : (e p q : ℕ) → 2 ≤ p → p ≤ 32 → 2 ≤ q → q ≤ 64 → Narrow (formOf e p q)
 unfolding formOf frontBits frontBytes spare
 narrow e p q some few some′ few′ =
@@ -99,14 +91,28 @@ narrow e p q some few some′ few′ =
       few-queue = omega arith;
       some-offer = o .0;
       few-offer = o .1;
-      three = omega (arith, port .some, queue .some);
-      four = omega arith;
-      spared = omega arith;
     }
   where
     offered : (b : Bool) → (1 ≤ cond b 1 2) × (cond b 1 2 ≤ 2)
     offered true = (omega arith, omega arith)
     offered false = (omega arith, omega arith)
+
+-- so the front has three bytes or four, and the zeros to spare fill it
+pub record Fronted (F : Form) : Type 0 where
+  pub three : 3 ≤ frontBytes F
+  pub four : frontBytes F ≤ 4
+  pub spared : frontBits F + spare F ≡ 8 * frontBytes F
+  pub few-spare : spare F ≤ 7
+
+pub fronted : (F : Form) → Narrow F → Fronted F
+unfolding frontBits frontBytes spare
+fronted F n =
+    record {
+      three = omega (arith, n .some-port, n .some-queue);
+      four = omega (arith, n .few-port, n .few-queue);
+      spared = omega arith;
+      few-spare = omega arith;
+    }
 
 module _ (S : Settings) (ok : Roomy S) where
   pub port-width : Needed (S .ports) (form S .portBits)

@@ -2,7 +2,7 @@
 -- 02's 19 and 20), and the price. Assumes nothing.
 use mathlib.Core.Bool.{cond, not}
 use mathlib.Core.List.{List, [], _∷_, _++_}
-use Prim.Native.Nat.{ℕ, zero, suc, _+_, _-_, _*_, _/_}
+use Prim.Native.Nat.{ℕ, zero, suc, _+_, _-_, _*_, _/_, _≤_}
 use lib.ListN.{length, getD, take}
 use lib.Dec.{eqb, ltb, leb}
 use lib.Count.{leadingZeros}
@@ -19,6 +19,15 @@ pub record Form : Type 0 where
   pub portBits : ℕ
   pub queueBits : ℕ
   pub offerBytes : ℕ
+
+-- in every switch they are narrow
+pub record Narrow (F : Form) : Type 0 where
+  pub some-port : 1 ≤ F .portBits
+  pub few-port : F .portBits ≤ 5
+  pub some-queue : 1 ≤ F .queueBits
+  pub few-queue : F .queueBits ≤ 6
+  pub some-offer : 1 ≤ F .offerBytes
+  pub few-offer : F .offerBytes ≤ 2
 
 -- "as wide as the count less one needs": the bits of that number without its leading zeros
 unfoldable pub widthOf : ℕ → ℕ
@@ -98,9 +107,9 @@ headerRules F n source h =
     ∷ refuse 7 (not (eqb (fieldsOf F h .check) (crc8 (take (bodySize F) h))))
     ∷ refuse 20 (not (eqb (fieldsOf F h .reserved) 0))
     ∷ (source ++ (
-      refuse 9 (ltb (fieldsOf F h .len) (leastLength F))
-      ∷ refuse 19 (leb n (fieldsOf F h .queue))
-      ∷ []
+    refuse 9 (ltb (fieldsOf F h .len) (leastLength F))
+    ∷ refuse 19 (leb n (fieldsOf F h .queue))
+    ∷ []
     ))
 
 -- of a header that arrives at port p: that its source is that port
