@@ -4,6 +4,7 @@ use mathlib.Core.Logic.{_⊎_, inl, inr, _≢_}
 use mathlib.Core.Bool.{Bool, true, false, cond, _&&_, _||_}
 use Prim.Native.Nat.{ℕ, zero, suc, _+_, _-_, _*_, _≤_, _<_}
 use native.Mathlib.Nat.{not-suc-le-zero, add-zero, zero-add, mul-add, mul-suc, mul-left-comm, mul-le-mul}
+use native.Mathlib.Numerals.{add-one}
 use native.Mathlib.Decide.{ℕ-discrete}
 use native.Mathlib.Omega.{arith}
 use lib.Dec.{eqb, leb}
@@ -263,9 +264,39 @@ pub rows-out : (S : Settings) → inRows S ≡ eqb (firstOut S) settingCount
 unfolding inRows firstOut
 rows-out S = rows-out-from S 0 settingCount
 
--- setting i, where those before it are in their rows
-pub out-at : (S : Settings) (i n : ℕ) → inRow S i ≡ false → outFrom S i (suc n) ≡ i
-out-at S i n e = rw e
+-- setting i, those before it being in their rows: the first that is out is the first from here on
+pub record Left (S : Settings) (i : ℕ) : Type 0 where
+  pub low : i ≤ settingCount
+  pub rest : outFrom S i (settingCount - i) ≡ firstOut S
 
-pub out-past : (S : Settings) (i n : ℕ) → inRow S i ≡ true → outFrom S i (suc n) ≡ outFrom S (suc i) n
-out-past S i n e = rw e
+module _ (S : Settings) where
+  pub left-all : Left S 0
+  unfolding firstOut
+  left-all = record { low = omega arith; rest = refl }
+
+  module _ (i : ℕ) (l : Left S i) where
+    -- one more is left
+    one-left : i < settingCount → outFrom S i (suc (settingCount - suc i)) ≡ firstOut S
+    one-left h = ap (λ (n : ℕ). outFrom S i n) (let e : suc (settingCount - suc i) ≡ settingCount - i = omega arith in e) ∙ l .rest
+
+    pub left-out : i < settingCount → inRow S i ≡ false → i ≡ firstOut S
+    left-out h e = let o : i ≡ outFrom S i (suc (settingCount - suc i)) = rw e in o ∙ one-left h
+
+    pub left-next : i < settingCount → inRow S i ≡ true → Left S (i + 1)
+    left-next h e =
+        let o : outFrom S (suc i) (settingCount - suc i) ≡ outFrom S i (suc (settingCount - suc i)) = rw e in
+        rw (add-one i) (record { low = omega arith; rest = o ∙ one-left h })
+
+    pub left-none : settingCount ≤ i → i ≡ firstOut S
+    left-none h = let e : i ≡ settingCount = omega (arith, l .low) in e ∙ (rw e at (l .rest))
+
+-- the last setting's row, of a number that is none of the others'
+pub row-last : (S : Settings) (i : ℕ) → i ≢ 0 → i ≢ 1 → i ≢ 2 → i ≢ 3 → i ≢ 4 → i ≢ 5 → i ≢ 6 → inRow S i ≡ eqb (S .packets) 0
+row-last S zero a b c d e f g = absurd (a refl)
+row-last S (suc zero) a b c d e f g = absurd (b refl)
+row-last S (suc (suc zero)) a b c d e f g = absurd (c refl)
+row-last S (suc (suc (suc zero))) a b c d e f g = absurd (d refl)
+row-last S (suc (suc (suc (suc zero)))) a b c d e f g = absurd (e refl)
+row-last S (suc (suc (suc (suc (suc zero))))) a b c d e f g = absurd (f refl)
+row-last S (suc (suc (suc (suc (suc (suc zero)))))) a b c d e f g = absurd (g refl)
+row-last S (suc (suc (suc (suc (suc (suc (suc i))))))) a b c d e f g = refl

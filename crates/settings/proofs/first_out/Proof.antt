@@ -1,42 +1,32 @@
+-- `settings::first_out` meets its contract. The loop's invariant: the first that is out is the first from here on. Assumes nothing.
+use mathlib.Core.Path.{sym, _∙_}
+use Prim.Native.Nat.{_-_}
+use native.Mathlib.Omega.{arith}
+use borrow.Author.Tests.{not-true, not-false}
+use Rattle.ledger.specs.Settings.{settingCount}
+use Rattle.ledger.proofs.Rows.{Left, left-all, left-out, left-next, left-none}
+use Rattle.settings.specs.Told.{toldSettings}
 use Rattle.settings.proofs.first_out.Statement.{statement}
 use Rattle.settings.proofs.first_out.Tie as tie
-use Rattle.settings.proofs.first_out.Reads as reads
-use Rattle.settings.proofs.first_out.Lts as lts
-use Rattle.settings.proofs.in_row.Reads as in-row-reads
 
 abbrev Inv-loop : tie.InvT-loop
-Inv-loop told i₀ i = ?
+Inv-loop told i₀ i = Left (toldSettings told) i
 
 abbrev μ-loop : tie.MeasureT-loop
-μ-loop told i₀ i = ?
+μ-loop told i₀ i = settingCount - i
 
--- src/lib.rt:94:5
-loop-holds : tie.Need-loop-holds Inv-loop μ-loop
-loop-holds c = ?
-
--- src/lib.rt:95:13
-in-row-requires : tie.Need-in-row-requires Inv-loop μ-loop
-in-row-requires c κs = ?
-
--- src/lib.rt:96:13
 returns : tie.Need-returns Inv-loop μ-loop
-returns c = ?
+returns c =
+    let at = c .before .before .before .loop in
+    left-out _ (at .i) (at .inv) (omega arith) (sym (c .before .in-row .ensures) ∙ not-true _ (c .if1 .taken))
 
--- src/lib.rt:98:9
-add-i : tie.Need-add-i Inv-loop μ-loop
-add-i c = ?
-
--- src/lib.rt:94:5
-loop-less : tie.Need-loop-less Inv-loop μ-loop
-loop-less c = ?
-
--- src/lib.rt:94:5
 loop-again : tie.Need-loop-again Inv-loop μ-loop
-loop-again c = ?
+loop-again c =
+    let at = c .before .before .before .loop in
+    left-next _ (at .i) (at .inv) (omega arith) (sym (c .before .in-row .ensures) ∙ not-false _ (c .if1 .left))
 
--- src/lib.rt:90:1
 returns-2 : tie.Need-returns-2 Inv-loop μ-loop
-returns-2 c = ?
+returns-2 c = left-none _ (c .before .loop .i) (c .before .loop .inv) (omega arith)
 
 pub first-out-spec : {M : Type 1} → statement M
 first-out-spec =
@@ -44,10 +34,10 @@ first-out-spec =
     (tie.spec
     Inv-loop
     μ-loop
-    loop-holds
-    in-row-requires
+    (λ c. left-all _)
+    (λ c κs. omega arith)
     returns
-    add-i
-    loop-less
+    (λ c. omega arith)
+    (λ c. omega arith)
     loop-again
     returns-2)

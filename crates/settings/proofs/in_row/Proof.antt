@@ -1,74 +1,45 @@
+-- `settings::in_row` meets its contract: each arm is the row of its setting. Assumes nothing.
+use mathlib.Core.Path.{sym}
 use borrow.Author.Needs.{needs}
+use Rattle.ledger.proofs.Rows.{row-last}
 use Rattle.settings.proofs.in_row.Statement.{statement}
 use Rattle.settings.proofs.in_row.Tie as tie
-use Rattle.settings.proofs.in_row.Reads as reads
-use Rattle.settings.proofs.in_row.Lts as lts
-use Rattle.settings.proofs.between.Reads as between-reads
-use Rattle.settings.proofs.is_beat.Reads as is-beat-reads
-use Rattle.settings.proofs.ports_in.Reads as ports-in-reads
-use Rattle.settings.proofs.queues_in.Reads as queues-in-reads
 
--- src/lib.rt:78:14
-ports-in-requires : tie.Need-ports-in-requires
-ports-in-requires c κs = search needs
-
--- src/lib.rt:79:14
-queues-in-requires : tie.Need-queues-in-requires
-queues-in-requires c κs = search needs
-
--- src/lib.rt:80:14
-between-requires : tie.Need-between-requires
-between-requires c κs = search needs
-
--- src/lib.rt:81:14
-is-beat-requires : tie.Need-is-beat-requires
-is-beat-requires c κs = search needs
-
--- src/lib.rt:82:14
-between-requires-2 : tie.Need-between-requires-2
-between-requires-2 c κs = search needs
-
--- src/lib.rt:73:1
 returns : tie.Need-returns
-returns c = ?
+returns c = rw (c .before .match .keys1) (c .ports-in .ensures)
 
--- src/lib.rt:73:1
 returns-2 : tie.Need-returns-2
-returns-2 c = ?
+returns-2 c = rw (c .before .match .keys2) (c .queues-in .ensures)
 
--- src/lib.rt:73:1
 returns-3 : tie.Need-returns-3
-returns-3 c = ?
+returns-3 c = rw (c .before .match .keys3) (c .between .ensures)
 
--- src/lib.rt:73:1
 returns-4 : tie.Need-returns-4
-returns-4 c = ?
+returns-4 c = rw (c .before .match .keys4) (c .is-beat .ensures)
 
--- src/lib.rt:73:1
 returns-5 : tie.Need-returns-5
-returns-5 c = ?
+returns-5 c = rw (c .before .match .keys5) (c .between2 .ensures)
 
--- src/lib.rt:73:1
 returns-6 : tie.Need-returns-6
-returns-6 c = ?
+returns-6 c = rw (c .before .match .keys6)
 
--- src/lib.rt:73:1
 returns-7 : tie.Need-returns-7
-returns-7 c = ?
+returns-7 c = rw (c .before .match .keys7)
 
--- src/lib.rt:73:1
 returns-8 : tie.Need-returns-8
-returns-8 c = ?
+returns-8 c =
+    let n = c .before .match .rest in
+    sym (row-last _ (c .before .before .args .i) (n .0 .0 .0 .0 .0 .0 .1) (n .0 .0 .0 .0 .0 .1) (n .0 .0 .0 .0 .1) (n .0 .0 .0 .1) (n .0 .0 .1) (n .0 .1) (n .1))
 
 pub in-row-spec : {M : Type 1} → statement M
 in-row-spec =
     tie.close
     (tie.spec
-    ports-in-requires
-    queues-in-requires
-    between-requires
-    is-beat-requires
-    between-requires-2
+    (λ c κs. search needs)
+    (λ c κs. search needs)
+    (λ c κs. search needs)
+    (λ c κs. search needs)
+    (λ c κs. search needs)
     returns
     returns-2
     returns-3

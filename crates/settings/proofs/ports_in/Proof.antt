@@ -1,21 +1,18 @@
+-- `settings::ports_in` meets its contract: by the edition. Assumes nothing.
+use mathlib.Core.Path.{_∙_}
 use borrow.Author.Needs.{needs}
+use Rattle.ledger.specs.Settings.{portsIn}
+use Rattle.ledger.proofs.Tests.{eqb-is, eqb-not}
 use Rattle.settings.proofs.ports_in.Statement.{statement}
 use Rattle.settings.proofs.ports_in.Tie as tie
-use Rattle.settings.proofs.ports_in.Reads as reads
-use Rattle.settings.proofs.ports_in.Lts as lts
-use Rattle.settings.proofs.between.Reads as between-reads
 
--- src/lib.rt:57:9
 returns : tie.Need-returns
-returns c = ?
+unfolding portsIn
+returns c = rw (eqb-is _ 0 (c .if1 .taken))
 
--- src/lib.rt:59:5
-between-requires : tie.Need-between-requires
-between-requires c κs = search needs
-
--- src/lib.rt:53:1
 returns-2 : tie.Need-returns-2
-returns-2 c = ?
+unfolding portsIn
+returns-2 c = c .between .ensures ∙ rw (eqb-not _ 0 (c .before .if1 .left))
 
 pub ports-in-spec : {M : Type 1} → statement M
-ports-in-spec = tie.close (tie.spec returns between-requires returns-2)
+ports-in-spec = tie.close (tie.spec returns (λ c κs. search needs) returns-2)

@@ -1,21 +1,18 @@
+-- `settings::queues_in` meets its contract: by the edition. Assumes nothing.
+use mathlib.Core.Path.{_∙_}
 use borrow.Author.Needs.{needs}
+use Rattle.ledger.specs.Settings.{queuesIn}
+use Rattle.ledger.proofs.Tests.{eqb-is, eqb-not}
 use Rattle.settings.proofs.queues_in.Statement.{statement}
 use Rattle.settings.proofs.queues_in.Tie as tie
-use Rattle.settings.proofs.queues_in.Reads as reads
-use Rattle.settings.proofs.queues_in.Lts as lts
-use Rattle.settings.proofs.between.Reads as between-reads
 
--- src/lib.rt:67:9
 returns : tie.Need-returns
-returns c = ?
+unfolding queuesIn
+returns c = rw (eqb-is _ 0 (c .if1 .taken))
 
--- src/lib.rt:69:5
-between-requires : tie.Need-between-requires
-between-requires c κs = search needs
-
--- src/lib.rt:63:1
 returns-2 : tie.Need-returns-2
-returns-2 c = ?
+unfolding queuesIn
+returns-2 c = c .between .ensures ∙ rw (eqb-not _ 0 (c .before .if1 .left))
 
 pub queues-in-spec : {M : Type 1} → statement M
-queues-in-spec = tie.close (tie.spec returns between-requires returns-2)
+queues-in-spec = tie.close (tie.spec returns (λ c κs. search needs) returns-2)
