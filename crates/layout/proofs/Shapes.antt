@@ -1,9 +1,10 @@
 -- What a shape's numbers come to, and what the reads and writes of the code are. Assumes nothing.
-use mathlib.Core.Path.{_≡_, sym, ap}
+use mathlib.Core.Path.{_≡_, sym, ap, _∙_}
 use mathlib.Core.List.{List}
-use Prim.Native.Nat.{ℕ, _+_, _-_, _*_, _≤_}
-use native.Mathlib.Nat.{mul-le-mul}
+use Prim.Native.Nat.{ℕ, _+_, _-_, _*_, _%_, _^_, _≤_, _<_}
+use native.Mathlib.Nat.{mul-le-mul, mod-eq-of-lt, one-mul}
 use native.Mathlib.Omega.{arith}
+use lib.Pow.{pow-lt}
 use lib.ListN.{length}
 use Rattle.numbers.specs.Bytes.{number, store}
 use Rattle.ledger.specs.Settings.{Settings, row}
@@ -53,6 +54,10 @@ small s l =
       small-head = omega arith;
       small-next = omega arith;
     }
+
+-- a one shifted by fewer places than its type has bits
+pub one-shifted : (w k : ℕ) → w < k → 1 * 2 ^ w % 2 ^ k ≡ 2 ^ w
+one-shifted w k h = mod-eq-of-lt (let small : 1 * 2 ^ w < 2 ^ k = omega (arith, pow-lt h) in small) ∙ one-mul (2 ^ w)
 
 -- a node id of two bytes has one of 32 ports
 pub owner-row : (S : Settings) (p : ℕ) → Roomy S → p ≤ 31 → p * S .nodes ≤ 63488

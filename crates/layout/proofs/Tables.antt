@@ -11,7 +11,7 @@ use lib.ListN.{length, getD, take, drop, set, replicate, length-drop, length-set
 use lib.Seq.{take-all, take-nil, set-append-left, getD-drop, ext-getD}
 use Rattle.numbers.specs.Bytes.{number, store}
 use Rattle.numbers.proofs.Bytes.{number-lt, length-store, byte-apart, number-same, number-apart, number-stored-small}
-use Rattle.ledger.specs.Settings.{Settings, size}
+use Rattle.ledger.specs.Settings.{Settings, settingCount, size}
 use Rattle.ledger.specs.Ledger.{owner, index}
 use Rattle.ledger.specs.Sound.{sum}
 use Rattle.ledger.proofs.Places.{row-lt, row-inj, Node}
@@ -167,10 +167,19 @@ get-zero S m t i h = number-zero (width t) m (place S t i) h
 
 -- ---- the settings
 
-settings-same : (m n : List ℕ) → ((k : ℕ) → k < 6 → number 2 m (k * 2) ≡ number 2 n (k * 2)) → settingsIn m ≡ settingsIn n
+settings-same : (m n : List ℕ) → ((k : ℕ) → k < settingCount → number 2 m (k * 2) ≡ number 2 n (k * 2)) → settingsIn m ≡ settingsIn n
 unfolding settingsIn
 settings-same m n same =
-    rw (same 0 (omega arith), same 1 (omega arith), same 2 (omega arith), same 3 (omega arith), same 4 (omega arith), same 5 (omega arith))
+    rw (
+      same 0 (omega arith),
+      same 1 (omega arith),
+      same 2 (omega arith),
+      same 3 (omega arith),
+      same 4 (omega arith),
+      same 5 (omega arith),
+      same 6 (omega arith),
+      same 7 (omega arith),
+    )
 
 pub settings-put : (S : Settings) (m : List ℕ) (t : Table) (i v : ℕ) → i < many S t → t ≢ Setting → settingsIn (put S t i v m) ≡ settingsIn m
 unfolding get startOf

@@ -13,7 +13,7 @@ use Rattle.layout.specs.declared.Table.the-variants.{Head, Tail, Count, 
 use Rattle.layout.specs.declared.Table.the-variants.{Poisoned, Transaction, Price}
 use Rattle.layout.specs.Tables.{tableOf, lists, get}
 
--- the settings stand first: six numbers of two bytes
+-- the settings stand first: numbers of two bytes
 unfoldable pub settingsIn : List ℕ → Settings
 settingsIn m = record {
   ports = number 2 m 0;
@@ -22,6 +22,8 @@ settingsIn m = record {
   beat = number 2 m 6;
   slots = number 2 m 8;
   credit = number 2 m 10;
+  edition = number 2 m 12;
+  packets = number 2 m 14;
 }
 
 -- rule (a): the settings are in their rows, and the memory is long enough for a state of them

@@ -1,10 +1,11 @@
 -- The state as a row of tables in lent bytes. A table has an element width in bytes and a number of elements; its start is the sum of
 -- the sizes of the tables before it. Nothing else knows an offset. Assumes nothing.
 use mathlib.Core.List.{List, [], _∷_, map}
-use Prim.Native.Nat.{ℕ, _+_, _-_, _*_}
+use Prim.Native.Nat.{ℕ, _+_, _-_, _*_, _^_}
 use lib.ListN.{take}
 use Rattle.numbers.specs.Bytes.{number, store}
-use Rattle.ledger.specs.Settings.{Settings, ids, row}
+use Rattle.ledger.specs.Settings.{Settings, settingCount, ids, row}
+use Rattle.ledger.specs.Header.{form, leastLength}
 use Rattle.ledger.specs.Ledger.{Column, arrival, outward, last, mapped}
 use Rattle.ledger.specs.Sound.{sum, Roomy}
 use mathlib.Core.Path.{_≡_}
@@ -65,7 +66,7 @@ abbrev pub all : Settings → ℕ
 all S = S .ports * S .nodes
 
 abbrev pub many : Settings → Table → ℕ
-many S Setting = 6
+many S Setting = settingCount
 many S Mapped = ids
 many S Last = S .ports
 many S Arrival = cells S
@@ -116,7 +117,16 @@ put S t i v m = store (width t) m (startOf S t + i * width t) v
 
 -- the settings that a shape was made from
 abbrev pub settingsOf : Shape → Settings
-settingsOf s = record { ports = s .ports; queues = s .queues; nodes = s .nodes; beat = s .beat; slots = s .slots; credit = s .credit }
+settingsOf s = record {
+  ports = s .ports;
+  queues = s .queues;
+  nodes = s .nodes;
+  beat = s .beat;
+  slots = s .slots;
+  credit = s .credit;
+  edition = s .edition;
+  packets = s .packets;
+}
 
 -- a shape holds what its settings say, and they are a switch's
 pub record Laid (s : Shape) : Type 0 where
@@ -128,3 +138,5 @@ pub record Laid (s : Shape) : Type 0 where
   pub arrival-at : s .arrival ≡ startOf (settingsOf s) Arrival
   pub head-at : s .head ≡ startOf (settingsOf s) Head
   pub next-at : s .next ≡ startOf (settingsOf s) Next
+  pub least-is : s .least ≡ leastLength (form (settingsOf s))
+  pub dests-are : s .dests ≡ 2 ^ form (settingsOf s) .portBits

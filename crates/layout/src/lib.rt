@@ -1,8 +1,9 @@
 // The state in lent bytes: a row of tables. A Shape holds what the settings fix, so that a call computes it once.
 use settings::Settings;
 ghost use mathlib.Core.Path.{_≡_};
-ghost use Prim.Native.Nat.{_+_, _-_, _*_};
+ghost use Prim.Native.Nat.{_+_, _-_, _*_, _^_};
 ghost use Rattle.ledger.specs.Settings.{row, size};
+ghost use Rattle.ledger.specs.Header.{form, leastLength};
 ghost use Rattle.ledger.specs.Sound.{Roomy};
 ghost use Rattle.settings.specs.Told.{toldSettings};
 ghost use Rattle.layout.specs.Tables.{startOf, get, put, settingsOf, Laid};
@@ -27,8 +28,8 @@ pub enum Table {
     Price,
 }
 
-// The settings, and what follows from them: how many lists a port has, how many credit cells, lists and nodes there are, and where three
-// tables start.
+// The settings, and what follows from them: how many lists a port has, how many credit cells, lists and nodes there are, where three tables
+// start, the least length of a packet, and how many destinations a header can name.
 pub struct Shape {
     pub ports: usize,
     pub queues: usize,
@@ -36,6 +37,8 @@ pub struct Shape {
     pub beat: usize,
     pub slots: usize,
     pub credit: usize,
+    pub edition: usize,
+    pub packets: usize,
     pub row: usize,
     pub cells: usize,
     pub lists: usize,
@@ -43,6 +46,26 @@ pub struct Shape {
     pub arrival: usize,
     pub head: usize,
     pub next: usize,
+    pub least: usize,
+    pub dests: usize,
+}
+
+// The least length of a packet: its header and two bytes more.
+fn least_of(told: Settings) -> usize
+    requires { ⌜ Roomy (toldSettings told) ⌝ }
+    ensures { λ r. ⌜ r ≡ leastLength (form (toldSettings told)) ⌝ }
+{
+    let f = forms::form_of(told.edition, told.ports, told.queues);
+    (f.size + 2) as usize
+}
+
+// How many destinations a header can name: as many as its field holds.
+fn dests_of(told: Settings) -> usize
+    requires { ⌜ Roomy (toldSettings told) ⌝ }
+    ensures { λ r. ⌜ r ≡ 2 ^ form (toldSettings told) .portBits ⌝ }
+{
+    let f = forms::form_of(told.edition, told.ports, told.queues);
+    1usize << f.port
 }
 
 // The shape of a switch with these settings.
@@ -56,11 +79,15 @@ pub fn shape_of(told: Settings) -> Shape
     let beat = told.beat as usize;
     let slots = told.slots as usize;
     let credit = told.credit as usize;
+    let edition = told.edition as usize;
+    let packets = told.packets as usize;
+    let least = least_of(told);
+    let dests = dests_of(told);
     let row = 2 + 2 * queues;
     let cells = ports * (queues - 1);
     let lists = ports * row;
     let all = ports * nodes;
-    let arrival = 16 + ports;
+    let arrival = 4112 + ports;
     let head = arrival + 4 * cells;
     let next = head + 8 * lists;
     Shape {
@@ -70,6 +97,8 @@ pub fn shape_of(told: Settings) -> Shape
         beat,
         slots,
         credit,
+        edition,
+        packets,
         row,
         cells,
         lists,
@@ -77,6 +106,8 @@ pub fn shape_of(told: Settings) -> Shape
         arrival,
         head,
         next,
+        least,
+        dests,
     }
 }
 
@@ -92,8 +123,8 @@ pub fn start_of(s: Shape, t: Table) -> usize
     let next = s.next;
     match t {
         Table::Setting => 0,
-        Table::Mapped => 12,
-        Table::Last => 16,
+        Table::Mapped => 16,
+        Table::Last => 4112,
         Table::Arrival => s.arrival,
         Table::Outward => s.arrival + 2 * cells,
         Table::Head => head,

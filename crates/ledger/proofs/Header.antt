@@ -13,7 +13,7 @@ use Rattle.numbers.specs.Bytes.{number}
 use Rattle.numbers.proofs.Bytes.{number-lt}
 use Rattle.numbers.proofs.Fields.{bits-lt}
 use Rattle.ledger.specs.Settings.{Settings, tenBytes, ids}
-use Rattle.ledger.specs.Header.{Form, Narrow, widthOf, formOf, form, frontBits, frontBytes, spare, bodySize, leastLength, fieldsOf, price}
+use Rattle.ledger.specs.Header.{Form, Narrow, widthOf, formOf, form, frontBits, frontBytes, spare, bodySize, headerSize, leastLength, fieldsOf, price}
 use Rattle.ledger.specs.Sound.{Roomy}
 
 -- every field is as small as its width says, whatever the bytes are
@@ -113,6 +113,10 @@ fronted F n =
       spared = omega arith;
       few-spare = omega arith;
     }
+
+pub header-small : (F : Form) → Narrow F → (10 ≤ headerSize F) × (headerSize F ≤ 12)
+unfolding bodySize headerSize
+header-small F n = let f = fronted F n in (omega (arith, n .some-offer), omega (arith, n .few-offer))
 
 module _ (S : Settings) (ok : Roomy S) where
   pub port-width : Needed (S .ports) (form S .portBits)

@@ -10,10 +10,10 @@ use Rattle.layout.proofs.Shapes.{Few, few}
 use Rattle.layout.proofs.shape_of.Statement.{statement}
 use Rattle.layout.proofs.shape_of.Tie as tie
 
-abbrev start : tie.After-struct-known6 → tie.Start
-start c = c .before .before .before .before .before .before
+abbrev start : tie.After-dests-of → tie.Start
+start c = c .before .before .before .before .before .before .before .before .before .before
 
-small : (c : tie.After-struct-known6) → Few (toldSettings (start c .args .told))
+small : (c : tie.After-dests-of) → Few (toldSettings (start c .args .told))
 small c = few _ (start c .pre)
 
 returns : tie.Need-returns
@@ -28,6 +28,8 @@ returns c = record {
     arrival-at = omega arith;
     head-at = omega arith;
     next-at = omega arith;
+    least-is = c .before .least-of .ensures;
+    dests-are = c .dests-of .ensures;
   };
   settings-are = refl;
 }
@@ -43,6 +45,10 @@ shape-of-spec =
     (λ c. search needs)
     (λ c. search needs)
     (λ c. search needs)
+    (λ c. search needs)
+    (λ c. search needs)
+    (λ c κs. search needs)
+    (λ c κs. search needs)
     (λ c. search needs)
     (λ c. search needs)
     (λ c. search needs)
