@@ -122,3 +122,5 @@ pub record Roomy (S : Settings) : Type 0 where
   pub some-slots : 1 ≤ S .slots
   pub few-slots : S .slots ≤ 8
   pub low-credit : S .credit ≤ 65535
+  pub low-edition : S .edition ≤ 1
+  pub low-packets : S .packets ≤ 1

@@ -6,6 +6,7 @@ use Prim.Native.Nat.{ℕ, _*_, _<_}
 use native.Mathlib.Omega.{arith}
 use lib.ListN.{length}
 use Rattle.ledger.specs.Settings.{Settings}
+use Rattle.ledger.specs.Header.{form}
 use Rattle.ledger.specs.Ledger.{isNode, Packet, Place, place#, Ledger, Place·In}
 use Rattle.ledger.specs.Ready.{isReady, wordOf, countOf}
 use Rattle.ledger.specs.Calls.{Act, arrive, turn, ready, whereIs, Side, inside, outside, Reply, refused, entry, leaves, word, found, step}
@@ -14,12 +15,12 @@ use Rattle.ledger.specs.Sound.{Roomy, Sound}
 use Rattle.ledger.specs.Order.{KeepsOrder, GoesAlong}
 use Rattle.ledger.specs.Night.{Arrival, PoolKept}
 use Rattle.ledger.proofs.Places.{place#-lt}
-use Rattle.ledger.proofs.Rows.{roomy, this-build}
+use Rattle.ledger.proofs.Rows.{roomy}
 use Rattle.ledger.proofs.Find.{where-right}
 use Rattle.ledger.proofs.Passes.{Passes}
 use Rattle.ledger.proofs.Promises.{inside-outside, ready-counts, means-sound, Wanting, sound-arrival, OnePlace, each-in-one-place}
 use Rattle.ledger.proofs.Courses.{Faithful, act-answer, act-shows}
-use Rattle.ledger.proofs.Waits.{nobody-starves-from, this-build-from}
+use Rattle.ledger.proofs.Waits.{nobody-starves-from, ten-bytes-from}
 use Rattle.ledger.proofs.Order.{keeps-order}
 use Rattle.ledger.proofs.Records.{goes-along}
 use Rattle.ledger.proofs.Night.{whose-node, arrival-shows, pool-kept}
@@ -59,7 +60,7 @@ nobody-starves-in-memory m S L e =
 
 pub nobody-starves-in-memory-24 : NobodyStarvesInMemory24
 unfolding NobodyStarvesInMemory NobodyStarvesInMemory24
-nobody-starves-in-memory-24 m S L e = this-build-from onMemory picture S L m (pictured-state m S L e .1) (nobody-starves-in-memory m S L e)
+nobody-starves-in-memory-24 m S L e ten = ten-bytes-from onMemory picture S L m (pictured-state m S L e .1) ten (nobody-starves-in-memory m S L e)
 
 -- ---- demand 2, on a memory that is a switch state
 
@@ -112,7 +113,7 @@ module _ (m : List ℕ) (S : Settings) (L : Ledger) (e : picture m ≡ has S L) 
   memory-inside-outside p k t i = inside-outside S ok L (s .orderly) p k t (sym (on-state (turn p)) ∙ i)
 
   -- a header with no fault, at a port of the switch: turned away only for want of credit or of a node
-  pub memory-arrival : (p : ℕ) (h : List ℕ) → p < S .ports → Passes (S .queues) p h
+  pub memory-arrival : (p : ℕ) (h : List ℕ) → p < S .ports → Passes (form S) (S .queues) p h
       → (N : Ledger) × (picture (M (act (arrive p h)) m .1) ≡ has S N) × Wanting S L p h (M (act (arrive p h)) m .0, N)
   memory-arrival p h hp f = (
     step S L (arrive p h) .1,
@@ -178,9 +179,11 @@ module _ (m : List ℕ) (y : ℕ) (v : Place) (i : ℕ) where
         let S = settingsIn m in
         below found-state (isNode S y) refl (sym (on-state m S (ledgerIn S m) (picture-state m found-state) (whereIs y)) ∙ f)
 
-    -- with four ports they reach 8,191 at most
-    pub where-reach : Below 8192
-    where-reach = rw (this-build (settingsIn m) (found-state .sound .rows) .0) at where-below
+    -- with 32 ports, the most that there are, they reach 65,535
+    pub where-reach : Below 65536
+    where-reach =
+        let ok = roomy (settingsIn m) (found-state .sound .rows) in
+        (omega (arith, where-below .0, ok .few-ports), omega (arith, where-below .1, ok .few-ports))
 
 -- after any call a memory that was a state is one again, and a memory that is one pictures a sound ledger
 pub still-a-state : (a : Act) (m : List ℕ) → State m → State (M (act a) m .1)

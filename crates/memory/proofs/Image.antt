@@ -59,6 +59,8 @@ pub settings-are : (S : Settings) (m : List ℕ) → settingsIn m ≡ record {
   beat = get S m Setting 3;
   slots = get S m Setting 4;
   credit = get S m Setting 5;
+  edition = get S m Setting 6;
+  packets = get S m Setting 7;
 }
 unfolding settingsIn get startOf
 settings-are S m = refl
@@ -83,6 +85,8 @@ module _ (S : Settings) (r : Roomy S) (m : List ℕ) (F : Fresh S m) where
         F .setting-at 3 (omega arith),
         F .setting-at 4 (omega arith),
         F .setting-at 5 (omega arith),
+        F .setting-at 6 (omega arith),
+        F .setting-at 7 (omega arith),
       )
 
   next-of : (p i : ℕ) → p < S .ports → suc i < S .nodes → get S m Next (slot S (entryId p i)) ≡ entryId p (suc i)
@@ -189,7 +193,7 @@ zero-no-state n s =
     let m : List ℕ = replicate n 0 in
     let S : Settings = settingsIn m in
     let no-ports : S .ports ≡ 0 = ap (λ (T : Settings). T .ports) (settings-are S m) ∙ get-zero S (replicate n 0) Setting 0 (zeros n) in
-    omega (arith, rows S (s .sound .rows) .four-ports)
+    omega (arith, roomy S (s .sound .rows) .some-ports)
 
 pub zero-picture : (n : ℕ) → picture (replicate n 0) ≡ none
 zero-picture n = picture-none (replicate n 0) (zero-no-state n)

@@ -12,7 +12,7 @@ use Rattle.ledger.specs.Sound.{weigh, one, Proper, Roomy}
 use Rattle.ledger.specs.Calls.{isEmpty}
 use Rattle.ledger.proofs.Tests.{true≢false}
 use Rattle.ledger.proofs.Places.{cell-lt}
-use Rattle.ledger.proofs.Header.{price-le}
+use Rattle.ledger.proofs.Header.{port-width, price-le}
 use Rattle.layout.specs.declared.Table.{Table}
 use Rattle.layout.specs.declared.Table.the-variants.{Setting, Head, Count, Length, Stamp, Queue, Dest, Poisoned}
 use Rattle.layout.specs.declared.Table.the-variants.{Transaction, Price}
@@ -259,7 +259,7 @@ module _ (S : Settings) (ok : Roomy S) (m : List ℕ) (t : Tidy S m) where
     f₄ =
         s₅ Dest (omega arith) (omega arith)
         ∙ skip m₄ Poisoned Dest (k .poisoned) (omega arith) (omega arith) (λ e. omega arith)
-        ∙ get-put S m₃ Dest i (k .dest) l₃ (slot-in Dest (omega arith)) (omega (arith, good .dest-in))
+        ∙ get-put S m₃ Dest i (k .dest) l₃ (slot-in Dest (omega arith)) (omega (arith, good .dest-in, port-width S ok .least, ok .few-ports))
 
     f₃ : get S m₇ Queue i ≡ k .queue
     f₃ = s₃ Queue (omega arith) (omega arith) ∙ get-put S m₂ Queue i (k .queue) l₂ (slot-in Queue (omega arith)) (omega (arith, good .queue-in, ok .few-queues))

@@ -69,6 +69,8 @@ picture-past xs ys long = go (state-dec xs)
           same Setting 3 (omega arith),
           same Setting 4 (omega arith),
           same Setting 5 (omega arith),
+          same Setting 6 (omega arith),
+          same Setting 7 (omega arith),
         )
         (sym (settings-are S xs))
 

@@ -150,7 +150,7 @@ module _ (S : Settings) (h : inRows S ≡ true) (m : List ℕ) where
   unfolding repairMem
   repair-again =
       fill-ext S Mapped (λ i. i) (λ i. mended S (get S (repairMem S m) Mapped i)) entry ids (setupMem S (repairMem S m))
-      (λ i k. ap (mended S) (repair-entry i k) ∙ mended-twice S (roomy S h .some-ports) (get S m Mapped i))
+      (λ i k. ap (mended S) (repair-entry i k) ∙ mended-twice S (omega (arith, roomy S h .some-ports)) (get S m Mapped i))
       ∙ ap (fill S Mapped (λ i. i) entry ids) (unfold setupMem in (ap (λ (xs : List ℕ). image S ++ xs) repair-drop))
 
 -- ---- of any memory

@@ -10,7 +10,7 @@ use lib.ListN.{length, drop}
 use lib.Dec.{eqb}
 use Rattle.ledger.specs.Settings.{Settings, settings, inRows, ids, row, size}
 use Rattle.ledger.specs.Rules.{Rule, refuse, guard, Clear}
-use Rattle.ledger.specs.Header.{fieldsOf, price}
+use Rattle.ledger.specs.Header.{form, fieldsOf, price}
 use Rattle.ledger.specs.Ledger.{owner, isNode, Packet, bare, recorded, Place, free, ingress, egress, prefetched, place#, column, portOf, Ledger}
 use Rattle.ledger.specs.Ledger.{listAt, arrivalOf, outwardOf, lastOf, mapOf, push, move, putCredit, putIn, start, arrival, outward, last, mapped, change}
 use Rattle.ledger.specs.Ready.{readyWord, pick}
@@ -22,7 +22,7 @@ use Rattle.ledger.specs.Ledger.{Place·In}
 use Rattle.ledger.proofs.Promises.{result-given}
 use Rattle.ledger.proofs.Tests.{true≢false, leb-no, ltb-no, eqb-not, or-left, not-yes}
 use Rattle.ledger.proofs.Places.{place#-lt, row-mod, column-lt, credit-none, credit-same, credit-in}
-use Rattle.ledger.proofs.Header.{price-free}
+use Rattle.ledger.proofs.Header.{dest-mapped, price-free}
 use Rattle.ledger.proofs.Keep.{some-queue, first-fits, first-node}
 use Rattle.ledger.proofs.Rows.{roomy}
 use Rattle.ledger.proofs.Passes.{Admits, admits}
@@ -117,10 +117,10 @@ module _ (S : Settings) (ok : Roomy S) (m : List ℕ) (s : StateOf S m) where
     v-in = (hp, some-queue S ok L o)
 
     abbrev k : Packet
-    k = recorded S (headOf S m (free p)) (fieldsOf h)
+    k = recorded S (headOf S m (free p)) (fieldsOf (form S) h)
 
     k-is : arriving S L p h ≡ k
-    k-is = ap (λ (x : ℕ). recorded S x (fieldsOf h)) (first-free p v-in e)
+    k-is = ap (λ (x : ℕ). recorded S x (fieldsOf (form S) h)) (first-free p v-in e)
 
     k-node : k .node ≡ headOf S m (free p)
     unfolding recorded
@@ -308,7 +308,7 @@ module _ (S : Settings) (ok : Roomy S) (m : List ℕ) (s : StateOf S m) where
       let f = first-fits S ok L o (ingress p) v-in (c .1 .0) in
       let w-in : (k : Packet) → firstOf S L (ingress p) ≡ k → Place·In S (egress (mapOf L (k .dest)) (k .queue)) =
       λ k i. subst (λ (k : Packet). Place·In S (egress (mapOf L (k .dest)) (k .queue))) i
-      (o .ranges .numbers-in mapped (firstOf S L (ingress p) .dest) (f .2 .dest-in), f .2 .queue-in) in
+      (o .ranges .numbers-in mapped (firstOf S L (ingress p) .dest) (dest-mapped S ok (firstOf S L (ingress p) .dest) (f .2 .dest-in)), f .2 .queue-in) in
       let k-is = first-held (ingress p) v-in (omega arith) (c .1 .0) in
       subst (λ (k : Packet). Painted (moveMem S (ingress p) (egress (mapOf L (k .dest)) (k .queue)) m) (result S L (stitch p) .1)) k-is
       (record {

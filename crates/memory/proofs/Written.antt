@@ -5,7 +5,7 @@ use Prim.Native.Nat.{ℕ, zero, suc, _+_, _-_, _*_, _^_, _≤_, _<_}
 use native.Mathlib.Nat.{le-refl}
 use native.Mathlib.Omega.{arith}
 use lib.ListN.{length}
-use Rattle.ledger.specs.Settings.{Settings, row, size}
+use Rattle.ledger.specs.Settings.{Settings, settingCount, row, size}
 use Rattle.ledger.specs.Ledger.{entryId, arrival, outward, last, mapped, Column, tall, starting}
 use Rattle.ledger.specs.Sound.{Roomy}
 use Rattle.ledger.proofs.Places.{row-lt, row-inj}
@@ -19,7 +19,7 @@ use mathlib.Core.Logic.{_≢_}
 -- ---- `written` by its parts: the tables in their order, so that what is written of a table is not touched later
 
 abbrev settled : Settings → List ℕ → List ℕ
-settled S m = fill S Setting (λ i. i) (settingAt S) 6 m
+settled S m = fill S Setting (λ i. i) (settingAt S) settingCount m
 
 abbrev marked : Settings → List ℕ → List ℕ
 marked S m = fill S Last (λ p. p) (λ p. S .queues - 1) (S .ports) (settled S m)
@@ -43,7 +43,7 @@ written-length S m = simp (length-links, length-fill)
 -- ---- a state that nothing was done to since setup
 
 pub record Fresh (S : Settings) (m : List ℕ) : Type 0 where
-  pub setting-at : (i : ℕ) → i < 6 → get S m Setting i ≡ settingAt S i
+  pub setting-at : (i : ℕ) → i < settingCount → get S m Setting i ≡ settingAt S i
   pub number-at : (c : Column) (i : ℕ) → i < tall S c → get S m (tableOf c) i ≡ starting S c
   pub head-at : (p : ℕ) → p < S .ports → get S m Head (p * row S) ≡ entryId p 0
   pub tail-at : (p : ℕ) → p < S .ports → get S m Tail (p * row S) ≡ entryId p (S .nodes - 1)
@@ -68,7 +68,7 @@ module _ (S : Settings) where
   }
 
   module _ (r : Roomy S) where
-    settings-fit : Fits S Setting (λ i. i) (settingAt S) 6
+    settings-fit : Fits S Setting (λ i. i) (settingAt S) settingCount
     settings-fit = record { in-table = λ i h. h; apart = λ i j h k e. e; small = λ i h. small i }
       where
         small : (i : ℕ) → settingAt S i < 65536
@@ -77,7 +77,9 @@ module _ (S : Settings) where
         small (suc (suc zero)) = omega arith
         small (suc (suc (suc zero))) = omega arith
         small (suc (suc (suc (suc zero)))) = omega arith
-        small (suc (suc (suc (suc (suc i))))) = omega arith
+        small (suc (suc (suc (suc (suc zero))))) = omega arith
+        small (suc (suc (suc (suc (suc (suc zero)))))) = omega arith
+        small (suc (suc (suc (suc (suc (suc (suc i))))))) = omega arith
 
     marks-fit : Fits S Last (λ p. p) (λ p. S .queues - 1) (S .ports)
     marks-fit = record { in-table = λ p h. h; apart = λ p q h k e. e; small = λ p h. omega arith }
@@ -100,7 +102,7 @@ module _ (S : Settings) where
       unfolding written
       written-append ys =
           rw (
-            fill-append S Setting _ _ 6 m ys settings-fit long,
+            fill-append S Setting _ _ settingCount m ys settings-fit long,
             fill-append S Last _ _ (S .ports) (settled S m) ys marks-fit (simp length-fill long),
             fill-append S Arrival _ _ (cells S) (marked S m) ys credits-fit (simp length-fill long),
             fill-append S Head _ _ (S .ports) (credited S m) ys heads-fit (simp length-fill long),
@@ -129,7 +131,7 @@ module _ (S : Settings) where
       unfilled t j k x y z =
           fill-other S Arrival _ _ (cells S) (marked S m) t j credits-fit k (omega arith)
           ∙ fill-other S Last _ _ (S .ports) (settled S m) t j marks-fit k (omega arith)
-          ∙ fill-other S Setting _ _ 6 m t j settings-fit k (omega arith)
+          ∙ fill-other S Setting _ _ settingCount m t j settings-fit k (omega arith)
 
       pub written-fresh : ((t : Table) (j : ℕ) → j < many S t → get S m t j ≡ 0) → Fresh S (written S m)
       unfolding written
@@ -138,7 +140,7 @@ module _ (S : Settings) where
             from-credited Setting i h (omega arith)
             ∙ fill-other S Arrival _ _ (cells S) (marked S m) Setting i credits-fit h (omega arith)
             ∙ fill-other S Last _ _ (S .ports) (settled S m) Setting i marks-fit h (omega arith)
-            ∙ fill-get S Setting _ _ 6 m i settings-fit long h;
+            ∙ fill-get S Setting _ _ settingCount m i settings-fit long h;
         number-at = number;
         head-at =
             λ p h. from-headed Head (p * row S) (first-lt p h) (omega arith)

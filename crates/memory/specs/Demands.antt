@@ -3,7 +3,7 @@
 use mathlib.Core.Path.{_≡_}
 use mathlib.Core.List.{List}
 use Prim.Native.Nat.{ℕ}
-use Rattle.ledger.specs.Settings.{Settings}
+use Rattle.ledger.specs.Settings.{Settings, tenBytes}
 use Rattle.ledger.specs.Ledger.{Ledger}
 use Rattle.ledger.specs.Calls.{Reply}
 use Rattle.ledger.specs.Desk.{has, Call}
@@ -20,6 +20,7 @@ unfoldable pub NobodyStarvesInMemory : Type 0
 NobodyStarvesInMemory =
     (m : List ℕ) (S : Settings) (L : Ledger) → picture m ≡ has S L → NobodyStarvesFrom onMemory picture S L (S .ports) (S .queues) m
 
--- and in this build: by turn 24 (k + 1)
+-- and of the ten-byte edition, as paper 01 says it: by turn 24 (k + 1)
 unfoldable pub NobodyStarvesInMemory24 : Type 0
-NobodyStarvesInMemory24 = (m : List ℕ) (S : Settings) (L : Ledger) → picture m ≡ has S L → NobodyStarvesFrom onMemory picture S L 4 24 m
+NobodyStarvesInMemory24 =
+    (m : List ℕ) (S : Settings) (L : Ledger) → picture m ≡ has S L → S .edition ≡ tenBytes → NobodyStarvesFrom onMemory picture S L 4 24 m

@@ -2,7 +2,7 @@
 use mathlib.Core.List.{List, _++_}
 use Prim.Native.Nat.{ℕ, zero, suc, _+_, _-_, _*_}
 use lib.ListN.{drop, replicate}
-use Rattle.ledger.specs.Settings.{Settings, size, row}
+use Rattle.ledger.specs.Settings.{Settings, settingCount, size, row}
 use Rattle.ledger.specs.Ledger.{entryId}
 use Rattle.layout.specs.declared.Table.{Table}
 use Rattle.layout.specs.declared.Table.the-variants.{Setting, Last, Arrival, Head, Tail, Count, Next}
@@ -20,7 +20,9 @@ settingAt S (suc zero) = S .queues
 settingAt S (suc (suc zero)) = S .nodes
 settingAt S (suc (suc (suc zero))) = S .beat
 settingAt S (suc (suc (suc (suc zero)))) = S .slots
-settingAt S (suc (suc (suc (suc (suc i))))) = S .credit
+settingAt S (suc (suc (suc (suc (suc zero))))) = S .credit
+settingAt S (suc (suc (suc (suc (suc (suc zero)))))) = S .edition
+settingAt S (suc (suc (suc (suc (suc (suc (suc i))))))) = S .packets
 
 -- the links of port p's nodes, each to the next; the last has none
 abbrev pub linked : Settings → ℕ → List ℕ → List ℕ
@@ -39,7 +41,7 @@ written S m =
     (fill S Head (λ p. p * row S) (λ p. entryId p 0) (S .ports)
     (fill S Arrival (λ c. c) (λ c. S .credit) (cells S)
     (fill S Last (λ p. p) (λ p. S .queues - 1) (S .ports)
-    (fill S Setting (λ i. i) (settingAt S) 6 m))))))
+    (fill S Setting (λ i. i) (settingAt S) settingCount m))))))
 
 -- the bytes of a new state, and memory with them in front
 unfoldable pub image : Settings → List ℕ

@@ -4,7 +4,7 @@ use mathlib.Core.List.{List}
 use Prim.Native.Nat.{ℕ, zero, suc, _+_, _-_}
 use lib.Dec.{eqb}
 use Rattle.ledger.specs.Settings.{Settings}
-use Rattle.ledger.specs.Header.{fieldsOf}
+use Rattle.ledger.specs.Header.{form, fieldsOf}
 use Rattle.ledger.specs.Ledger.{owner, Packet, recorded, Place, free, ingress, egress, prefetched, place#, cell, arrivalOf, outwardOf, lastOf, mapOf}
 use Rattle.ledger.specs.Ready.{readyWord, pick}
 use Rattle.ledger.specs.Calls.{Act, arrive, stitch, prefetch, credit, mapTo, turn, ready, whereIs}
@@ -59,7 +59,7 @@ turnMem S p w m =
 
 -- each act where no refusal applies
 abbrev pub write : Settings → List ℕ → Act → List ℕ
-write S m (arrive p h) = arriveMem S p (recorded S (headOf S m (free p)) (fieldsOf h)) m
+write S m (arrive p h) = arriveMem S p (recorded S (headOf S m (free p)) (fieldsOf (form S) h)) m
 write S m (stitch p) =
     let k = packetAt S m (headOf S m (ingress p)) in
     moveMem S (ingress p) (egress (mapOf (ledgerIn S m) (k .dest)) (k .queue)) m
