@@ -4,8 +4,9 @@ use mathlib.Core.Logic.{_↔_}
 use mathlib.Core.Bool.{Bool, true, false, cond}
 use Prim.Native.Nat.{ℕ, zero, suc, _+_, _-_, _≤_, _<_, zero-le}
 use native.Mathlib.Numerals.{add-one}
-use native.Mathlib.Decide.{ℕ-discrete}
+use native.Mathlib.Decide.{ℕ-discrete, decLt}
 use native.Mathlib.Omega.{arith}
+use Rattle.ledger.specs.declared.Finding.{Finding}
 use Rattle.ledger.specs.declared.Finding.the-variants.{Whole, At}
 use Rattle.ranges.specs.First.{firstFrom, first}
 
@@ -60,6 +61,20 @@ module _ (ok : ℕ → Bool) where
 
   pub first-more : (n k x : ℕ) → n ≤ k → first ok n ≡ At x → first ok k ≡ At x
   first-more n k x h e = more-from n k 0 x h e
+
+  -- where those past the first n of k pass, the first n decide
+  pub first-enough : (n k : ℕ) → n ≤ k → ((i : ℕ) → n ≤ i → i < k → ok i ≡ true) → first ok k ≡ first ok n
+  first-enough n k h past = go (first ok n) refl
+    where
+      either : (i : ℕ) → i < k → Dec (i < n) → (i < n → ok i ≡ true) → ok i ≡ true
+      either i l (yes a) f = f a
+      either i l (no a) f = past i (omega arith) l
+
+      go : (f : Finding) → first ok n ≡ f → first ok k ≡ f
+      go (At x) e = first-more n k x h e
+      go Whole e =
+          let each = first-all n .0 e in
+          first-all k .1 (λ i l. either i l (decLt i n) (each i))
 
 -- where a search below n stands at i
 pub record Searching (ok : ℕ → Bool) (n i : ℕ) : Type 0 where

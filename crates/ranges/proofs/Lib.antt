@@ -3,3 +3,4 @@ pub mod Opening
 pub mod Items
 pub mod Slots
 pub mod FirstItem
+pub mod Highest

@@ -5,7 +5,7 @@ use mathlib.Core.List.{List}
 use Prim.Native.Nat.{ℕ, _≤_, _<_}
 use native.Mathlib.Omega.{arith}
 use lib.ListN.{length}
-use Rattle.ledger.specs.Settings.{Settings, inRows, firstOut, size}
+use Rattle.ledger.specs.Settings.{Settings, settingCount, inRows, firstOut, size}
 use Rattle.ledger.specs.Sound.{Roomy}
 use Rattle.ledger.proofs.Tests.{leb-is, leb-not, ltb-is, ltb-not, eqb-not}
 use Rattle.ledger.proofs.Rows.{roomy, rows-out}
@@ -14,7 +14,7 @@ use Rattle.layout.specs.Tables.{settingsOf, Laid}
 use Rattle.layout.specs.Picture.{settingsIn, opens}
 use Rattle.memory.proofs.Picture.{opens-means}
 use Rattle.ranges.specs.declared.Opened.the-variants.{Fine, Wrong}
-use Rattle.ranges.specs.Opening.{shapeFor, outAt, opened, Open}
+use Rattle.ranges.specs.Opening.{shapeFor, settingsBytes, outAt, opened, Open}
 use Rattle.ranges.specs.Ranges.{Held}
 
 -- ---- shapes
@@ -28,6 +28,8 @@ shape-is s l =
       beat = s .beat;
       slots = s .slots;
       credit = s .credit;
+      edition = s .edition;
+      packets = s .packets;
       row = l .row-is i;
       cells = l .cells-are i;
       lists = l .lists-are i;
@@ -35,10 +37,23 @@ shape-is s l =
       arrival = l .arrival-at i;
       head = l .head-at i;
       next = l .next-at i;
+      least = l .least-is i;
+      dests = l .dests-are i;
     }
 
 pub laid-for : (S : Settings) → Roomy S → Laid (shapeFor S)
-laid-for S R = record { roomy = R; row-is = refl; cells-are = refl; lists-are = refl; all-are = refl; arrival-at = refl; head-at = refl; next-at = refl }
+laid-for S R = record {
+  roomy = R;
+  row-is = refl;
+  cells-are = refl;
+  lists-are = refl;
+  all-are = refl;
+  arrival-at = refl;
+  head-at = refl;
+  next-at = refl;
+  least-is = refl;
+  dests-are = refl;
+}
 
 -- ---- opening
 
@@ -52,23 +67,23 @@ module _ (m : List ℕ) where
   unfolding opened
   shut e = rw e
 
-  pub opened-outside : 12 ≤ length m → (firstOut (settingsIn m) ≡ 6 → ⊥) → opened m ≡ Wrong (firstOut (settingsIn m))
+  pub opened-outside : settingsBytes ≤ length m → (firstOut (settingsIn m) ≡ settingCount → ⊥) → opened m ≡ Wrong (firstOut (settingsIn m))
   unfolding outAt
   opened-outside h n =
-      let rows : inRows (settingsIn m) ≡ false = rows-out (settingsIn m) ∙ eqb-not (firstOut (settingsIn m)) 6 n in
-      rw (ltb-not (length m) 12 h) at (shut (rw rows))
+      let rows : inRows (settingsIn m) ≡ false = rows-out (settingsIn m) ∙ eqb-not (firstOut (settingsIn m)) settingCount n in
+      rw (ltb-not (length m) settingsBytes h) at (shut (rw rows))
 
   short : length m < size (settingsIn m) → opens m ≡ false
   short h = rw (leb-not (size (settingsIn m)) (length m) h, and-false)
 
-  pub opened-short : 12 ≤ length m → firstOut (settingsIn m) ≡ 6 → length m < size (settingsIn m) → opened m ≡ Wrong 6
+  pub opened-short : settingsBytes ≤ length m → firstOut (settingsIn m) ≡ settingCount → length m < size (settingsIn m) → opened m ≡ Wrong settingCount
   unfolding outAt
-  opened-short t e h = rw (ltb-not (length m) 12 t, e) at (shut (short h))
+  opened-short t e h = rw (ltb-not (length m) settingsBytes t, e) at (shut (short h))
 
   -- too short for the settings themselves
-  pub opened-tiny : length m < 12 → opened m ≡ Wrong 6
+  pub opened-tiny : length m < settingsBytes → opened m ≡ Wrong settingCount
   unfolding outAt size
-  opened-tiny h = rw (ltb-is (length m) 12 h) at (shut (short (omega arith)))
+  opened-tiny h = rw (ltb-is (length m) settingsBytes h) at (shut (short (omega arith)))
 
   pub opened-is : inRows (settingsIn m) ≡ true → size (settingsIn m) ≤ length m → opened m ≡ Fine (shapeFor (settingsIn m))
   unfolding opened

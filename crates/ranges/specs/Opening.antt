@@ -2,10 +2,11 @@
 use mathlib.Core.Path.{_≡_}
 use mathlib.Core.Bool.{true, cond}
 use mathlib.Core.List.{List}
-use Prim.Native.Nat.{ℕ, _*_, _≤_}
+use Prim.Native.Nat.{ℕ, _*_, _^_, _≤_}
 use lib.ListN.{length}
 use lib.Dec.{ltb}
 use Rattle.ledger.specs.Settings.{Settings, settingCount, row, inRows, firstOut, size}
+use Rattle.ledger.specs.Header.{form, leastLength}
 use Rattle.layout.specs.declared.Shape.{Shape}
 use Rattle.layout.specs.declared.Table.the-variants.{Arrival, Head, Next}
 use Rattle.layout.specs.Tables.{cells, lists, all, startOf, settingsOf, Laid}
@@ -22,6 +23,8 @@ shapeFor S = record {
   beat = S .beat;
   slots = S .slots;
   credit = S .credit;
+  edition = S .edition;
+  packets = S .packets;
   row = row S;
   cells = cells S;
   lists = lists S;
@@ -29,6 +32,8 @@ shapeFor S = record {
   arrival = startOf S Arrival;
   head = startOf S Head;
   next = startOf S Next;
+  least = leastLength (form S);
+  dests = 2 ^ form S .portBits;
 }
 
 -- the bytes of the settings

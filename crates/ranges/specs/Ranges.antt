@@ -2,7 +2,7 @@
 -- Assumes nothing.
 use mathlib.Core.Bool.{Bool, cond, _||_}
 use mathlib.Core.List.{List, [], _∷_}
-use Prim.Native.Nat.{ℕ, _+_, _-_, _*_, _/_, _%_, _≤_, _<_}
+use Prim.Native.Nat.{ℕ, zero, suc, _+_, _-_, _*_, _/_, _%_, _≤_, _<_}
 use lib.ListN.{length}
 use lib.Dec.{ltb, leb}
 use Rattle.ledger.specs.declared.Finding.{Finding}
@@ -36,6 +36,14 @@ fitsIn S m (c ∷ cs) i = cond (ltb i (tall S c)) (ltb (get S m (tableOf c) i) (
 
 unfoldable pub fitsAt : Settings → List ℕ → ℕ → Bool
 fitsAt S m = fitsIn S m narrow
+
+-- the highest of the numbers f 0, f 1, .. : n of them; 0 where there are none
+abbrev pub higher : ℕ → ℕ → ℕ
+higher a b = cond (ltb a b) b a
+
+unfoldable pub highest : (ℕ → ℕ) → ℕ → ℕ
+highest f zero = 0
+highest f (suc n) = higher (highest f n) (f n)
 
 -- the same by a list's column among its port's: n nodes are few enough for it
 unfoldable pub fewAt : Settings → ℕ → ℕ → Bool

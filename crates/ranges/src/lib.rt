@@ -8,13 +8,15 @@ ghost use mathlib.Core.Path.{_≡_};
 ghost use Prim.Native.Nat.{_*_, _<_, _≤_};
 ghost use lib.ListN.{length};
 ghost use lib.Dec.{ltb};
+ghost use Rattle.ledger.specs.Settings.{ids};
 ghost use Rattle.settings.specs.Told.{toldSettings};
+ghost use Rattle.layout.specs.declared.Table.the-variants.{Mapped};
 ghost use Rattle.layout.specs.Tables.{get, settingsOf, Laid};
 ghost use Rattle.layout.specs.Access.{Reads};
 ghost use Rattle.layout.specs.Picture.{settingsIn};
 ghost use Rattle.ranges.specs.First.{first};
 ghost use Rattle.ranges.specs.Opening.{opened};
-ghost use Rattle.ranges.specs.Ranges.{low, items, fitsAt, prefetchAt, fewAt, rangesFound, Held, Item};
+ghost use Rattle.ranges.specs.Ranges.{low, items, higher, highest, fitsAt, prefetchAt, fewAt, rangesFound, Held, Item};
 
 // What a memory is opened as: rule (a) holds, and the state has this shape; or it doesn't hold, and this item shows it.
 pub enum Opened {
@@ -24,7 +26,7 @@ pub enum Opened {
 
 // The settings as they stand in a memory, in their rows or not.
 fn read(m: &[u8]) -> Settings
-    requires { ⌜ 12 ≤ length (now m) ⌝ }
+    requires { ⌜ 16 ≤ length (now m) ⌝ }
     ensures { λ r. ⌜ toldSettings r ≡ settingsIn (now (m .entry)) ⌝ }
 {
     Settings {
@@ -34,6 +36,8 @@ fn read(m: &[u8]) -> Settings
         beat: numbers::read2(m, 6) as u32,
         slots: numbers::read2(m, 8) as u32,
         credit: numbers::read2(m, 10) as u32,
+        edition: numbers::read2(m, 12) as u32,
+        packets: numbers::read2(m, 14) as u32,
     }
 }
 
@@ -41,18 +45,18 @@ fn read(m: &[u8]) -> Settings
 pub fn open(m: &[u8]) -> Opened
     ensures { λ r. ⌜ r ≡ opened (now (m .entry)) ⌝ }
 {
-    if m.len() < 12 {
-        return Opened::Wrong(6);
+    if m.len() < 16 {
+        return Opened::Wrong(8);
     }
     let told = read(m);
     let out = settings::first_out(told);
-    if out != 6 {
+    if out != 8 {
         return Opened::Wrong(out);
     }
     let s = layout::shape_of(told);
     let size = layout::size_of(s);
     if m.len() < size {
-        return Opened::Wrong(6);
+        return Opened::Wrong(8);
     }
     Opened::Fine(s)
 }
@@ -67,11 +71,11 @@ fn prefetch_list(s: Shape, j: usize) -> usize
 }
 
 // How many items are numbers: the ports' marks, and the map's entries.
-pub fn numbers(s: Shape) -> usize
+fn numbers(s: Shape) -> usize
     requires { ⌜ Laid s ⌝ }
     ensures { λ r. ⌜ r ≡ low (settingsOf s) ⌝ }
 {
-    s.ports + 4
+    s.ports + 4096
 }
 
 // Whether element i of a table of one byte each is below a bound.
@@ -122,7 +126,7 @@ pub fn few_enough(s: Shape, column: usize, count: u32) -> bool
 }
 
 // The first of the first n items that is out of range: the marks and the map come first, so they can be tested by themselves.
-pub fn first_outside(m: &[u8], s: Shape, n: usize) -> Finding
+fn first_outside(m: &[u8], s: Shape, n: usize) -> Finding
     requires { ⌜ Held s (now m) × (n ≤ items (settingsOf s)) ⌝ }
     ensures { λ r. ⌜ r ≡ first (fitsAt (settingsOf s) (now (m .entry))) n ⌝ }
 {
@@ -134,6 +138,40 @@ pub fn first_outside(m: &[u8], s: Shape, n: usize) -> Finding
         i += 1;
     }
     Finding::Whole
+}
+
+// The higher of two numbers.
+fn higher(a: u8, b: u8) -> u8
+    ensures { λ r. ⌜ r ≡ higher a b ⌝ }
+{
+    if a < b { b } else { a }
+}
+
+// The highest of the map's entries: a comparison each, and nothing to decide in between, so that a compiler takes many in one step.
+fn highest_entry(m: &[u8], s: Shape) -> u8
+    requires { ⌜ Held s (now m) ⌝ }
+    ensures { λ r. ⌜ r ≡ highest (get (settingsOf s) (now (m .entry)) Mapped) ids ⌝ }
+{
+    let mut top: u8 = 0;
+    let mut i: usize = 0;
+    while i < 4096 {
+        top = higher(top, layout::get1(m, s, Table::Mapped, i));
+        i += 1;
+    }
+    top
+}
+
+// The first number that is out of range. The map is mostly right, and then the marks decide.
+pub fn number_outside(m: &[u8], s: Shape) -> Finding
+    requires { ⌜ Held s (now m) ⌝ }
+    ensures { λ r. ⌜ r ≡ first (fitsAt (settingsOf s) (now (m .entry))) (low (settingsOf s)) ⌝ }
+{
+    let ports = s.ports;
+    let top = highest_entry(m, s) as usize;
+    if top < ports {
+        return first_outside(m, s, ports);
+    }
+    first_outside(m, s, numbers(s))
 }
 
 // Rule (b): the first item that is out of range.

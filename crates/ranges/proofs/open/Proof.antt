@@ -3,7 +3,7 @@ use mathlib.Core.Path.{_≡_, sym, ap, _∙_}
 use mathlib.Core.Bool.{true}
 use native.Mathlib.Omega.{arith}
 use borrow.Author.Needs.{needs}
-use Rattle.ledger.specs.Settings.{inRows, firstOut, size}
+use Rattle.ledger.specs.Settings.{settingCount, inRows, firstOut, size}
 use Rattle.ledger.proofs.Tests.{eqb-is}
 use Rattle.ledger.proofs.Rows.{roomy, rows-out}
 use Rattle.settings.specs.Told.{toldSettings}
@@ -28,9 +28,9 @@ out c = c .first-out .ensures ∙ ap firstOut (c .before .read .ensures)
 
 -- there is none
 passed : (c : tie.Else2) → inRows (toldSettings (c .before .before .read .result)) ≡ true
-passed c = rows-out _ ∙ eqb-is _ 6 (sym (c .before .first-out .ensures) ∙ c .if2 .left)
+passed c = rows-out _ ∙ eqb-is _ settingCount (sym (c .before .first-out .ensures) ∙ c .if2 .left)
 
-none-out : (c : tie.Else2) → firstOut (settingsIn (c .before .before .before .before .before .args .m .now)) ≡ 6
+none-out : (c : tie.Else2) → firstOut (settingsIn (c .before .before .before .before .before .args .m .now)) ≡ settingCount
 none-out c = sym (out (c .before)) ∙ c .if2 .left
 
 returns : tie.Need-returns

@@ -1,8 +1,9 @@
 -- `records::record` meets its contract. Assumes nothing.
 use borrow.Author.Needs.{needs}
+use Rattle.ledger.specs.Answers.{sentOf}
+use Rattle.layout.specs.Tables.{settingsOf}
 use Rattle.records.specs.Records.{InSlots}
-use Rattle.memory.specs.Writes.{recordMem}
-use Rattle.records.proofs.Laws.{node-slot}
+use Rattle.records.proofs.Laws.{node-slot, all-recorded}
 use Rattle.records.proofs.record.Statement.{statement}
 use Rattle.records.proofs.record.Tie as tie
 
@@ -28,8 +29,12 @@ same-length : tie.Need-same-length
 same-length c = search needs
 
 returns : tie.Need-returns
-unfolding recordMem
-returns c = cc
+returns c =
+    let rest = c .before .before in
+    let way = rest .before .before .before .before in
+    let wide = way .before .before .before .before in
+    let a = start (wide .before .before) .args in
+    all-recorded (settingsOf (a .s)) (sentOf (a .k)) (a .m .now) (wide .before .before .slot-of .ensures) (wide .record-wide .ensures) (way .record-way .ensures) (rest .record-rest .ensures)
 
 pub record-spec : {M : Type 1} → statement M
 record-spec = tie.close (tie.spec slot-of-requires record-wide-requires record-way-requires record-rest-requires same-length returns)
