@@ -1,5 +1,6 @@
 -- The laws of fills: one more turn is one more put, equal places and values give the same, and what lies past the
 -- size is not touched. Assumes nothing.
+use mathlib.Core.Logic.{_≢_}
 use mathlib.Core.Path.{_≡_, refl, sym, ap, _∙_}
 use mathlib.Core.List.{List, _∷_, _++_}
 use Prim.Native.Nat.{ℕ, zero, suc, _+_, _-_, _*_, _≤_, _<_}
@@ -8,7 +9,7 @@ use native.Mathlib.Numerals.{add-one}
 use native.Mathlib.Omega.{arith}
 use lib.ListN.{length, drop, set, replicate, length-replicate}
 use lib.Seq.{drop-cons, set-at}
-use Rattle.ledger.specs.Settings.{Settings, size, row}
+use Rattle.ledger.specs.Settings.{Settings, settingCount, size, row}
 use Rattle.ledger.specs.Ledger.{entryId}
 use Rattle.ledger.specs.Sound.{Roomy}
 use Rattle.ledger.proofs.Places.{row-lt}
@@ -88,7 +89,20 @@ module _ (S : Settings) where
   setting-small r (suc (suc zero)) = omega arith
   setting-small r (suc (suc (suc zero))) = omega arith
   setting-small r (suc (suc (suc (suc zero)))) = omega arith
-  setting-small r (suc (suc (suc (suc (suc i))))) = omega arith
+  setting-small r (suc (suc (suc (suc (suc zero))))) = omega arith
+  setting-small r (suc (suc (suc (suc (suc (suc zero)))))) = omega arith
+  setting-small r (suc (suc (suc (suc (suc (suc (suc i))))))) = omega arith
+
+  -- the last setting, of a number that is none of the others'
+  pub setting-last : (i : ℕ) → i ≢ 0 → i ≢ 1 → i ≢ 2 → i ≢ 3 → i ≢ 4 → i ≢ 5 → i ≢ 6 → settingAt S i ≡ S .packets
+  setting-last zero a b c d e f g = absurd (a refl)
+  setting-last (suc zero) a b c d e f g = absurd (b refl)
+  setting-last (suc (suc zero)) a b c d e f g = absurd (c refl)
+  setting-last (suc (suc (suc zero))) a b c d e f g = absurd (d refl)
+  setting-last (suc (suc (suc (suc zero)))) a b c d e f g = absurd (e refl)
+  setting-last (suc (suc (suc (suc (suc zero))))) a b c d e f g = absurd (f refl)
+  setting-last (suc (suc (suc (suc (suc (suc zero)))))) a b c d e f g = absurd (g refl)
+  setting-last (suc (suc (suc (suc (suc (suc (suc i))))))) a b c d e f g = refl
 
   pub free-in : {r : ℕ} → r ≡ row S → (p : ℕ) → p < S .ports → p * r < lists S
   unfolding row
@@ -124,7 +138,7 @@ module _ (S : Settings) where
   unfolding written
   written-append xs ys long =
       let start : Front ys (xs ++ ys) xs = record { same = refl; long = long } in
-      let settings = fill-front start Setting (λ i. i) (settingAt S) 6 (λ i h. h) in
+      let settings = fill-front start Setting (λ i. i) (settingAt S) settingCount (λ i h. h) in
       let marks = fill-front settings Last (λ p. p) (λ p. S .queues - 1) (S .ports) (λ p h. h) in
       let credits = fill-front marks Arrival (λ c. c) (λ c. S .credit) (cells S) (λ c h. h) in
       let heads = fill-front credits Head (λ p. p * row S) (λ p. entryId p 0) (S .ports) (free-in refl) in
@@ -155,7 +169,7 @@ module _ (S : Settings) where
       → freed S
       (fill S Arrival (along each) (along credit) (cells S)
       (fill S Last (λ p. p) (λ p. S .queues - 1) (S .ports)
-      (fill S Setting (λ i. i) (settingAt S) 6 (replicate (size S) 0 ++ drop (size S) m))))
+      (fill S Setting (λ i. i) (settingAt S) settingCount (replicate (size S) 0 ++ drop (size S) m))))
       ≡ setupMem S m
   unfolding written
   written-along each credit a k m = ap (freed S) (fill-same S Arrival (along each) (along credit) (λ c. c) (λ c. S .credit) (cells S) _ a k) ∙ written-over m

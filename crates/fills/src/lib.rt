@@ -5,7 +5,7 @@ ghost use mathlib.Core.Path.{_≡_};
 ghost use mathlib.Core.List.{_++_};
 ghost use Prim.Native.Nat.{_-_, _*_, _^_, _<_, _≤_};
 ghost use lib.ListN.{length, drop, replicate};
-ghost use Rattle.ledger.specs.Settings.{row};
+ghost use Rattle.ledger.specs.Settings.{settingCount, row};
 ghost use Rattle.layout.specs.declared.Table.the-variants.{Setting, Last, Count};
 ghost use Rattle.layout.specs.Tables.{settingsOf};
 ghost use Rattle.memory.specs.Image.{fill, settingAt, linked, allLinked, setupMem};
@@ -41,9 +41,9 @@ fn clear(m: &mut [u8], n: usize)
     }
 }
 
-// Setting i of the six, in their order.
+// Setting i of the eight, in their order.
 fn setting_at(s: Shape, i: usize) -> usize
-    requires { ⌜ i < 6 ⌝ }
+    requires { ⌜ i < settingCount ⌝ }
     ensures { λ r. ⌜ r ≡ settingAt (settingsOf s) i ⌝ }
 {
     match i {
@@ -52,16 +52,18 @@ fn setting_at(s: Shape, i: usize) -> usize
         2 => s.nodes,
         3 => s.beat,
         4 => s.slots,
-        _ => s.credit,
+        5 => s.credit,
+        6 => s.edition,
+        _ => s.packets,
     }
 }
 
 fn put_settings(m: &mut [u8], s: Shape)
     requires { ⌜ Room s (now m) ⌝ }
-    ensures { λ _. ⌜ now (m .exit) ≡ fill (settingsOf s) Setting (λ i. i) (settingAt (settingsOf s)) 6 (now (m .entry)) ⌝ }
+    ensures { λ _. ⌜ now (m .exit) ≡ fill (settingsOf s) Setting (λ i. i) (settingAt (settingsOf s)) settingCount (now (m .entry)) ⌝ }
 {
     let mut i = 0;
-    while i < 6 {
+    while i < 8 {
         layout::put2(m, s, Table::Setting, i, setting_at(s, i) as u16);
         i += 1;
     }

@@ -11,7 +11,7 @@ use lib.Dec.{eqb, ltb, leb}
 use Rattle.ledger.specs.declared.Finding.{Finding}
 use Rattle.ledger.specs.declared.Finding.the-variants.{Whole, At}
 use Rattle.ledger.specs.Settings.{Settings, row}
-use Rattle.ledger.specs.Header.{leastLength, price}
+use Rattle.ledger.specs.Header.{form, leastLength, price}
 use Rattle.ledger.specs.Ledger.{owner, Packet, bare, Place, free, ingress, egress, prefetched, placeIn, placeOf}
 use Rattle.ledger.specs.Sound as sound
 use Rattle.ledger.specs.Sound.{All, Everywhere, Proper, WellRecorded}
@@ -47,16 +47,16 @@ unfolding properTest fieldsTest rangeTest packetAt
 tested-proper S m x e =
     let k : Packet = packetAt S m x in
     let len = and-left (rangeTest S (k .len) (k .queue) (k .dest) (k .poisoned)) _ e in
-    let high = and-right (leb leastLength (k .len)) _ len in
+    let high = and-right (leb (leastLength (form S)) (k .len)) _ len in
     let queue = and-right (ltb (k .len) (2 ^ 13)) _ high in
     let dest = and-right (ltb (k .queue) (S .queues)) _ queue in
     record {
-      len-low = leb-yes leastLength (k .len) (and-left _ _ len);
+      len-low = leb-yes (leastLength (form S)) (k .len) (and-left _ _ len);
       len-high = ltb-yes (k .len) (2 ^ 13) (and-left _ _ high);
       queue-in = ltb-yes (k .queue) (S .queues) (and-left _ _ queue);
-      dest-in = ltb-yes (k .dest) (2 ^ 2) (and-left _ _ dest);
+      dest-in = ltb-yes (k .dest) (2 ^ form S .portBits) (and-left _ _ dest);
       stamp-in = get-lt S m Stamp (slot S x);
-      poisoned-in = ltb-yes (k .poisoned) 2 (and-right (ltb (k .dest) (2 ^ 2)) _ dest);
+      poisoned-in = ltb-yes (k .poisoned) 2 (and-right (ltb (k .dest) (2 ^ form S .portBits)) _ dest);
       transaction-in = get-lt S m Transaction (slot S x);
       price-is = eqb-yes (k .price) (price (S .beat) (k .queue) (k .len)) (and-right (rangeTest S (k .len) (k .queue) (k .dest) (k .poisoned)) _ e);
     }
@@ -65,10 +65,10 @@ proper-tested : (S : Settings) (k : Packet) → Proper S k → properTest S k �
 unfolding properTest fieldsTest rangeTest
 proper-tested S k p =
     rw (
-      leb-is leastLength (k .len) (p .len-low),
+      leb-is (leastLength (form S)) (k .len) (p .len-low),
       ltb-is (k .len) (2 ^ 13) (p .len-high),
       ltb-is (k .queue) (S .queues) (p .queue-in),
-      ltb-is (k .dest) (2 ^ 2) (p .dest-in),
+      ltb-is (k .dest) (2 ^ form S .portBits) (p .dest-in),
       ltb-is (k .poisoned) 2 (p .poisoned-in),
       eqb-is (k .price) (price (S .beat) (k .queue) (k .len)) (p .price-is),
     )

@@ -6,10 +6,11 @@ use Prim.Native.Nat.{ℕ, suc, _+_, _-_, _/_, _%_, _^_, _≤_, _<_}
 use native.Mathlib.Numerals.{add-one}
 use native.Mathlib.Omega.{arith}
 use lib.Dec.{leb, ltb}
+use borrow.Author.Tests.{le-leb, lt-leb, lt-ltb, le-ltb}
 use Rattle.ledger.specs.declared.Finding.{Finding}
 use Rattle.ledger.specs.declared.Finding.the-variants.{Whole, At}
 use Rattle.ledger.specs.Settings.{Settings, row}
-use Rattle.ledger.specs.Header.{leastLength}
+use Rattle.ledger.specs.Header.{form, leastLength}
 use Rattle.ledger.specs.Ledger.{isNode}
 use Rattle.ledger.specs.Sound.{All}
 use Rattle.ledger.proofs.Tests.{ltb-yes, and-left, and-right}
@@ -26,9 +27,46 @@ use Rattle.fits.specs.Walk.{NoteOf}
 -- ---- what is read of a record
 
 -- a length in range is short enough to have a price
+-- the tests of the fields one after another, each where those before it pass
+module _ (S : Settings) (len queue dest poisoned : ℕ) where
+  pub range-short : len < leastLength (form S) → false ≡ rangeTest S len queue dest poisoned
+  unfolding rangeTest
+  range-short h = rw (lt-leb (leastLength (form S)) len h)
+
+  module _ (low : leastLength (form S) ≤ len) where
+    pub range-long : 2 ^ 13 ≤ len → false ≡ rangeTest S len queue dest poisoned
+    unfolding rangeTest
+    range-long h = rw (le-leb (leastLength (form S)) len low, le-ltb len (2 ^ 13) h)
+
+    module _ (high : len < 2 ^ 13) where
+      pub range-queue : S .queues ≤ queue → false ≡ rangeTest S len queue dest poisoned
+      unfolding rangeTest
+      range-queue h = rw (le-leb (leastLength (form S)) len low, lt-ltb len (2 ^ 13) high, le-ltb queue (S .queues) h)
+
+      module _ (has : queue < S .queues) where
+        pub range-dest : 2 ^ form S .portBits ≤ dest → false ≡ rangeTest S len queue dest poisoned
+        unfolding rangeTest
+        range-dest h =
+            rw (
+              le-leb (leastLength (form S)) len low,
+              lt-ltb len (2 ^ 13) high,
+              lt-ltb queue (S .queues) has,
+              le-ltb dest (2 ^ form S .portBits) h,
+            )
+
+        pub range-rest : dest < 2 ^ form S .portBits → ltb poisoned 2 ≡ rangeTest S len queue dest poisoned
+        unfolding rangeTest
+        range-rest h =
+            rw (
+              le-leb (leastLength (form S)) len low,
+              lt-ltb len (2 ^ 13) high,
+              lt-ltb queue (S .queues) has,
+              lt-ltb dest (2 ^ form S .portBits) h,
+            )
+
 pub range-len : (S : Settings) (len queue dest poisoned : ℕ) → rangeTest S len queue dest poisoned ≡ true → len < 2 ^ 13
 unfolding rangeTest
-range-len S len queue dest poisoned e = ltb-yes len (2 ^ 13) (and-left (ltb len (2 ^ 13)) _ (and-right (leb leastLength len) _ e))
+range-len S len queue dest poisoned e = ltb-yes len (2 ^ 13) (and-left (ltb len (2 ^ 13)) _ (and-right (leb (leastLength (form S)) len) _ e))
 
 -- what was read of a record is tested as the packet is
 pub note-tests : {S : Settings} {m : List ℕ} {n : Note} (x : ℕ) → NoteOf S m (slot S x) n

@@ -6,7 +6,7 @@ use lib.Dec.{eqb, ltb, leb}
 use Rattle.ledger.specs.declared.Finding.{Finding}
 use Rattle.ledger.specs.declared.Finding.the-variants.{Whole, At}
 use Rattle.ledger.specs.Settings.{Settings, row}
-use Rattle.ledger.specs.Header.{leastLength, price}
+use Rattle.ledger.specs.Header.{form, leastLength, price}
 use Rattle.ledger.specs.Ledger.{owner, Packet}
 use Rattle.layout.specs.Tables.{lists}
 use Rattle.layout.specs.Picture.{nodesOf, packetAt}
@@ -29,7 +29,7 @@ queueAt S c = cond (ltb (c - 2) (S .queues)) (c - 2) (c - 2 - S .queues)
 -- the fields that can be out of range in the bytes that hold them
 unfoldable pub rangeTest : Settings → ℕ → ℕ → ℕ → ℕ → Bool
 rangeTest S len queue dest poisoned =
-    leb leastLength len && (ltb len (2 ^ 13) && (ltb queue (S .queues) && (ltb dest (2 ^ 2) && ltb poisoned 2)))
+    leb (leastLength (form S)) len && (ltb len (2 ^ 13) && (ltb queue (S .queues) && (ltb dest (2 ^ form S .portBits) && ltb poisoned 2)))
 
 -- and the price is that of the queue and the length
 unfoldable pub fieldsTest : Settings → ℕ → ℕ → ℕ → ℕ → ℕ → Bool

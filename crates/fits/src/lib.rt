@@ -47,9 +47,10 @@ pub fn own_queue(s: Shape, column: usize, queue: usize) -> bool
 
 // (f), of what can be out of range in the bytes that hold it.
 fn in_range(s: Shape, len: u32, queue: u32, dest: u8, poisoned: u8) -> bool
+    requires { ⌜ Laid s ⌝ }
     ensures { λ r. ⌜ r ≡ rangeTest (settingsOf s) len queue dest poisoned ⌝ }
 {
-    if len < 12 {
+    if (len as usize) < s.least {
         return false;
     }
     if 8192 <= len {
@@ -58,7 +59,7 @@ fn in_range(s: Shape, len: u32, queue: u32, dest: u8, poisoned: u8) -> bool
     if s.queues <= queue as usize {
         return false;
     }
-    if 4 <= dest {
+    if s.dests <= dest as usize {
         return false;
     }
     poisoned < 2

@@ -6,7 +6,7 @@ use mathlib.Core.List.{List}
 use Prim.Native.Nat.{ℕ, _^_, _<_}
 use lib.Dec.{eqb, ltb, leb}
 use Rattle.ledger.specs.Settings.{Settings}
-use Rattle.ledger.specs.Header.{leastLength}
+use Rattle.ledger.specs.Header.{form, leastLength}
 use Rattle.ledger.specs.Ledger.{owner}
 use Rattle.ledger.proofs.Rows.{and-true}
 use Rattle.ledger.proofs.Tests.{ltb-yes, eqb-not, and-left, and-right}
@@ -60,6 +60,6 @@ module _ (S : Settings) (m : List ℕ) (c x : ℕ) where
   fits-queue e =
       let k = packetAt S m x in
       let fields = and-right (ltb c 2 || eqb (get S m Queue (slot S x)) (queueAt S c)) _ e in
-      let len = and-right (leb leastLength (k .len)) _ (and-left (rangeTest S (k .len) (k .queue) (k .dest) (k .poisoned)) _ fields) in
+      let len = and-right (leb (leastLength (form S)) (k .len)) _ (and-left (rangeTest S (k .len) (k .queue) (k .dest) (k .poisoned)) _ fields) in
       let queue = and-right (ltb (k .len) (2 ^ 13)) _ len in
       ltb-yes (k .queue) (S .queues) (and-left (ltb (k .queue) (S .queues)) _ queue)

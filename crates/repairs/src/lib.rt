@@ -20,7 +20,7 @@ ghost use Rattle.fills.specs.Fills.{Room};
 ghost use Rattle.repairs.specs.Kept.{Lent, Mends};
 
 // Entries of the map: one for each destination id.
-const ENTRIES: usize = 4;
+const ENTRIES: usize = 4096;
 
 // A map entry: 0 where it is no port.
 fn mended(s: Shape, entry: u8) -> u8

@@ -2,6 +2,7 @@
 use Prim.Native.Nat.{_-_}
 use native.Mathlib.Omega.{arith}
 use borrow.Author.Needs.{needs}
+use Rattle.ledger.specs.Settings.{settingCount}
 use Rattle.layout.specs.Tables.{settingsOf}
 use Rattle.layout.specs.declared.Table.the-variants.{Setting}
 use Rattle.memory.specs.Image.{fill, settingAt}
@@ -10,10 +11,10 @@ use Rattle.fills.proofs.put_settings.Statement.{statement}
 use Rattle.fills.proofs.put_settings.Tie as tie
 
 abbrev Inv-loop : tie.InvT-loop
-Inv-loop m₀ s i₀ m i = Partly (λ k. fill (settingsOf s) Setting (λ j. j) (settingAt (settingsOf s)) k m₀) 6 m₀ i m
+Inv-loop m₀ s i₀ m i = Partly (λ k. fill (settingsOf s) Setting (λ j. j) (settingAt (settingsOf s)) k m₀) settingCount m₀ i m
 
 abbrev μ-loop : tie.MeasureT-loop
-μ-loop m₀ s i₀ m i = 6 - i
+μ-loop m₀ s i₀ m i = settingCount - i
 
 loop-holds : tie.Need-loop-holds Inv-loop μ-loop
 loop-holds c = fill-none _ _ _ _

@@ -1,27 +1,23 @@
--- `fills::setting_at` meets its contract. Assumes nothing.
-use mathlib.Core.Path.{_≡_}
-use native.Mathlib.Omega.{arith}
-use borrow.Author.Needs.{needs}
+-- `fills::setting_at` meets its contract: each arm is its setting. Assumes nothing.
+use mathlib.Core.Path.{sym}
+use Rattle.fills.proofs.Fills.{setting-last}
 use Rattle.fills.proofs.setting_at.Statement.{statement}
 use Rattle.fills.proofs.setting_at.Tie as tie
 
-returns : tie.Need-returns
-returns c = search needs
-
-returns-2 : tie.Need-returns-2
-returns-2 c = search needs
-
-returns-3 : tie.Need-returns-3
-returns-3 c = search needs
-
-returns-4 : tie.Need-returns-4
-returns-4 c = search needs
-
-returns-5 : tie.Need-returns-5
-returns-5 c = search needs
-
-returns-6 : tie.Need-returns-6
-returns-6 c = let e : c .before .args .i ≡ 5 = omega arith in rw e
+last : tie.Need-returns-8
+last c =
+    let n = c .match .rest in
+    sym (setting-last _ (c .before .args .i) (n .0 .0 .0 .0 .0 .0 .1) (n .0 .0 .0 .0 .0 .1) (n .0 .0 .0 .0 .1) (n .0 .0 .0 .1) (n .0 .0 .1) (n .0 .1) (n .1))
 
 pub setting-at-spec : {M : Type 1} → statement M
-setting-at-spec = tie.close (tie.spec returns returns-2 returns-3 returns-4 returns-5 returns-6)
+setting-at-spec =
+    tie.close
+    (tie.spec
+    (λ c. rw (c .match .keys1))
+    (λ c. rw (c .match .keys2))
+    (λ c. rw (c .match .keys3))
+    (λ c. rw (c .match .keys4))
+    (λ c. rw (c .match .keys5))
+    (λ c. rw (c .match .keys6))
+    (λ c. rw (c .match .keys7))
+    last)
