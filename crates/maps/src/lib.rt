@@ -20,7 +20,7 @@ pub fn judge_map(m: &[u8], s: Shape, id: u32, port: u32) -> Verdict
 {
     let p = port as usize;
     let ports = s.ports;
-    if 4 <= id {
+    if 4096 <= id {
         return Verdict::No(Refusal::NoSuchId);
     }
     if ports <= p {

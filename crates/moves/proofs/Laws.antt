@@ -8,6 +8,7 @@ use Rattle.ledger.specs.Settings.{Settings, ids}
 use Rattle.ledger.specs.Ledger.{isNode, Packet, ingress, egress, prefetched, place#, Ledger, mapOf, mapped, Place·In}
 use Rattle.ledger.specs.Calls.{entry, stitched, stitch, prefetch, stitchRecord, firstOf}
 use Rattle.ledger.specs.Sound.{Roomy}
+use Rattle.ledger.proofs.Header.{dest-mapped}
 use Rattle.ledger.proofs.Tests.{leb-is, leb-not, leb-no}
 use Rattle.ledger.proofs.Places.{place#-lt}
 use Rattle.ledger.proofs.Keep.{Fits, first-fits}
@@ -137,12 +138,13 @@ stitched-on S m s p e k ik to it =
     let fk : firstOf S (ledgerIn S m) (ingress p) ≡ k = first ∙ sym ik in
     let f = subst (λ (j : Packet). Fits S (ingress p) j) fk (first-fits S ok (ledgerIn S m) (s .sound .orderly) (ingress p) v-in (c .1 .0)) in
     let some = counted-some S m (place# S (ingress p)) (place#-lt S (ingress p) v-in) (c .1 .0) in
+    let mapped-in = dest-mapped S ok (k .dest) (f .2 .dest-in) in
     record {
       port = hp;
       some = some;
       node = head-is-node S m (state-tidy S m s) (place# S (ingress p)) (place#-lt S (ingress p) v-in) some;
-      dest-in = f .2 .dest-in;
-      to-in = rw it (s .sound .orderly .ranges .numbers-in mapped (k .dest) (f .2 .dest-in));
+      dest-in = mapped-in;
+      to-in = rw it (s .sound .orderly .ranges .numbers-in mapped (k .dest) mapped-in);
       queue-in = f .2 .queue-in;
       outcome = acted-good S m (stitch p) (sym e) ∙ rw (fk, ← ik, ← it);
     }
