@@ -1,2 +1,4 @@
+pub mod Shapes
+pub mod Parts
 pub mod Reading
 pub mod Verdicts
