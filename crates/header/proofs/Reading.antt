@@ -1,17 +1,94 @@
--- The laws of reading a header: the answer's meaning determines it, and what was found says what the bytes are. Assumes nothing.
-use mathlib.Core.Path.{_≡_, refl, ap}
+-- The laws of reading a header: where its fields stand, that the answer's meaning determines it, and that what was found says what the bytes
+-- are. Assumes nothing.
+use mathlib.Core.Path.{_≡_, refl, sym, ap, ap₂, _∙_, subst}
 use mathlib.Core.Bool.{Bool, true, false}
-use mathlib.Core.List.{List}
-use Prim.Native.Nat.{ℕ}
+use mathlib.Core.List.{List, [], _∷_, _++_}
+use Prim.Native.Nat.{ℕ, _+_, _-_, _*_, _/_, _^_, _≤_, _<_}
 use native.Mathlib.Omega.{arith}
 use lib.ListN.{length}
 use lib.Dec.{eqb}
+use lib.Pow.{high}
 use borrow.Author.Tests.{eq-eqb, ne-eqb, eqb-true, eqb-false}
-use Rattle.ledger.specs.Header.{Fields, fieldsOf, headerSize}
+use Rattle.numbers.specs.Bytes.{number}
+use Rattle.numbers.specs.Fields.{bits, total, unpack}
+use Rattle.numbers.proofs.Bytes.{number-lt, number-split, pow-bytes}
+use Rattle.ledger.specs.Header.{Form, Fields, fieldsOf, spare, frontBytes, bodySize, headerSize, widths, inOrder}
+use Rattle.header.specs.Front.{frontWidths}
 use Rattle.header.specs.Parse.{fields, wrongSize, parsed, headerOf, readOf}
 use Rattle.header.specs.declared.HeaderFields.{HeaderFields}
 use Rattle.header.specs.declared.Parsed.{Parsed}
 use Rattle.header.specs.declared.Parsed.the-variants.{Header, WrongSize}
+use Rattle.header.proofs.Parts.{unpack-parts, bytewise, numbersAt, pow-total, unpack-bytes}
+
+-- ---- where the fields stand
+
+-- the bytes of the fields behind the front: timestamp, credit, transaction
+abbrev pub backBytes : Form → List ℕ
+backBytes F = 4 ∷ F .offerBytes ∷ 1 ∷ []
+
+pub body-parts : (F : Form) → bodySize F ≡ frontBytes F + total (backBytes F)
+unfolding bodySize
+body-parts F = omega arith
+
+-- the front's fields stand in the front's number, and each of the others is a number of its own
+pub in-parts : (F : Form) (h : List ℕ)
+    → unpack (widths F) (number (bodySize F) h 0) ≡ unpack (frontWidths F) (number (frontBytes F) h 0) ++ numbersAt (backBytes F) h (frontBytes F)
+in-parts F h =
+    let k : ℕ = frontBytes F in
+    let ks : List ℕ = backBytes F in
+    let x : ℕ = number k h 0 in
+    let y : ℕ = number (total ks) h (0 + k) in
+    let small : y < 2 ^ total (bytewise ks) = subst (λ (n : ℕ). y < n) (pow-total ks) (number-lt (total ks) h (0 + k)) in
+    let from : 0 + k ≡ k = omega arith in
+    ap (λ (n : ℕ). unpack (widths F) (number n h 0)) (body-parts F)
+    ∙ ap (unpack (widths F)) (number-split k (total ks) h 0 ∙ ap (λ (p : ℕ). x * p + y) (pow-total ks))
+    ∙ unpack-parts (frontWidths F) (bytewise ks) x y small
+    ∙ ap (λ (l : List ℕ). unpack (frontWidths F) x ++ l) (unpack-bytes ks h (0 + k) ∙ ap (numbersAt ks h) from)
+
+-- the front's number, from the four bytes that start with it
+pub front-of-word : (k : ℕ) (h : List ℕ) → k ≤ 4 → number 4 h 0 / 2 ^ (8 * (4 - k)) ≡ number k h 0
+front-of-word k h few =
+    let j : ℕ = 4 - k in
+    let four : 4 ≡ k + j = omega arith in
+    let y : ℕ = number j h (0 + k) in
+    ap (λ (n : ℕ). n / 2 ^ (8 * j))
+    (ap (λ (n : ℕ). number n h 0) four ∙ number-split k j h 0 ∙ ap (λ (p : ℕ). number k h 0 * p + y) (pow-bytes j))
+    ∙ high (number k h 0) (8 * j) (subst (λ (n : ℕ). y < n) (pow-bytes j) (number-lt j h (0 + k)))
+
+-- the front's fields, as the code counts where each starts
+pub front-found : (F : Form) (n s d so q l po r : ℕ)
+    → s ≡ spare F
+    → d ≡ bits (s + 14 + F .queueBits + F .portBits) (F .portBits) n
+    → so ≡ bits (s + 14 + F .queueBits) (F .portBits) n
+    → q ≡ bits (s + 14) (F .queueBits) n
+    → l ≡ bits (s + 1) 13 n
+    → po ≡ bits s 1 n
+    → r ≡ bits 0 s n
+    → d ∷ so ∷ q ∷ l ∷ po ∷ r ∷ [] ≡ unpack (frontWidths F) n
+front-found F n s d so q l po r e fd fs fq fl fp fr =
+    let a : s + 14 + F .queueBits + F .portBits ≡ F .portBits + (F .queueBits + (13 + (1 + (spare F + 0)))) = omega arith in
+    let b : s + 14 + F .queueBits ≡ F .queueBits + (13 + (1 + (spare F + 0))) = omega arith in
+    let c : s + 14 ≡ 13 + (1 + (spare F + 0)) = omega arith in
+    let g : s + 1 ≡ 1 + (spare F + 0) = omega arith in
+    let i : s ≡ spare F + 0 = omega arith in
+    cc
+
+-- all of them together
+pub fields-found : (F : Form) (h front : List ℕ) (stamp offered transaction check : ℕ)
+    → front ≡ unpack (frontWidths F) (number (frontBytes F) h 0)
+    → stamp ≡ number 4 h (frontBytes F)
+    → offered ≡ number (F .offerBytes) h (frontBytes F + 4)
+    → transaction ≡ number 1 h (frontBytes F + 4 + F .offerBytes)
+    → check ≡ number 1 h (bodySize F)
+    → inOrder (front ++ (stamp ∷ offered ∷ transaction ∷ [])) check ≡ fieldsOf F h
+unfolding fieldsOf
+fields-found F h front stamp offered transaction check f s o t c =
+    ap₂ inOrder
+    (let l : front ++ (stamp ∷ offered ∷ transaction ∷ []) ≡ unpack (frontWidths F) (number (frontBytes F) h 0) ++ numbersAt (backBytes F) h (frontBytes F) = cc in
+    l ∙ sym (in-parts F h))
+    c
+
+-- ---- the answer
 
 back : Fields → HeaderFields
 back f = record {
@@ -37,27 +114,28 @@ readOf-injective (Header a) WrongSize e = absurd (let z : _≡_ {A = ℕ} 0 1 = 
 readOf-injective WrongSize (Header b) e = absurd (let z : _≡_ {A = ℕ} 0 1 = cc in omega arith)
 readOf-injective WrongSize WrongSize e = refl
 
--- by the size
-pub parsed-ten : (h : List ℕ) → length h ≡ headerSize → parsed h ≡ fields (fieldsOf h)
-unfolding parsed
-parsed-ten h e = rw (eq-eqb (length h) headerSize e)
+module _ (F : Form) (h : List ℕ) where
+  -- by the size
+  pub parsed-right : length h ≡ headerSize F → parsed F h ≡ fields (fieldsOf F h)
+  unfolding parsed
+  parsed-right e = rw (eq-eqb (length h) (headerSize F) e)
 
-pub parsed-other : (h : List ℕ) → (length h ≡ headerSize → ⊥) → parsed h ≡ wrongSize
-unfolding parsed
-parsed-other h ne = rw (ne-eqb (length h) headerSize ne)
+  pub parsed-other : (length h ≡ headerSize F → ⊥) → parsed F h ≡ wrongSize
+  unfolding parsed
+  parsed-other ne = rw (ne-eqb (length h) (headerSize F) ne)
 
--- and back, from what was found
-pub parsed-size : (h : List ℕ) (f : Fields) → parsed h ≡ fields f → length h ≡ headerSize
-parsed-size h f e = go (eqb (length h) headerSize) refl
-  where
-    go : (t : Bool) → eqb (length h) headerSize ≡ t → length h ≡ headerSize
-    go true t = eqb-true (length h) headerSize t
-    go false t =
-        let other = parsed-other h (eqb-false (length h) headerSize t) in
-        absurd (let z : _≡_ {A = ℕ} 0 1 = cc in omega arith)
+  -- and back, from what was found
+  pub parsed-size : (f : Fields) → parsed F h ≡ fields f → length h ≡ headerSize F
+  parsed-size f e = go (eqb (length h) (headerSize F)) refl
+    where
+      go : (t : Bool) → eqb (length h) (headerSize F) ≡ t → length h ≡ headerSize F
+      go true t = eqb-true (length h) (headerSize F) t
+      go false t =
+          let other = parsed-other (eqb-false (length h) (headerSize F) t) in
+          absurd (let z : _≡_ {A = ℕ} 0 1 = cc in omega arith)
 
-pub parsed-fields : (h : List ℕ) (f : Fields) → parsed h ≡ fields f → f ≡ fieldsOf h
-parsed-fields h f e = let ten = parsed-ten h (parsed-size h f e) in cc
+  pub parsed-fields : (f : Fields) → parsed F h ≡ fields f → f ≡ fieldsOf F h
+  parsed-fields f e = let right = parsed-right (parsed-size f e) in cc
 
-pub parsed-wrong : (h : List ℕ) → parsed h ≡ wrongSize → length h ≡ headerSize → ⊥
-parsed-wrong h e ten = let found = parsed-ten h ten in let z : _≡_ {A = ℕ} 0 1 = cc in omega arith
+  pub parsed-wrong : parsed F h ≡ wrongSize → length h ≡ headerSize F → ⊥
+  parsed-wrong e right = let found = parsed-right right in let z : _≡_ {A = ℕ} 0 1 = cc in omega arith

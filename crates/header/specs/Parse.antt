@@ -4,7 +4,7 @@ use mathlib.Core.List.{List}
 use Prim.Native.Nat.{ℕ}
 use lib.ListN.{length}
 use lib.Dec.{eqb}
-use Rattle.ledger.specs.Header.{Fields, fieldsOf, headerSize}
+use Rattle.ledger.specs.Header.{Form, Fields, fieldsOf, headerSize}
 use Rattle.header.specs.declared.HeaderFields.{HeaderFields}
 use Rattle.header.specs.declared.Parsed.{Parsed}
 use Rattle.header.specs.declared.Parsed.the-variants.{Header, WrongSize}
@@ -13,9 +13,9 @@ pub data Read : Type 0 where
   fields : Fields → Read
   wrongSize : Read
 
--- any ten bytes have fields
-unfoldable pub parsed : List ℕ → Read
-parsed h = cond (eqb (length h) headerSize) (fields (fieldsOf h)) wrongSize
+-- any bytes of the form's size have fields
+unfoldable pub parsed : Form → List ℕ → Read
+parsed F h = cond (eqb (length h) (headerSize F)) (fields (fieldsOf F h)) wrongSize
 
 -- the code's fields are the definition's, each under its own name
 abbrev pub headerOf : HeaderFields → Fields

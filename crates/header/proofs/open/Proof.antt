@@ -1,0 +1,112 @@
+-- `header::open` meets its contract: each way out by the law of its verdict. Assumes nothing.
+use mathlib.Core.Path.{_≡_, sym, ap, _∙_}
+use mathlib.Core.List.{List}
+use Prim.Native.Nat.{ℕ, _-_}
+use native.Mathlib.Omega.{arith}
+use borrow.Author.Needs.{needs}
+use lib.ListN.{take, length-take}
+use Rattle.crc.specs.Crc.{crc8}
+use Rattle.ledger.specs.Header.{Form, Fields, bodySize}
+use Rattle.forms.specs.Formed.{formIn}
+use Rattle.header.specs.Parse.{fields, wrongSize, parsed, headerOf, readOf}
+use Rattle.header.proofs.Shapes.{Shaped, shaped}
+use Rattle.header.proofs.Reading.{parsed-size}
+use Rattle.header.proofs.Verdicts.{of-size, of-sum, of-reserved, of-bytes}
+use Rattle.header.proofs.open.Statement.{statement}
+use Rattle.header.proofs.open.Tie as tie
+
+-- the size was right: the form, the bytes, and the fields that were found in them
+abbrev start : tie.After-f → tie.Start
+start c = c .before .before .before .before
+
+abbrev form-of : tie.After-f → Form
+form-of c = formIn (start c .args .form)
+
+abbrev bytes : tie.After-f → List ℕ
+bytes c = start c .args .h .now
+
+abbrev fields-of : tie.After-f → Fields
+fields-of c = headerOf (c .f .given .0 .0)
+
+found : (c : tie.After-f) → parsed (form-of c) (bytes c) ≡ fields (fields-of c)
+found c = sym (c .before .before .parse .ensures) ∙ ap readOf (c .f .given .1)
+
+shape : (c : tie.After-f) → Shaped (start c .args .form)
+shape c = shaped (start c .args .form) (start c .pre)
+
+-- where they were found, from the checksum on
+abbrev at-sum : tie.After-checksum → tie.After-f
+at-sum c = c .before .before .before .before
+
+summed : (c : tie.After-checksum) → c .checksum .result ≡ crc8 (take (bodySize (form-of (at-sum c))) (bytes (at-sum c)))
+summed c =
+    let s = shape (at-sum c) in
+    let body : start (at-sum c) .args .form .size - 1 ≡ bodySize (form-of (at-sum c)) = omega arith in
+    c .checksum .ensures ∙ ap (λ (k : ℕ). crc8 (take k (bytes (at-sum c)))) body
+
+-- the test of the checksum was passed
+passed : (c : tie.Else1) → fields-of (at-sum (c .before .before)) .check ≡ crc8 (take (bodySize (form-of (at-sum (c .before .before)))) (bytes (at-sum (c .before .before))))
+passed c = c .if1 .left ∙ summed (c .before .before)
+
+parse-requires : tie.Need-parse-requires
+parse-requires c κs = search needs
+
+enum-known-f : tie.Need-enum-known-f
+enum-known-f c = search needs
+
+enum-told : tie.Need-enum-told
+enum-told c = search needs
+
+returns : tie.Need-returns
+returns c =
+    let parse = c .before .before in
+    let a = parse .before .before .args in
+    of-size (formIn (a .form)) (a .h .now) (sym (parse .parse .ensures) ∙ ap readOf (c .enum-told .given .1))
+
+sub-body : tie.Need-sub-body
+sub-body c = let s = shape (c .before .before) in omega arith
+
+cast-body : tie.Need-cast-body
+cast-body c = search needs
+
+slice-aggregate-checksum : tie.Need-slice-aggregate-checksum
+slice-aggregate-checksum c =
+    let f = c .before .before .before in
+    let s = shape f in
+    let right = parsed-size (form-of f) (bytes f) (fields-of f) (found f) in
+    simp length-take (omega (arith, start f .pre .size-is))
+
+checksum-requires : tie.Need-checksum-requires
+checksum-requires c κs = search needs
+
+returns-2 : tie.Need-returns-2
+returns-2 c =
+    let sum = c .before .before in
+    let f = at-sum sum in
+    of-sum (form-of f) (bytes f) (fields-of f) (found f) (λ e. c .if1 .taken (e ∙ sym (summed sum)))
+
+returns-3 : tie.Need-returns-3
+returns-3 c =
+    let f = at-sum (c .before .before .before) in
+    of-reserved (form-of f) (bytes f) (fields-of f) (found f) (passed (c .before)) (c .if2 .taken)
+
+returns-4 : tie.Need-returns-4
+returns-4 c =
+    let f = at-sum (c .before .before .before) in
+    of-bytes (form-of f) (bytes f) (fields-of f) (found f) (passed (c .before)) (c .if2 .left)
+
+pub open-spec : {M : Type 1} → statement M
+open-spec =
+    tie.close
+    (tie.spec
+    parse-requires
+    enum-known-f
+    enum-told
+    returns
+    sub-body
+    cast-body
+    slice-aggregate-checksum
+    checksum-requires
+    returns-2
+    returns-3
+    returns-4)
