@@ -6,7 +6,7 @@ use Prim.Native.Nat.{ℕ, _-_, _^_, _≤_, _<_}
 use native.Mathlib.Omega.{arith}
 use Rattle.ledger.specs.Settings.{Settings}
 use Rattle.ledger.specs.Rules.{Rule, refuse, guard}
-use Rattle.ledger.specs.Header.{Fields, fieldsOf, headerRules}
+use Rattle.ledger.specs.Header.{Form, Fields, form, fieldsOf, arrivalRules}
 use Rattle.ledger.specs.Ledger.{isNode, Packet, recorded, free, ingress, place#, arrivalOf, Place·In}
 use Rattle.ledger.specs.Calls.{refused, entry, arrive, firstOf, lastRules, rules}
 use Rattle.ledger.specs.Sound.{weigh, one, Roomy}
@@ -76,11 +76,11 @@ by-verdict [] ts f no′ out = refl
 by-verdict (refuse n true ∷ rs) ts f no′ out = refl
 by-verdict (refuse n false ∷ rs) ts f no′ out = by-verdict rs ts f no′ out
 
-pub len-in : (n p : ℕ) (h : List ℕ) (f : Fields) → good f ≡ verdict n p h → f .len < 2 ^ 13
-len-in n p h f e = rw (good-means n p h f e .0) (fields-in h .len)
+pub len-in : (F : Form) (n p : ℕ) (h : List ℕ) (f : Fields) → good f ≡ verdict F n p h → f .len < 2 ^ 13
+len-in F n p h f e = rw (good-means F n p h f e .0) (fields-in F h .len)
 
-pub known-queue : (n p : ℕ) (h : List ℕ) (f : Fields) → good f ≡ verdict n p h → f .queue < n
-known-queue n p h f e = let g = good-means n p h f e in rw (g .0) (g .1 .queue)
+pub known-queue : (F : Form) (n p : ℕ) (h : List ℕ) (f : Fields) → good f ≡ verdict F n p h → f .queue < n
+known-queue F n p h f e = let g = good-means F n p h f e in rw (g .0) (g .1 .queue)
 
 module _ (S : Settings) (m : List ℕ) (p : ℕ) (h : List ℕ) where
   pub no-port : S .ports ≤ p → rejected 4 ≡ judgedArrival S m p h
@@ -88,18 +88,18 @@ module _ (S : Settings) (m : List ℕ) (p : ℕ) (h : List ℕ) where
   no-port e = rw (leb-is (S .ports) p e)
 
   module _ (hp : p < S .ports) where
-    by-header : carried rejected (judgedFields S m p (fieldsOf h)) (verdict (S .queues) p h) ≡ judgedArrival S m p h
+    by-header : carried rejected (judgedFields S m p (fieldsOf (form S) h)) (verdict (form S) (S .queues) p h) ≡ judgedArrival S m p h
     unfolding judgedArrival judgedFields recorded
     by-header =
-        by-verdict (headerRules (S .queues) p h) (lastRules S (ledgerIn S m) p (packetFor S m p (fieldsOf h))) (fieldsOf h) rejected
-        (accepted (packetFor S m p (fieldsOf h)))
+        by-verdict (arrivalRules (form S) (S .queues) p h) (lastRules S (ledgerIn S m) p (packetFor S m p (fieldsOf (form S) h))) (fieldsOf (form S) h) rejected
+        (accepted (packetFor S m p (fieldsOf (form S) h)))
         ∙ rw (leb-not (S .ports) p hp)
 
-    pub bad-header : (n : ℕ) → bad n ≡ verdict (S .queues) p h → rejected n ≡ judgedArrival S m p h
-    bad-header n e = ap (carried rejected (judgedFields S m p (fieldsOf h))) e ∙ by-header
+    pub bad-header : (n : ℕ) → bad n ≡ verdict (form S) (S .queues) p h → rejected n ≡ judgedArrival S m p h
+    bad-header n e = ap (carried rejected (judgedFields S m p (fieldsOf (form S) h))) e ∙ by-header
 
-    pub good-header : (f : Fields) → good f ≡ verdict (S .queues) p h → judgedFields S m p f ≡ judgedArrival S m p h
-    good-header f e = ap (judgedFields S m p) (good-means (S .queues) p h f e .0) ∙ ap (carried rejected (judgedFields S m p (fieldsOf h))) e ∙ by-header
+    pub good-header : (f : Fields) → good f ≡ verdict (form S) (S .queues) p h → judgedFields S m p f ≡ judgedArrival S m p h
+    good-header f e = ap (judgedFields S m p) (good-means (form S) (S .queues) p h f e .0) ∙ ap (carried rejected (judgedFields S m p (fieldsOf (form S) h))) e ∙ by-header
 
 -- ---- from the judge to the outcome
 
@@ -114,7 +114,7 @@ guard-plainly (refuse n false ∷ rs) k = guard-plainly rs k
 
 judged-plainly : (S : Settings) (m : List ℕ) (p : ℕ) (h : List ℕ) → judged S (ledgerIn S m) (arrive p h) ≡ plainly (judgedArrival S m p h)
 unfolding judged judgedArrival
-judged-plainly S m p h = guard-plainly (rules S (ledgerIn S m) (arrive p h)) (packetFor S m p (fieldsOf h))
+judged-plainly S m p h = guard-plainly (rules S (ledgerIn S m) (arrive p h)) (packetFor S m p (fieldsOf (form S) h))
 
 pub turned-away : (S : Settings) (m : List ℕ) (p : ℕ) (h : List ℕ) (n : ℕ) → rejected n ≡ judgedArrival S m p h → acted S m (arrive p h) ≡ (refused n, m)
 turned-away S m p h n e = acted-bad S m (arrive p h) n (judged-plainly S m p h ∙ ap plainly (sym e))
@@ -132,8 +132,8 @@ arrives s m w p h k e =
     let c = judged-clear S (ledgerIn S m) (arrive p h) fine in
     let a = ledger.admits S (ledgerIn S m) p h c in
     let inside = lists-in S (w .laid .roomy) p (a .port) .0 in
-    let f = e ∙ cleared (rules S (ledgerIn S m) (arrive p h)) rejected (accepted (packetFor S m p (fieldsOf h))) c in
-    let is : k ≡ packetFor S m p (fieldsOf h) = cc in
+    let f = e ∙ cleared (rules S (ledgerIn S m) (arrive p h)) rejected (accepted (packetFor S m p (fieldsOf (form S) h))) c in
+    let is : k ≡ packetFor S m p (fieldsOf (form S) h) = cc in
     let first : firstOf S (ledgerIn S m) (free p) .node ≡ headOf S m (free p) =
     ap (λ (j : Packet). j .node) (pop-item S (w .laid .roomy) m (state-tidy S m (w .state)) (place# S (free p)) inside (a .some))
     ∙ item-node S m (place# S (free p)) (headOf S m (free p)) in
@@ -142,7 +142,7 @@ arrives s m w p h k e =
         laid = w .laid;
         tidy = state-tidy S m (w .state);
         port = a .port;
-        queue = rw is (queue-in S (headOf S m (free p)) (fieldsOf h) (a .header .queue));
+        queue = rw is (queue-in S (headOf S m (free p)) (fieldsOf (form S) h) (a .header .queue));
         some = counted-some S m (place# S (free p)) inside (a .some);
         node = ap (λ (j : Packet). j .node) is;
         afford = rw is (a .afford);

@@ -5,7 +5,7 @@ use Prim.Native.Nat.{ℕ, _^_, _≤_, _<_}
 use lib.ListN.{length}
 use Rattle.ledger.specs.Settings.{Settings, size}
 use Rattle.ledger.specs.Rules.{guard}
-use Rattle.ledger.specs.Header.{Fields, fieldsOf}
+use Rattle.ledger.specs.Header.{Fields, form, fieldsOf}
 use Rattle.ledger.specs.Ledger.{Packet, recorded, free, place#, arrivalOf}
 use Rattle.ledger.specs.Calls.{arrive, lastRules, rules}
 use Rattle.ledger.specs.Answers.{numberOf, sentOf}
@@ -32,7 +32,7 @@ packetFor S m p f = recorded S (headOf S m (free p)) f
 
 -- the first refusal that applies, or else the packet
 unfoldable pub judgedArrival : Settings → List ℕ → ℕ → List ℕ → Admission
-judgedArrival S m p h = guard (rules S (ledgerIn S m) (arrive p h)) rejected (accepted (packetFor S m p (fieldsOf h)))
+judgedArrival S m p h = guard (rules S (ledgerIn S m) (arrive p h)) rejected (accepted (packetFor S m p (fieldsOf (form S) h)))
 
 -- the same where the port is right and the header has no fault of its own
 unfoldable pub judgedFields : Settings → List ℕ → ℕ → Fields → Admission

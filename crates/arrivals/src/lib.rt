@@ -9,11 +9,13 @@ use ledger::Sent;
 ghost use mathlib.Core.Path.{_≡_};
 ghost use mathlib.Core.List.{List};
 ghost use Prim.Native.Nat.{ℕ};
+ghost use Rattle.ledger.specs.Header.{form};
 ghost use Rattle.ledger.specs.Ledger.{recorded};
 ghost use Rattle.ledger.specs.Answers.{sentOf, entryReply};
 ghost use Rattle.ledger.specs.Calls.{Reply, arrive};
+ghost use Rattle.header.specs.Judge.{verdict, verdictOf};
 ghost use Rattle.header.specs.Parse.{headerOf};
-ghost use Rattle.layout.specs.Tables.{settingsOf};
+ghost use Rattle.layout.specs.Tables.{settingsOf, Laid};
 ghost use Rattle.memory.specs.Writes.{arriveMem};
 ghost use Rattle.memory.specs.Judged.{Works};
 ghost use Rattle.memory.specs.Memory.{acted};
@@ -62,6 +64,16 @@ fn admit(m: &[u8], s: Shape, p: usize, f: HeaderFields) -> Admitted
     Admitted::Good(k)
 }
 
+// The header's own refusals, by the form of the headers that the switch takes.
+fn judge_header(h: &[u8], s: Shape, port: u32) -> Judged
+    requires { ⌜ Laid s ⌝ }
+    ensures { λ r. ⌜ verdictOf r ≡ verdict (form (settingsOf s)) (s .queues) port (now (h .entry)) ⌝ }
+{
+    let queues = s.queues as u32;
+    let form = forms::form_of(s.edition as u32, s.ports as u32, queues);
+    header::judge(h, form, queues, port)
+}
+
 // The first refusal of an arrival that applies, or the packet that arrives.
 pub fn judge_arrive(m: &[u8], s: Shape, port: u32, h: &[u8]) -> Admitted
     requires { ⌜ Works s (now m) ⌝ }
@@ -72,8 +84,7 @@ pub fn judge_arrive(m: &[u8], s: Shape, port: u32, h: &[u8]) -> Admitted
     if ports <= p {
         return Admitted::No(Refusal::NoPort);
     }
-    let queues = s.queues;
-    let judged = header::judge(h, queues as u32, port);
+    let judged = judge_header(h, s, port);
     match judged {
         Judged::No(r) => Admitted::No(r),
         Judged::Good(f) => admit(m, s, p, f),

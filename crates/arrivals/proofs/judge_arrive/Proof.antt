@@ -1,6 +1,7 @@
 -- `arrivals::judge_arrive` meets its contract: the port, then the header's own verdict, then what its fields ask. Assumes nothing.
 use mathlib.Core.Path.{_≡_, sym, ap, _∙_}
 use borrow.Author.Needs.{needs}
+use Rattle.ledger.specs.Header.{form}
 use Rattle.header.specs.Parse.{headerOf}
 use Rattle.header.specs.Judge.{good, verdict, verdictOf}
 use Rattle.layout.specs.Tables.{settingsOf}
@@ -13,11 +14,8 @@ returns c =
     let a = c .before .before .before .args in
     laws.no-port (settingsOf (a .s)) (a .m .now) (a .port) (a .h .now) (c .if1 .taken)
 
-cast-judge : tie.Need-cast-judge
-cast-judge c = search needs
-
-judge-requires : tie.Need-judge-requires
-judge-requires c κs = search needs
+judge-header-requires : tie.Need-judge-header-requires
+judge-header-requires c κs = search needs
 
 enum-known-judged : tie.Need-enum-known-judged
 enum-known-judged c = search needs
@@ -27,18 +25,18 @@ enum-known-judged-2 c = search needs
 
 -- the header has no fault of its own
 passed : (c : tie.After-judged2) → let a = c .before .before .before .before .before .before .args in
-    good (headerOf (c .judged2 .given .0 .0)) ≡ verdict (a .s .queues) (a .port) (a .h .now)
-passed c = sym (ap verdictOf (c .judged2 .given .1)) ∙ c .before .before .judge .ensures
+    good (headerOf (c .judged2 .given .0 .0)) ≡ verdict (form (settingsOf (a .s))) (a .s .queues) (a .port) (a .h .now)
+passed c = sym (ap verdictOf (c .judged2 .given .1)) ∙ c .before .before .judge-header .ensures
 
 admit-requires : tie.Need-admit-requires
 admit-requires c κs =
     let e = c .before .before .before .before in
     let st = e .before .before .before in
     record {
-      priced = record { laid = st .pre .laid; len = laws.len-in (st .args .s .queues) (st .args .port) (st .args .h .now) _ (passed (c .before)) };
+      priced = record { laid = st .pre .laid; len = laws.len-in (form (settingsOf (st .args .s))) (st .args .s .queues) (st .args .port) (st .args .h .now) _ (passed (c .before)) };
       long = st .pre .state .long;
       port = e .if1 .left;
-      queue = laws.known-queue (st .args .s .queues) (st .args .port) (st .args .h .now) _ (passed (c .before));
+      queue = laws.known-queue (form (settingsOf (st .args .s))) (st .args .s .queues) (st .args .port) (st .args .h .now) _ (passed (c .before));
     }
 
 returns-2 : tie.Need-returns-2
@@ -46,7 +44,7 @@ returns-2 c =
     let j = c .before .before .before in
     let a = j .before .before .before .before .args in
     laws.bad-header (settingsOf (a .s)) (a .m .now) (a .port) (a .h .now) (j .before .if1 .left) _
-    (sym (ap verdictOf (c .before .judged .given .1)) ∙ j .judge .ensures)
+    (sym (ap verdictOf (c .before .judged .given .1)) ∙ j .judge-header .ensures)
 
 returns-3 : tie.Need-returns-3
 returns-3 c =
@@ -61,8 +59,7 @@ judge-arrive-spec =
     tie.close
     (tie.spec
     returns
-    cast-judge
-    judge-requires
+    judge-header-requires
     enum-known-judged
     enum-known-judged-2
     admit-requires
