@@ -1,23 +1,22 @@
 -- The laws of the reader and of the writer: each answer by the tests that lead to it, and the bytes of a label. Assumes nothing.
 use mathlib.Core.Path.{_≡_, refl, sym, ap, ap₂, _∙_}
-use mathlib.Core.Bool.{Bool, true, false, not, _&&_}
+use mathlib.Core.Bool.{Bool, true, false, _&&_}
 use mathlib.Core.List.{List, [], _∷_, _++_, append-assoc, append-nil}
 use Prim.Native.Nat.{ℕ, _+_, _-_, _*_, _^_, _<_, _≤_}
 use native.Mathlib.Nat.{mul-assoc, mod-eq-of-lt}
 use native.Mathlib.Omega.{arith}
-use lib.Dec.{eqb, ltb, leb}
+use lib.Dec.{ltb, leb}
 use lib.ListN.{length, take, length-append, length-replicate}
 use lib.Pow.{pow-pos, pow-add}
 use lib.Seq.{take-at}
 use Rattle.numbers.specs.Bytes.{store, digits}
-use Rattle.numbers.specs.Fields.{total, pack, fitting, Fit}
+use Rattle.numbers.specs.Fields.{pack, fitting, Fit}
 use Rattle.numbers.proofs.Bytes.{length-digits, digits-one, pow-bytes}
 use Rattle.numbers.proofs.Fields.{fitting-means, fit-fitting}
 use Rattle.crc.specs.Crc.{crc8}
 use Rattle.ledger.specs.Settings.{portsIn, queuesIn, wide}
 use Rattle.ledger.specs.Header.{Form, Fields, formOf, widths, spare, frontBytes, bodySize, headerSize, leastLength, fieldsOf, headerRules}
-use Rattle.ledger.specs.Rules.{Rule, refuse, guard, Clear}
-use Rattle.ledger.proofs.Tests.{true≢false, and-left, and-right, leb-yes, leb-is, leb-no, leb-not, ltb-yes, ltb-is, ltb-no, ltb-not, eqb-yes, eqb-is, not-yes}
+use Rattle.ledger.proofs.Tests.{and-left, and-right, leb-yes, leb-is, ltb-yes, ltb-is}
 use Rattle.ledger.proofs.Rows.{ports-range, queues-range}
 use Rattle.ledger.proofs.Passes.{guard-after}
 use Rattle.ledger.proofs.Steps.{cleared}
@@ -25,8 +24,8 @@ use Rattle.forms.specs.declared.HeaderForm.{HeaderForm}
 use Rattle.forms.specs.Formed.{formIn, Formed}
 use Rattle.header.specs.Front.{frontWidths, frontValues}
 use Rattle.header.specs.Judge.{bad, good, byteRules, fieldRules, opened, settled}
-use Rattle.header.specs.Label.{Label, labelOf, values, countsIn, Answer, refused, gives}
-use Rattle.header.specs.Reader.{reads, readable, readerRules}
+use Rattle.header.specs.Label.{Label, labelOf, values, countsIn, refused, gives}
+use Rattle.header.specs.Reader.{reads, readable}
 use Rattle.header.specs.Writer.{holds, bodyFor, headerFor, writes, padded}
 use Rattle.header.proofs.Shapes.{shaped}
 use Rattle.header.proofs.Parts.{bytewise, joined-packs, pack-parts, digits-above-bytes, digits-bytes, put}

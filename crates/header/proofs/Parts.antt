@@ -9,7 +9,7 @@ use lib.ListN.{length, replicate, length-append, length-replicate, replicate-app
 use lib.Pow.{pow-add, pow-mono}
 use lib.Seq.{append-snoc, set-append-seam}
 use Rattle.numbers.specs.Bytes.{number, store, digits}
-use Rattle.numbers.specs.Fields.{bits, total, unpack, pack, Fit}
+use Rattle.numbers.specs.Fields.{total, unpack, pack, Fit}
 use Rattle.numbers.proofs.Bytes.{number-lt, number-split, length-digits, digits-join, pow-bytes}
 use Rattle.numbers.proofs.Fields.{bits-high, bits-low, bits-whole, pack-lt}
 use Rattle.header.specs.Writer.{padded}

@@ -1,8 +1,8 @@
 -- How large the numbers of a form are. Assumes nothing.
-use mathlib.Core.Path.{_≡_, _∙_, sym}
-use Prim.Native.Nat.{ℕ, _+_, _*_, _≤_}
+use mathlib.Core.Path.{_≡_}
+use Prim.Native.Nat.{_+_, _*_, _≤_}
 use native.Mathlib.Omega.{arith}
-use Rattle.ledger.specs.Header.{Form, frontBits, frontBytes, spare, bodySize, headerSize, leastLength}
+use Rattle.ledger.specs.Header.{frontBits, spare, bodySize, headerSize, leastLength}
 use Rattle.ledger.proofs.Header.{fronted}
 use Rattle.forms.specs.declared.HeaderForm.{HeaderForm}
 use Rattle.forms.specs.Formed.{formIn, Formed}

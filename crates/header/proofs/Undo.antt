@@ -2,7 +2,7 @@
 -- if a value doesn't fit its field, its length is under the least or its queue isn't in the switch." Over any form, by the laws of its widths.
 -- Assumes nothing.
 use mathlib.Core.Path.{_≡_, refl, sym, ap, ap₂, _∙_, subst}
-use mathlib.Core.Logic.{_⊎_, inl, inr}
+use mathlib.Core.Logic.{inl, inr}
 use mathlib.Core.Bool.{Bool, true, false, not}
 use mathlib.Core.List.{List, [], _∷_, _++_}
 use Prim.Native.Nat.{ℕ, suc, _+_, _*_, _%_, _^_, _≤_, _<_}
@@ -23,7 +23,7 @@ use Rattle.ledger.specs.Header.{fieldsOf, headerRules}
 use Rattle.ledger.specs.Rules.{Rule, refuse, guard, Clear}
 use Rattle.ledger.proofs.Tests.{true≢false, leb-yes, leb-no, leb-not, ltb-yes, ltb-no, ltb-not, eqb-yes, eqb-is, not-yes}
 use Rattle.ledger.proofs.Steps.{cleared}
-use Rattle.header.specs.Label.{Label, labelOf, values, countsIn, Answer, refused, gives}
+use Rattle.header.specs.Label.{Label, labelOf, values, countsIn, refused, gives}
 use Rattle.header.specs.Reader.{readerRules, reads}
 use Rattle.header.specs.Writer.{holds, bodyFor, headerFor, writerRules, writes, Misfit}
 use Rattle.header.proofs.Sums.{crc8-lt}

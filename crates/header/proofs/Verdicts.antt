@@ -1,5 +1,5 @@
 -- The laws of judging a header: the answer's meaning determines it, and each verdict by the tests that lead to it. Assumes nothing.
-use mathlib.Core.Path.{_≡_, refl, sym, ap, _∙_}
+use mathlib.Core.Path.{_≡_, refl, sym}
 use mathlib.Core.Bool.{true, false}
 use mathlib.Core.List.{List, [], _∷_, _++_}
 use Prim.Native.Nat.{ℕ, _<_, _≤_}
@@ -12,10 +12,9 @@ use Rattle.ledger.specs.Header.{Form, Fields, fieldsOf, bodySize, headerSize, l
 use Rattle.ledger.specs.Rules.{Rule, refuse, guard, Clear}
 use Rattle.ledger.proofs.Tests.{leb-is, leb-not}
 use Rattle.ledger.proofs.Passes.{Passes, passes, guard-after}
-use Rattle.ledger.proofs.Steps.{guarded}
 use Rattle.ledger.proofs.Answers.{number-inj}
 use Rattle.header.specs.Parse.{fields, wrongSize, parsed}
-use Rattle.header.specs.Judge.{Verdict, bad, good, verdict, verdictOf, byteRules, fieldRules, opened, settled}
+use Rattle.header.specs.Judge.{bad, good, verdict, verdictOf, byteRules, fieldRules, opened, settled}
 use Rattle.header.specs.declared.Judged.{Judged}
 use Rattle.header.specs.declared.Judged.the-variants.{Good, No}
 use Rattle.header.proofs.Reading.{headerOf-injective, parsed-size, parsed-fields, parsed-wrong}

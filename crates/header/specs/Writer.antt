@@ -5,7 +5,7 @@ use mathlib.Core.Path.{_≡_}
 use mathlib.Core.List.{List, [], _∷_, _++_}
 use Prim.Native.Nat.{ℕ, _-_, _<_, _≤_}
 use lib.Dec.{ltb, leb}
-use lib.ListN.{length, take, replicate}
+use lib.ListN.{length, replicate}
 use Rattle.numbers.specs.Bytes.{digits}
 use Rattle.numbers.specs.Fields.{pack, fitting, Fit}
 use Rattle.crc.specs.Crc.{crc8}

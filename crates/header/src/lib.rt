@@ -9,7 +9,7 @@ ghost use lib.Dec.{ltb};
 ghost use lib.ListN.{length};
 ghost use Rattle.numbers.specs.Bytes.{number};
 ghost use Rattle.numbers.specs.Fields.{bits, unpack, pack, fitting, Fit};
-ghost use Rattle.ledger.specs.Header.{formOf, widths, fieldsOf, headerSize, price};
+ghost use Rattle.ledger.specs.Header.{widths, fieldsOf, headerSize, price};
 ghost use Rattle.ledger.specs.Answers.{numberOf};
 ghost use Rattle.forms.specs.Formed.{formIn, Formed};
 ghost use Rattle.header.specs.Front.{frontWidths, frontOf, frontValues};

@@ -1,7 +1,6 @@
 -- `header::front_fields` meets its contract: each field starts where those below it end. Assumes nothing.
 use Prim.Native.Nat.{_+_}
 use native.Mathlib.Omega.{arith}
-use borrow.Author.Needs.{needs}
 use Rattle.numbers.proofs.Fields.{bits-lt}
 use Rattle.forms.specs.Formed.{formIn}
 use Rattle.header.proofs.Shapes.{Shaped, shaped}

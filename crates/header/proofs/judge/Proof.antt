@@ -1,13 +1,10 @@
 -- `header::judge` meets its contract: what is asked of the bytes, then the source, then what is asked of the fields. Assumes nothing.
 use mathlib.Core.Path.{_≡_, sym, ap, _∙_}
-use mathlib.Core.List.{List}
-use Prim.Native.Nat.{ℕ}
 use borrow.Author.Needs.{needs}
-use Rattle.ledger.specs.Header.{Form, Fields}
 use Rattle.ledger.specs.Answers.{numberOf}
 use Rattle.forms.specs.Formed.{formIn}
 use Rattle.header.specs.Parse.{headerOf}
-use Rattle.header.specs.Judge.{bad, good, opened, verdictOf}
+use Rattle.header.specs.Judge.{good, opened, verdictOf}
 use Rattle.header.proofs.Verdicts.{of-opened, of-source, of-settled}
 use Rattle.header.proofs.judge.Statement.{statement}
 use Rattle.header.proofs.judge.Tie as tie

@@ -8,7 +8,7 @@ use lib.ListN.{take, length-take}
 use Rattle.crc.specs.Crc.{crc8}
 use Rattle.ledger.specs.Header.{Form, Fields, bodySize}
 use Rattle.forms.specs.Formed.{formIn}
-use Rattle.header.specs.Parse.{fields, wrongSize, parsed, headerOf, readOf}
+use Rattle.header.specs.Parse.{fields, parsed, headerOf, readOf}
 use Rattle.header.proofs.Shapes.{Shaped, shaped}
 use Rattle.header.proofs.Reading.{parsed-size}
 use Rattle.header.proofs.Verdicts.{of-size, of-sum, of-reserved, of-bytes}
