@@ -1,26 +1,21 @@
 -- The marks and the sums that are lent: there are enough, and all are 0. Assumes nothing.
 use mathlib.Core.Path.{_≡_, refl, ap, _∙_}
 use mathlib.Core.List.{List, _∷_}
-use Prim.Native.Nat.{ℕ, zero, suc, _-_, _*_, _≤_}
+use Prim.Native.Nat.{ℕ, zero, suc, _≤_}
 use native.Mathlib.Nat.{le-of-suc-le-suc}
 use native.Mathlib.Omega.{arith}
 use lib.ListN.{length, take, replicate, length-replicate}
-use Rattle.ledger.proofs.Rows.{Rows, rows}
 use Rattle.layout.specs.declared.Shape.{Shape}
-use Rattle.layout.specs.Tables.{settingsOf}
-use Rattle.layout.specs.Picture.{settingsIn}
+use Rattle.layout.specs.Tables.{Laid}
+use Rattle.layout.proofs.Shapes.{small}
 use Rattle.ranges.specs.Opening.{Open}
 use Rattle.ranges.proofs.Opening.{open-held}
 use Rattle.once.specs.Walks.{Blank}
 use Rattle.whole.specs.Walks.{AllLent}
 
--- this build has four ports of 24 queues and at most 2,048 nodes
-pub few : {m : List ℕ} {s : Shape} → Open m s → (s .all ≤ 8192) × (s .cells ≤ 92)
-few {m} {s} o =
-    let r : Rows (settingsOf s) = rw (o .settings-are) (rows (settingsIn m) (o .rows)) in
-    let a : s .all ≡ 4 * s .nodes = o .laid .all-are ∙ rw (r .four-ports) in
-    let c : s .cells ≡ 4 * (24 - 1) = o .laid .cells-are ∙ rw (r .four-ports, r .all-queues) in
-    (omega arith, omega arith)
+-- as many nodes and credits as a state may have
+pub most : {s : Shape} → Laid s → (s .all ≤ 65536) × (s .cells ≤ 2016)
+most {s} l = let f = small s l in (f .small-all, f .small-cells)
 
 pub part-zeros : (n k : ℕ) → n ≤ k → take {A = ℕ} n (replicate k 0) ≡ replicate n 0
 part-zeros zero k h = refl
@@ -38,12 +33,11 @@ blank o k h = record {
   clear = part-zeros _ k h ∙ ap (λ (n : ℕ). replicate n 0) (o .laid .all-are);
 }
 
--- and the sums of 92 with them
-pub all-lent : {m : List ℕ} {s : Shape} → Open m s → (k : ℕ) → s .all ≤ k
-    → AllLent s m (take (s .all) (replicate k 0)) (take (s .cells) (replicate 92 0))
-all-lent o k h = record {
-  laid = o .laid;
-  long = open-held o .long;
-  clear = blank o k h .clear;
-  zeros = part-zeros _ 92 (few o .1) ∙ ap (λ (n : ℕ). replicate n 0) (o .laid .cells-are);
+-- and the sums of k with them
+pub all-lent : {m marks : List ℕ} {s : Shape} → Blank s m marks → (k : ℕ) → s .cells ≤ k → AllLent s m marks (take (s .cells) (replicate k 0))
+all-lent b k h = record {
+  laid = b .laid;
+  long = b .long;
+  clear = b .clear;
+  zeros = part-zeros _ k h ∙ ap (λ (n : ℕ). replicate n 0) (b .laid .cells-are);
 }

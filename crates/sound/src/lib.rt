@@ -11,6 +11,7 @@ ghost use Prim.Native.Nat.{_≤_};
 ghost use Rattle.layout.specs.Tables.{settingsOf};
 ghost use Rattle.ranges.specs.Opening.{Open};
 ghost use Rattle.once.specs.Once.{onceFound};
+ghost use Rattle.once.specs.Walks.{Blank};
 ghost use Rattle.ranges.specs.First.{first};
 ghost use Rattle.ranges.specs.Ranges.{low, fitsAt};
 ghost use Rattle.whole.specs.Whole.{Says, Tells};
@@ -22,7 +23,9 @@ pub enum Tested {
     NoState,
 }
 
-// Rule (c) where there are few nodes, with marks for 1,024.
+// Marks are cleared whole, so a switch of few nodes lends few: 1,024, or 8,192, or as many as a state may have. Sums likewise.
+
+// Rule (c) where there are few nodes.
 fn once_among_few(m: &[u8], s: Shape) -> Finding
     requires { ⌜ Open (now m) s × (s .all ≤ 1024) ⌝ }
     ensures { λ r. ⌜ r ≡ onceFound (settingsOf s) (now (m .entry)) ⌝ }
@@ -32,9 +35,8 @@ fn once_among_few(m: &[u8], s: Shape) -> Finding
     once::once(m, s, &mut marks[..all])
 }
 
-// Rule (c), with marks for as many nodes as a state may have.
-fn once_among_all(m: &[u8], s: Shape) -> Finding
-    requires { ⌜ Open (now m) s ⌝ }
+fn once_among_more(m: &[u8], s: Shape) -> Finding
+    requires { ⌜ Open (now m) s × (s .all ≤ 8192) ⌝ }
     ensures { λ r. ⌜ r ≡ onceFound (settingsOf s) (now (m .entry)) ⌝ }
 {
     let mut marks = [0u8; 8192];
@@ -42,7 +44,16 @@ fn once_among_all(m: &[u8], s: Shape) -> Finding
     once::once(m, s, &mut marks[..all])
 }
 
-// Rule (c): marks are cleared whole, so a switch of few nodes lends few.
+fn once_among_all(m: &[u8], s: Shape) -> Finding
+    requires { ⌜ Open (now m) s ⌝ }
+    ensures { λ r. ⌜ r ≡ onceFound (settingsOf s) (now (m .entry)) ⌝ }
+{
+    let mut marks = [0u8; 65536];
+    let all = s.all;
+    once::once(m, s, &mut marks[..all])
+}
+
+// Rule (c).
 fn once_in(m: &[u8], s: Shape) -> Finding
     requires { ⌜ Open (now m) s ⌝ }
     ensures { λ r. ⌜ r ≡ onceFound (settingsOf s) (now (m .entry)) ⌝ }
@@ -50,31 +61,67 @@ fn once_in(m: &[u8], s: Shape) -> Finding
     if s.all <= 1024 {
         return once_among_few(m, s);
     }
+    if s.all <= 8192 {
+        return once_among_more(m, s);
+    }
     once_among_all(m, s)
 }
 
-// The rules of lists and of credits in one walk where there are few nodes, with marks for 1,024.
+// The rules of lists and of credits in one walk, with marks that are lent, where there are few credits.
+fn whole_with_few(m: &[u8], s: Shape, marks: &mut [u8]) -> Walk
+    requires { ⌜ Blank s (now m) (now marks) × (s .cells ≤ 92) ⌝ }
+    ensures { λ r. ⌜ Tells (settingsOf s) (now (m .entry)) r ⌝ }
+{
+    let mut sums = [0u64; 92];
+    let cells = s.cells;
+    whole::whole(m, s, marks, &mut sums[..cells])
+}
+
+fn whole_with_all(m: &[u8], s: Shape, marks: &mut [u8]) -> Walk
+    requires { ⌜ Blank s (now m) (now marks) ⌝ }
+    ensures { λ r. ⌜ Tells (settingsOf s) (now (m .entry)) r ⌝ }
+{
+    let mut sums = [0u64; 2016];
+    let cells = s.cells;
+    whole::whole(m, s, marks, &mut sums[..cells])
+}
+
+fn whole_with(m: &[u8], s: Shape, marks: &mut [u8]) -> Walk
+    requires { ⌜ Blank s (now m) (now marks) ⌝ }
+    ensures { λ r. ⌜ Tells (settingsOf s) (now (m .entry)) r ⌝ }
+{
+    if s.cells <= 92 {
+        return whole_with_few(m, s, marks);
+    }
+    whole_with_all(m, s, marks)
+}
+
+// The same with marks for as many nodes as there are.
 fn whole_among_few(m: &[u8], s: Shape) -> Walk
     requires { ⌜ Open (now m) s × (s .all ≤ 1024) ⌝ }
     ensures { λ r. ⌜ Tells (settingsOf s) (now (m .entry)) r ⌝ }
 {
     let mut marks = [0u8; 1024];
-    let mut sums = [0u64; 92];
     let all = s.all;
-    let cells = s.cells;
-    whole::whole(m, s, &mut marks[..all], &mut sums[..cells])
+    whole_with(m, s, &mut marks[..all])
 }
 
-// The same with marks for as many nodes as a state may have.
+fn whole_among_more(m: &[u8], s: Shape) -> Walk
+    requires { ⌜ Open (now m) s × (s .all ≤ 8192) ⌝ }
+    ensures { λ r. ⌜ Tells (settingsOf s) (now (m .entry)) r ⌝ }
+{
+    let mut marks = [0u8; 8192];
+    let all = s.all;
+    whole_with(m, s, &mut marks[..all])
+}
+
 fn whole_among_all(m: &[u8], s: Shape) -> Walk
     requires { ⌜ Open (now m) s ⌝ }
     ensures { λ r. ⌜ Tells (settingsOf s) (now (m .entry)) r ⌝ }
 {
-    let mut marks = [0u8; 8192];
-    let mut sums = [0u64; 92];
+    let mut marks = [0u8; 65536];
     let all = s.all;
-    let cells = s.cells;
-    whole::whole(m, s, &mut marks[..all], &mut sums[..cells])
+    whole_with(m, s, &mut marks[..all])
 }
 
 fn one_walk(m: &[u8], s: Shape) -> Walk
@@ -85,6 +132,9 @@ fn one_walk(m: &[u8], s: Shape) -> Walk
     if all <= 1024 {
         return whole_among_few(m, s);
     }
+    if all <= 8192 {
+        return whole_among_more(m, s);
+    }
     whole_among_all(m, s)
 }
 
@@ -93,7 +143,7 @@ fn number_outside(m: &[u8], s: Shape) -> Finding
     requires { ⌜ Open (now m) s ⌝ }
     ensures { λ r. ⌜ r ≡ first (fitsAt (settingsOf s) (now (m .entry))) (low (settingsOf s)) ⌝ }
 {
-    ranges::first_outside(m, s, ranges::numbers(s))
+    ranges::number_outside(m, s)
 }
 
 // Whether rules (b) to (g) are kept: of (b) the marks and the map first, and the prefetch lists where the lists are walked.

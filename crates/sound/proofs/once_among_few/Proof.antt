@@ -14,9 +14,5 @@ slice-aggregate-once c = sym (part-long _ 1024 (c .before .before .pre .1))
 once-requires : tie.Need-once-requires
 once-requires c κs = let p = c .before .before .pre in blank (p .0) 1024 (p .1)
 
-returns : tie.Need-returns
-returns c = search needs
-
 pub once-among-few-spec : {M : Type 1} → statement M
-once-among-few-spec =
-    tie.close (tie.spec array-borrow-prefix-marks slice-aggregate-once once-requires returns)
+once-among-few-spec = tie.close (tie.spec array-borrow-prefix-marks slice-aggregate-once once-requires (λ c. search needs))
