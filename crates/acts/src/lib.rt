@@ -20,7 +20,7 @@ fn shape(m: &[u8]) -> Shape
     match ranges::open(m) {
         Opened::Fine(s) => s,
         // Never so: a state is opened.
-        Opened::Wrong(_) => layout::shape_of(settings::this_build(1, 64, 1, 0)),
+        Opened::Wrong(_) => layout::shape_of(settings::ten_bytes(1, 64, 1, 0)),
     }
 }
 

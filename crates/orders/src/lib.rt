@@ -94,7 +94,7 @@ pub fn carry_out(m: &mut [u8], order: Order, header: &[u8]) -> Said
             slots,
             credit,
         } => {
-            let told = settings::this_build(nodes, beat, slots, credit);
+            let told = settings::ten_bytes(nodes, beat, slots, credit);
             plain(switch::set_up(m, told))
         }
         Order::Arrive { port, at: _ } => entry(switch::arrive(m, port, header)),

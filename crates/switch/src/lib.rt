@@ -14,7 +14,7 @@ use settings::Settings;
 use sound::Tested;
 ghost use mathlib.Core.Path.{_≡_};
 ghost use mathlib.Core.List.{List};
-ghost use Prim.Native.Nat.{ℕ};
+ghost use Prim.Native.Nat.{ℕ, _<_};
 ghost use Rattle.ledger.specs.Answers.{plainReply, stitchReply, entryReply, turnReply, readyReply, whereReply};
 ghost use Rattle.ledger.specs.Calls.{Reply, arrive, stitch, prefetch, credit, mapTo, turn, ready, whereIs};
 ghost use Rattle.ledger.specs.Desk.{act};
@@ -119,6 +119,16 @@ pub fn where_is(m: &[u8], id: EntryId) -> Whereabouts
 {
     match sound::test(m) {
         Tested::State(s) => finds::where_is(m, s, id),
+        Tested::NoState => Whereabouts::No(Refusal::NoState),
+    }
+}
+
+// Where, of a number above every entry id: no such node, but 3 first.
+pub fn where_past(m: &[u8]) -> Whereabouts
+    ensures { λ r. ⌜ ((y : ℕ) → 65535 < y → whereReply r ≡ M (act (whereIs y)) (now (m .entry)) .0) ⌝ }
+{
+    match sound::test(m) {
+        Tested::State(_) => Whereabouts::No(Refusal::NoSuchId),
         Tested::NoState => Whereabouts::No(Refusal::NoState),
     }
 }

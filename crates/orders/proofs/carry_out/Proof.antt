@@ -7,8 +7,8 @@ use Rattle.orders.proofs.carry_out.Tie as tie
 enum-known-order : tie.Need-enum-known-order
 enum-known-order c = search needs
 
-this-build-requires : tie.Need-this-build-requires
-this-build-requires c κs = search needs
+ten-bytes-requires : tie.Need-ten-bytes-requires
+ten-bytes-requires c κs = search needs
 
 set-up-requires : tie.Need-set-up-requires
 set-up-requires c κs = search needs
@@ -77,7 +77,7 @@ returns : tie.Need-returns
 returns c =
     let call = c .before .before .before in
     let built = call .before .before in
-    carries _ _ (built .before .before .order .given .1) (rw (built .this-build .ensures) at (call .set-up .ensures)) (c .plain .ensures)
+    carries _ _ (built .before .before .order .given .1) (rw (built .ten-bytes .ensures) at (call .set-up .ensures)) (c .plain .ensures)
 
 same-length-2 : tie.Need-same-length-2
 same-length-2 c = search needs
@@ -132,7 +132,7 @@ carry-out-spec =
     tie.close
     (tie.spec
     enum-known-order
-    this-build-requires
+    ten-bytes-requires
     set-up-requires
     plain-requires
     enum-known-order-2
