@@ -97,6 +97,13 @@ impl Damaged {
         from + random.below((to - from) as u32) as usize
     }
 
+    /// Where a number of two bytes begins, in the tables behind the marks: with an
+    /// odd number of ports, at odd places.
+    fn number_at(&self, at: usize) -> usize {
+        let begins = at.saturating_sub((at + self.tables.arrival.start) % 2);
+        begins.min(self.memory.len() - 2)
+    }
+
     /// Flips, swaps, steps and copies.
     fn bytes(&mut self, random: &mut Random) {
         let (at, other) = (self.place(random), self.place(random));
@@ -113,7 +120,7 @@ impl Damaged {
             6 => random.pick(&[0, 1, 0x80, 0xFF]),
             _ => {
                 // Two bytes over two others: a number from elsewhere.
-                let (at, other) = (at & !1, other & !1);
+                let (at, other) = (self.number_at(at), self.number_at(other));
                 self.memory.copy_within(other..other + 2, at);
                 return;
             }

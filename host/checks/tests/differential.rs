@@ -161,6 +161,9 @@ fn headers_with_faults(shape: &Shape) -> Vec<Vec<u8>> {
     let Shape { ports, queues, .. } = *shape;
     let ten = *shape == Shape::TEN_BYTES;
     let most = (1 << shape.reserved_bits()) - 1;
+    let mut some_reserved = vec![0, 1, most];
+    some_reserved.retain(|&bits| bits <= most);
+    some_reserved.dedup();
     let (sources, some_queues) = match ten {
         true => (vec![], vec![]),
         false => (
@@ -169,7 +172,7 @@ fn headers_with_faults(shape: &Shape) -> Vec<Vec<u8>> {
         ),
     };
     let mut headers = Vec::new();
-    for reserved in [0, 1, most].into_iter().filter(|&bits| bits <= most) {
+    for reserved in some_reserved {
         for &source in &of_width(shape.port_bits(), &sources) {
             for &queue in &of_width(shape.queue_bits(), &some_queues) {
                 for length in [0, shape.shortest() - 1, shape.shortest(), 64, 65, 8191] {

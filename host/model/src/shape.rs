@@ -8,7 +8,8 @@ pub const TEN_BYTES: u32 = 0;
 pub const WIDE: u32 = 1;
 
 /// What fixes the header's fields, and how many there are of everything but
-/// nodes. Numbers are wide, so that a caller can hand in any number.
+/// nodes. Numbers are wide, so that a caller can hand in any number; widths and
+/// sizes are those of a shape in its rows.
 #[derive(Debug, Clone, Copy, PartialEq, Eq, Hash, PartialOrd, Ord)]
 pub struct Shape {
     pub edition: u32,

@@ -372,12 +372,16 @@ impl Traffic {
         }
     }
 
-    /// A destination id: mostly one that a header can name.
+    /// A destination id: mostly one that a header can name, now and then one that
+    /// a bench program's field can, or any.
     fn id(&mut self, ledger: &Ledger) -> u32 {
-        let any = self.random.below(DESTINATIONS);
-        let named = self.random.below(1 << ledger.settings.shape().port_bits());
-        self.random
-            .pick(&[named, named, named, named, named, any, DESTINATIONS - 1])
+        let r = &mut self.random;
+        match r.below(8) {
+            0 => r.below(256),
+            1 => r.below(DESTINATIONS),
+            2 => DESTINATIONS - 1,
+            _ => r.below(1 << ledger.settings.shape().port_bits()),
+        }
     }
 
     /// The ports from a random one on.
