@@ -232,17 +232,21 @@ fn ledger_difference(pictured: &Ledger, wanted: &Ledger) -> String {
 
 /// Make the run. A failing one is made again, written down and cut down.
 pub fn run<D: Desk>(plan: &Plan, desk: &D, counts: &mut Counts) -> Result<(), Box<Failure>> {
+    made(plan, desk, counts).map_err(|(at, message)| Box::new(failure(plan, desk, at, message)))
+}
+
+/// Make the run; the error is the number of the first call after which something
+/// differs, and what.
+pub fn made<D: Desk>(plan: &Plan, desk: &D, counts: &mut Counts) -> Result<(), (usize, String)> {
     let mut pair = Pair::new(desk, plan.seed, plan.memory_len, plan.ledger_every);
     let mut traffic = plan.traffic();
     for at in 0..plan.calls {
         let call = traffic.next(&pair.model);
-        match pair.call(&call) {
-            Ok(reply) => counts.note(&call, &reply),
-            Err(message) => return Err(Box::new(failure(plan, desk, at, message))),
-        }
+        let reply = pair.call(&call).map_err(|message| (at, message))?;
+        counts.note(&call, &reply);
     }
     pair.compare_ledgers()
-        .map_err(|message| Box::new(failure(plan, desk, plan.calls, message)))
+        .map_err(|message| (plan.calls, message))
 }
 
 fn failure<D: Desk>(plan: &Plan, desk: &D, at: usize, message: String) -> Failure {

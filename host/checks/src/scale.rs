@@ -49,13 +49,14 @@ impl Scale {
         self.bytes() + random.below(13 * self.shape.ports) as usize
     }
 
-    /// About how long a call takes, in nanoseconds: each tests the map, walks all
-    /// lists and nodes, and its memory is copied and compared.
+    /// About how long a call takes here, in nanoseconds: the library tests the
+    /// map and walks all lists and nodes, traffic and model look at all lists,
+    /// and the memory is copied and compared.
     fn cost(&self) -> usize {
         let Shape { ports, queues, .. } = self.shape;
         let lists = ports * (2 * queues + 2);
-        let walk = 4096 + 2 * lists + 6 * ports * self.nodes;
-        500 + walk as usize + self.bytes() / 16
+        let walks = 15 * lists + 10 * ports * self.nodes;
+        5000 + walks as usize + self.bytes() / 8
     }
 
     /// As many of something that makes calls as take about the time of so many on
@@ -93,7 +94,7 @@ mod tests {
             nodes,
         };
         let shares = [1, 2048].map(|nodes| large(nodes).share(5000));
-        assert!((1000..2500).contains(&shares[0]), "{shares:?}");
+        assert!((300..1000).contains(&shares[0]), "{shares:?}");
         assert!((20..100).contains(&shares[1]), "{shares:?}");
         assert_eq!(large(2048).share(10), 1);
     }

@@ -56,13 +56,13 @@ fn the_wrapper_agrees_with_the_model() {
 fn every_shape_agrees_with_the_model() {
     let mut all = Counts::default();
     for shape in SHAPES {
-        let counts = run_shape(&library::call, shape, &[1, 3, 20], 2_000);
+        let counts = run_shape(&library::call, shape, &[1, 8], 1_500);
         println!("{shape:?}\n{counts}");
         assert!(counts.each_call_at_least(3));
         all.add(&counts);
-        run_shape(&wrapper::call, shape, &[2], 1_000);
+        run_shape(&wrapper::call, shape, &[2], 500);
     }
-    assert_eq!(all.too_rare(100, 100), []);
+    assert_eq!(all.too_rare(20, 100), []);
 }
 
 /// The largest switches there are, a few calls each.
@@ -331,14 +331,14 @@ fn damaged_memory_of_every_shape_is_judged_alike_by_all() {
                 seed,
                 profile,
                 scale,
-                damaged: scale.share(60),
+                damaged: scale.share(100).max(10),
             };
             if let Err(failure) = damage::run(&plan, &library::call, &mut verdicts) {
                 panic!("{failure}");
             }
         }
         println!("{shape:?}\n{verdicts}");
-        assert!(verdicts.no_states > 40 && verdicts.repairs > 20);
+        assert!(verdicts.no_states > 30 && verdicts.repairs > 15);
     }
 }
 

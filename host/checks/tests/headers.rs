@@ -43,7 +43,7 @@ fn every_shape_has_a_reader_and_a_writer_and_no_other() {
 /// One of a header's fields, to set it.
 type Field = fn(&mut Header) -> &mut u32;
 
-/// Each value of each field but the widest two, beside zeros and ones.
+/// Each value of each narrow field, and many lengths, beside zeros and ones.
 #[test]
 fn every_value_of_the_narrow_fields() {
     for shape in SHAPES {
@@ -72,7 +72,8 @@ fn every_value_of_the_narrow_fields() {
         };
         for (field, end) in fields {
             for mut header in [zeros, ones] {
-                for value in 0..end {
+                let step = if end > 256 { 17 } else { 1 };
+                for value in (0..end).step_by(step) {
                     *field(&mut header) = value;
                     PROVED.reads(&shape, &spelt(&shape, &header, 0)).unwrap();
                     PROVED.writes(&shape, &header).unwrap();

@@ -3,7 +3,7 @@
 mod slips;
 
 use checks::counts::Counts;
-use checks::run::{run, Pair, Plan};
+use checks::run::{made, Pair, Plan};
 use checks::scale::Scale;
 use checks::{library, reader, Desk};
 use model::{Call, Model, Reply, Settings, Shape};
@@ -57,6 +57,7 @@ fn used(scale: &Scale, seed: u64, calls: usize) -> (Vec<u8>, Model) {
 #[test]
 fn rooms_of_every_length() {
     let mut random = Random::new(27);
+    let mut moved = 0;
     for scale in scales() {
         let (memory, model) = used(&scale, 1, scale.share(500));
         let enough = scale.shape.round_bytes();
@@ -68,10 +69,13 @@ fn rooms_of_every_length() {
             assert_eq!(library::call(&mut after, &call).as_ref(), Ok(&reply));
             let short = bytes < enough;
             assert_eq!(reply == Reply::Refused(27), short, "{bytes} bytes");
-            assert_eq!(after == memory, short, "{bytes} bytes");
+            assert!(!short || after == memory, "{bytes} bytes");
+            moved += u32::from(after != memory);
             assert_eq!(reader::judged(&after).unwrap().ledger(), wanted.ledger());
         }
     }
+    // Ten rooms of each switch are long enough, and most rounds move something.
+    assert!(moved > 100, "{moved}");
 }
 
 /// Refused 3 whatever the room, and neither memory nor room changes.
@@ -164,7 +168,9 @@ fn a_round_is_its_calls_one_by_one() {
 /// A switch with as many packets in ingress as there are nodes, up to some.
 fn flooded<'d, D: Desk>(desk: &'d D, scale: &Scale, queue: impl Fn(u32) -> u32) -> Pair<'d, D> {
     let shape = scale.shape;
-    let mut pair = Pair::new(desk, scale.nodes.into(), scale.bytes() + 3, 1);
+    // Ledgers of many lists take long to compare.
+    let every = if shape.ports > 8 { 8 } else { 1 };
+    let mut pair = Pair::new(desk, scale.nodes.into(), scale.bytes() + 3, every);
     pair.call(&Call::Setup(settings(scale))).unwrap();
     for number in 0..held(scale) {
         for port in 0..shape.ports {
@@ -253,7 +259,7 @@ fn found<D: Desk>(desk: &D) -> bool {
         calls: 20_000,
         ledger_every: 256,
     };
-    run(&plan, desk, &mut Counts::default()).is_err()
+    made(&plan, desk, &mut Counts::default()).is_err()
 }
 
 #[test]
