@@ -1,9 +1,9 @@
 //! Damage: bytes of a state changed, at random, and aimed at each rule.
 
-use model::{price, PORTS, QUEUES};
+use model::{price, ListKind, Settings, DESTINATIONS};
 use traffic::Random;
 
-use crate::reader::{nodes_of, set_nodes, slot, Tables, LISTS, LISTS_PER_PORT};
+use crate::tables::{Tables, MAPPED, SETTING};
 
 /// One byte set anew.
 #[derive(Debug, Clone, Copy, PartialEq, Eq)]
@@ -20,12 +20,12 @@ pub fn apply(memory: &[u8], changes: &[Change]) -> Vec<u8> {
     damaged
 }
 
-/// Changes that make a difference to the bytes of a state of so many nodes.
-pub fn changes(random: &mut Random, memory: &[u8], nodes: usize) -> Vec<Change> {
+/// Changes that make a difference to the bytes of a state of these settings.
+pub fn changes(random: &mut Random, memory: &[u8], settings: &Settings) -> Vec<Change> {
     let mut damaged = Damaged {
         memory: memory.to_vec(),
-        tables: Tables::of(nodes),
-        nodes,
+        tables: Tables::of(settings),
+        settings: *settings,
     };
     let mut times = random.pick(&[1, 1, 1, 1, 2, 2, 3, 5]);
     while times > 0 || damaged.memory == memory {
@@ -47,7 +47,8 @@ pub fn changes(random: &mut Random, memory: &[u8], nodes: usize) -> Vec<Change> 
 struct Damaged {
     memory: Vec<u8>,
     tables: Tables,
-    nodes: usize,
+    /// Before the damage.
+    settings: Settings,
 }
 
 /// A way to damage one.
@@ -96,6 +97,13 @@ impl Damaged {
         from + random.below((to - from) as u32) as usize
     }
 
+    /// Where a number of two bytes begins, in the tables behind the marks: with an
+    /// odd number of ports, at odd places.
+    fn number_at(&self, at: usize) -> usize {
+        let begins = at.saturating_sub((at + self.tables.arrival.start) % 2);
+        begins.min(self.memory.len() - 2)
+    }
+
     /// Flips, swaps, steps and copies.
     fn bytes(&mut self, random: &mut Random) {
         let (at, other) = (self.place(random), self.place(random));
@@ -112,7 +120,7 @@ impl Damaged {
             6 => random.pick(&[0, 1, 0x80, 0xFF]),
             _ => {
                 // Two bytes over two others: a number from elsewhere.
-                let (at, other) = (at & !1, other & !1);
+                let (at, other) = (self.number_at(at), self.number_at(other));
                 self.memory.copy_within(other..other + 2, at);
                 return;
             }
@@ -134,45 +142,51 @@ impl Damaged {
 
     /// Any but credit, of which every number is in its row.
     fn setting(&mut self, random: &mut Random) {
-        let i = random.below(5) as usize;
-        let old = self.tables.setting.get(&self.memory, i);
+        let i = random.pick(&[0, 1, 2, 3, 4, 6, 7]);
+        let old = SETTING.get(&self.memory, i);
         let new = Damaged::near(random, old);
-        self.tables.setting.set(&mut self.memory, i, new);
+        SETTING.set(&mut self.memory, i, new);
     }
 
     fn last_served(&mut self, random: &mut Random) {
-        let port = random.below(PORTS) as usize;
-        let any = random.among(QUEUES, 255);
-        let queue = random.pick(&[QUEUES, any]);
+        let Settings { ports, queues, .. } = self.settings;
+        let port = random.below(ports) as usize;
+        let any = random.among(queues, 255);
+        let queue = random.pick(&[queues, any]);
         self.tables.last.set(&mut self.memory, port, queue);
     }
 
     fn map_entry(&mut self, random: &mut Random) {
-        let id = random.below(4) as usize;
-        let any = random.among(PORTS, 255);
-        let port = random.pick(&[PORTS, any]);
-        self.tables.mapped.set(&mut self.memory, id, port);
+        let ports = self.settings.ports;
+        let (low, any) = (random.below(ports), random.below(DESTINATIONS));
+        let id = random.pick(&[low, any, DESTINATIONS - 1]) as usize;
+        let any = random.among(ports, 255);
+        let port = random.pick(&[ports, any]);
+        MAPPED.set(&mut self.memory, id, port);
     }
 
     /// More than there are slots, whatever the links say.
     fn prefetch_count(&mut self, random: &mut Random) {
-        let (port, queue) = (random.below(PORTS), random.below(QUEUES));
-        let list = port as usize * LISTS_PER_PORT + (2 + QUEUES + queue) as usize;
-        let slots = self.tables.setting.get(&self.memory, 4);
+        let Settings { ports, queues, .. } = self.settings;
+        let kind = ListKind::Prefetch {
+            port: random.below(ports),
+            queue: random.below(queues),
+        };
+        let list = self.tables.list(kind);
+        let slots = SETTING.get(&self.memory, 4);
         let count = slots + random.pick(&[0, 1, 1, 2, 65_536, 1 << 31]);
         self.tables.count.set(&mut self.memory, list, count);
     }
 
-    /// A list of at least so many nodes, if one is found soon, and its nodes.
-    fn list(&self, random: &mut Random, least: usize) -> (usize, Vec<u32>) {
-        let mut list = 0;
-        for _ in 0..40 {
-            list = random.below(LISTS as u32) as usize;
-            if self.tables.count.get(&self.memory, list) as usize >= least {
-                break;
-            }
-        }
-        (list, nodes_of(&self.memory, self.nodes, list))
+    /// A list of at least so many nodes, if there is one, and its nodes.
+    fn list(&self, random: &mut Random, least: u32) -> (usize, Vec<u32>) {
+        let long = |list: &usize| self.tables.count.get(&self.memory, *list) >= least;
+        let lists: Vec<usize> = (0..self.tables.lists()).filter(long).collect();
+        let list = match lists.is_empty() {
+            true => random.below(self.tables.lists() as u32) as usize,
+            false => random.pick(&lists),
+        };
+        (list, self.tables.nodes_of(&self.memory, list))
     }
 
     /// Another id at position `at` of a list: in its head, or in the link of the
@@ -181,7 +195,7 @@ impl Damaged {
         match at.checked_sub(1) {
             None => self.tables.head.set(&mut self.memory, list, id),
             Some(before) => {
-                let slot = slot(of[before], self.nodes);
+                let slot = self.tables.slot(of[before]);
                 self.tables.next.set(&mut self.memory, slot, id);
             }
         }
@@ -193,10 +207,12 @@ impl Damaged {
             return;
         }
         let at = random.below(of.len() as u32) as usize;
-        let port = random.below(PORTS);
-        let past = port * 2048 + random.among(self.nodes as u32, 2048);
-        let far = random.among(8192, 65_535);
-        let id = random.pick(&[past, past, 8192, far]);
+        let Settings { ports, nodes, .. } = self.settings;
+        let past = random.below(ports) * 2048 + random.among(nodes, 2048);
+        let behind = ports * 2048;
+        let far = random.among(behind.min(65_535), 65_535);
+        // Two bytes say it.
+        let id = random.pick(&[past, past, behind, far]).min(65_535);
         self.put_id(list, &of, at, id);
     }
 
@@ -229,7 +245,7 @@ impl Damaged {
             return None;
         }
         let node = of.remove(random.below(of.len() as u32) as usize);
-        set_nodes(&mut self.memory, self.nodes, list, &of);
+        self.tables.set_nodes(&mut self.memory, list, &of);
         Some(node)
     }
 
@@ -241,63 +257,68 @@ impl Damaged {
 
     /// A node in another list, of each kind as often, with links that are right.
     fn moved(&mut self, random: &mut Random) {
-        let column = match random.below(4) {
-            2 => 2 + random.below(QUEUES),
-            3 => 2 + QUEUES + random.below(QUEUES),
-            own => own,
-        };
-        let list = random.below(PORTS) as usize * LISTS_PER_PORT + column as usize;
+        let Settings { ports, queues, .. } = self.settings;
+        let (port, queue) = (random.below(ports), random.below(queues));
+        let list = self.tables.list(random.pick(&[
+            ListKind::Free { port },
+            ListKind::Ingress { port },
+            ListKind::Egress { port, queue },
+            ListKind::Prefetch { port, queue },
+        ]));
         if let Some(node) = self.taken(random) {
-            let mut of = nodes_of(&self.memory, self.nodes, list);
+            let mut of = self.tables.nodes_of(&self.memory, list);
             of.insert(random.below(of.len() as u32 + 1) as usize, node);
-            set_nodes(&mut self.memory, self.nodes, list, &of);
+            self.tables.set_nodes(&mut self.memory, list, &of);
         }
     }
 
     /// Two whole lists changed for each other: every node still stands once.
     fn swapped(&mut self, random: &mut Random) {
+        let tables = self.tables;
         let (one, of_one) = self.list(random, 1);
         let other = match random.below(3) {
             // Of the same column, or egress for prefetch.
-            0 => (one + LISTS_PER_PORT) % LISTS,
-            1 => (one + QUEUES as usize) % LISTS,
+            0 => (one + tables.lists_per_port()) % tables.lists(),
+            1 => (one + tables.queues) % tables.lists(),
             _ => self.list(random, 1).0,
         };
-        let of_other = nodes_of(&self.memory, self.nodes, other);
-        set_nodes(&mut self.memory, self.nodes, one, &of_other);
-        set_nodes(&mut self.memory, self.nodes, other, &of_one);
+        let of_other = tables.nodes_of(&self.memory, other);
+        tables.set_nodes(&mut self.memory, one, &of_other);
+        tables.set_nodes(&mut self.memory, other, &of_one);
     }
 
     /// The first free node of a port, taken over by the free list of the port
     /// before it, under an id of that port that is past its nodes: no node's id,
     /// though it leads to the same element.
     fn renamed(&mut self, random: &mut Random) {
-        let port = random.among(1, PORTS - 1) as usize;
-        let (from, to) = (port * LISTS_PER_PORT, (port - 1) * LISTS_PER_PORT);
-        let mut of = nodes_of(&self.memory, self.nodes, from);
-        let index = of.first().map_or(0, |&head| head as usize % 2048);
-        if of.is_empty() || self.nodes + index >= 2048 {
+        let (tables, nodes) = (self.tables, self.settings.nodes);
+        let port = random.among(1, self.settings.ports - 1);
+        let from = tables.list(ListKind::Free { port });
+        let to = tables.list(ListKind::Free { port: port - 1 });
+        let mut of = tables.nodes_of(&self.memory, from);
+        let index = of.first().map_or(0, |&head| head % 2048);
+        if of.is_empty() || nodes + index >= 2048 {
             return;
         }
         of.remove(0);
-        set_nodes(&mut self.memory, self.nodes, from, &of);
-        let mut others = nodes_of(&self.memory, self.nodes, to);
-        others.insert(0, ((port - 1) * 2048 + self.nodes + index) as u32);
-        set_nodes(&mut self.memory, self.nodes, to, &others);
+        tables.set_nodes(&mut self.memory, from, &of);
+        let mut others = tables.nodes_of(&self.memory, to);
+        others.insert(0, (port - 1) * 2048 + nodes + index);
+        tables.set_nodes(&mut self.memory, to, &others);
     }
 
     /// A node that isn't free, of an ingress list if there is one: there rule (e)
     /// says nothing of it. Its slot.
     fn packet(&self, random: &mut Random, ingress: bool) -> Option<usize> {
-        let recorded = |list: &usize| match list % LISTS_PER_PORT {
+        let recorded = |list: &usize| match list % self.tables.lists_per_port() {
             0 => false,
             column => column == 1 || !ingress,
         };
-        let nodes: Vec<u32> = (0..LISTS)
+        let nodes: Vec<u32> = (0..self.tables.lists())
             .filter(recorded)
-            .flat_map(|list| nodes_of(&self.memory, self.nodes, list))
+            .flat_map(|list| self.tables.nodes_of(&self.memory, list))
             .collect();
-        (!nodes.is_empty()).then(|| slot(random.pick(&nodes), self.nodes))
+        (!nodes.is_empty()).then(|| self.tables.slot(random.pick(&nodes)))
     }
 
     /// A field out of its range.
@@ -309,11 +330,14 @@ impl Damaged {
         };
         let t = self.tables;
         let paid = t.price.get(&self.memory, slot);
+        let shape = self.settings.shape();
+        // Beyond the field; as many ports as there are may be within it.
+        let ids = 1 << shape.port_bits();
         let (table, number) = match field {
-            0 => (t.length, random.pick(&[0, 1, 11])),
+            0 => (t.length, random.pick(&[0, 1, shape.shortest() - 1])),
             1 => (t.length, random.pick(&[8192, 65_535, 8192 + 64])),
-            2 => (t.queue, random.pick(&[QUEUES, 31, 255])),
-            3 => (t.dest, random.pick(&[4, 255, 5])),
+            2 => (t.queue, random.pick(&[shape.queues, 64, 255])),
+            3 => (t.dest, random.pick(&[ids, 255, ids + 1, shape.ports])),
             4 => (t.poisoned, random.pick(&[2, 255, 3])),
             _ => (t.price, random.pick(&[paid + 1, paid.max(1) - 1, 255])),
         };
@@ -324,7 +348,7 @@ impl Damaged {
     fn priced(&mut self, slot: usize) {
         let t = self.tables;
         let [length, queue] = [t.length, t.queue].map(|table| table.get(&self.memory, slot));
-        let beat = t.setting.get(&self.memory, 3).max(1);
+        let beat = SETTING.get(&self.memory, 3).max(1);
         let price = price(length, queue, beat);
         t.price.set(&mut self.memory, slot, price);
     }
@@ -333,7 +357,7 @@ impl Damaged {
     fn queue(&mut self, random: &mut Random) {
         let ingress = random.one_in(2);
         if let Some(slot) = self.packet(random, ingress) {
-            let queue = random.below(QUEUES);
+            let queue = random.below(self.settings.queues);
             self.tables.queue.set(&mut self.memory, slot, queue);
             if !random.one_in(4) {
                 self.priced(slot);
@@ -344,7 +368,7 @@ impl Damaged {
     /// Another length for a packet, at its price.
     fn length(&mut self, random: &mut Random) {
         if let Some(slot) = self.packet(random, false) {
-            let length = random.among(12, 8191);
+            let length = random.among(self.settings.shape().shortest(), 8191);
             self.tables.length.set(&mut self.memory, slot, length);
             self.priced(slot);
         }
@@ -352,7 +376,7 @@ impl Damaged {
 
     /// Another arrival credit, of the last cells as well.
     fn arrival(&mut self, random: &mut Random) {
-        let cells = PORTS * (QUEUES - 1);
+        let cells = self.tables.credits() as u32;
         let any = random.below(cells);
         let cell = random.pick(&[0, cells - 1, any]) as usize;
         let old = self.tables.arrival.get(&self.memory, cell);
@@ -362,8 +386,8 @@ impl Damaged {
 
     /// Another K.
     fn all_credit(&mut self, random: &mut Random) {
-        let old = self.tables.setting.get(&self.memory, 5);
+        let old = SETTING.get(&self.memory, 5);
         let new = Damaged::near(random, old);
-        self.tables.setting.set(&mut self.memory, 5, new);
+        SETTING.set(&mut self.memory, 5, new);
     }
 }

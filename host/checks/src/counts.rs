@@ -18,6 +18,12 @@ const NAMES: [&str; 11] = [
     "round",
 ];
 
+/// The refusals that these calls can be given: 21 is the writer's of headers,
+/// which is tried by itself.
+fn refusals() -> impl Iterator<Item = u8> {
+    REFUSALS.into_iter().filter(|&number| number != 21)
+}
+
 #[derive(Debug, Clone, Default, PartialEq, Eq)]
 pub struct Counts {
     /// In the order of `NAMES`.
@@ -82,8 +88,7 @@ impl Counts {
             1..=3 => least_1_to_3,
             _ => least_of_others,
         };
-        REFUSALS
-            .into_iter()
+        refusals()
             .map(|number| (number, self.refused[number as usize]))
             .filter(|&(number, times)| times < least(number))
             .collect()
@@ -102,7 +107,7 @@ impl fmt::Display for Counts {
             write!(f, " {name} {times},")?;
         }
         write!(f, "\nrefused:")?;
-        for number in REFUSALS {
+        for number in refusals() {
             write!(f, " [{number}] {}", self.refused[number as usize])?;
         }
         Ok(())

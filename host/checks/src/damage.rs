@@ -4,14 +4,18 @@
 use std::collections::BTreeMap;
 use std::fmt;
 
-use model::{size, Call, Ledger, Model, Reply, Settings, PORTS, QUEUES, ROUND_BYTES};
-use traffic::{header, Profile, Random, Traffic};
+use model::header::Header;
+use model::{size, Call, Ledger, Model, Reply, Settings};
+use traffic::headers::{reserved_bits, right_fields, spelt};
+use traffic::{Profile, Random, Traffic};
 
 use crate::changes::{apply, changes, Change};
 use crate::cut::cut_down;
 use crate::finding::WAYS;
 use crate::night::{self, Crew};
 use crate::run::Pair;
+use crate::scale::Scale;
+use crate::tables::SETTINGS_END;
 use crate::{changes_nothing, difference, reader, Desk};
 
 /// A run that can be made again: traffic, and damage now and then.
@@ -19,26 +23,23 @@ use crate::{changes_nothing, difference, reader, Desk};
 pub struct Plan {
     pub seed: u64,
     pub profile: Profile,
-    pub nodes: u32,
+    pub scale: Scale,
     /// How many damaged memories.
     pub damaged: usize,
 }
 
 impl Plan {
-    /// The run of a number: all profiles, small pools mostly.
+    /// The run of a number: all profiles and shapes, small pools mostly. Of small
+    /// switches so many memories are damaged, of large ones fewer.
     pub fn numbered(seed: u64, number: u64, damaged: usize) -> Plan {
         let mut random = Random::new(!seed ^ number.wrapping_mul(0xD1B5_4A32_D192_ED03));
-        const NODES: [u32; 10] = [1, 2, 4, 16, 1, 2, 4, 8, 16, 64];
         let profiles = Profile::ALL.len() as u64;
+        let scale = Scale::of_turn(number / profiles, &mut random);
         Plan {
             seed: random.word(),
             profile: Profile::ALL[(number % profiles) as usize],
-            nodes: match number / profiles % 40 {
-                38 => 2048,
-                39 => 256,
-                other => NODES[(other % 10) as usize],
-            },
-            damaged,
+            scale,
+            damaged: scale.share(damaged),
         }
     }
 }
@@ -126,46 +127,69 @@ impl fmt::Display for Failure {
     }
 }
 
+/// A queue of a port with something in a list of it, if there is one.
+fn busy(
+    random: &mut Random,
+    settings: &Settings,
+    filled: impl Fn(usize, usize) -> bool,
+) -> (u32, u32) {
+    let Settings { ports, queues, .. } = *settings;
+    let first = random.below(ports * queues);
+    (0..ports * queues)
+        .map(|step| (first + step) % (ports * queues))
+        .map(|both| (both / queues, both % queues))
+        .find(|&(port, queue)| filled(port as usize, queue as usize))
+        .unwrap_or((first / queues, first % queues))
+}
+
+/// A header that is right mostly, for an arrival at the port.
+fn arriving(random: &mut Random, settings: &Settings, port: u32) -> Vec<u8> {
+    let shape = settings.shape();
+    let header = Header {
+        source: port,
+        length: shape.shortest() + random.below(200),
+        ..right_fields(random, &shape)
+    };
+    let reserved = match random.one_in(16) {
+        true => reserved_bits(random, &shape).unwrap_or(0),
+        false => 0,
+    };
+    spelt(&shape, &header, reserved)
+}
+
 /// Every kind of call, meant to succeed mostly: on the ledger before the
 /// damage, which is often nearly that after it.
 fn one_of_each(random: &mut Random, ledger: &Ledger) -> Vec<Call> {
-    let nodes = ledger.settings.nodes;
-    let busy = |list: &dyn Fn(usize, usize) -> bool, random: &mut Random| -> (u32, u32) {
-        let first = random.below(PORTS * QUEUES);
-        (0..PORTS * QUEUES)
-            .map(|step| (first + step) % (PORTS * QUEUES))
-            .map(|both| (both / QUEUES, both % QUEUES))
-            .find(|&(port, queue)| list(port as usize, queue as usize))
-            .unwrap_or((first / QUEUES, first % QUEUES))
-    };
-    let from = random.below(PORTS);
-    let ingress = (0..PORTS)
-        .map(|step| (from + step) % PORTS)
+    let settings = &ledger.settings;
+    let Settings {
+        nodes,
+        ports,
+        queues,
+        ..
+    } = *settings;
+    let from = random.below(ports);
+    let ingress = (0..ports)
+        .map(|step| (from + step) % ports)
         .find(|&port| !ledger.ports[port as usize].ingress.is_empty())
         .unwrap_or(from);
-    let waiting = busy(&|p, q| !ledger.ports[p].egress[q].is_empty(), random);
-    let fetched = busy(&|p, q| !ledger.ports[p].prefetch[q].is_empty(), random);
+    let waiting = busy(random, settings, |p, q| {
+        !ledger.ports[p].egress[q].is_empty()
+    });
+    let fetched = busy(random, settings, |p, q| {
+        !ledger.ports[p].prefetch[q].is_empty()
+    });
     // Now and then a port that there isn't: 3 is tested before 4.
-    let wild = |port: u32, random: &mut Random| if random.one_in(16) { 4 } else { port };
-    let port = random.below(PORTS);
-    let arriving = header(
-        random.below(4),
-        port,
-        random.below(QUEUES),
-        12 + random.below(200),
-        random.one_in(2),
-        random.one_in(16),
-        random.word() as u32,
-        random.word() as u8,
-        random.word() as u8,
-    );
+    let wild = |port: u32, random: &mut Random| if random.one_in(16) { ports } else { port };
+    let port = random.below(ports);
+    let (low, any) = (random.below(ports), random.below(4096));
+    let room = settings.shape().round_bytes();
     vec![
         Call::Ready {
             port: wild(fetched.0, random),
         },
         Call::Arrive {
             port: wild(port, random),
-            header: arriving.to_vec(),
+            header: arriving(random, settings, port),
         },
         Call::Stitch {
             port: wild(ingress, random),
@@ -176,26 +200,26 @@ fn one_of_each(random: &mut Random, ledger: &Ledger) -> Vec<Call> {
         },
         Call::Credit {
             port: wild(port, random),
-            queue: random.below(QUEUES),
+            queue: random.below(queues),
             amount: random.below(100),
         },
         Call::Map {
-            id: random.below(5),
+            id: random.pick(&[low, low, any, 4095, 4096]),
             port: wild(port, random),
         },
         Call::Turn {
             port: wild(fetched.0, random),
         },
         Call::Where {
-            entry: random.below(PORTS) * 2048 + random.below(nodes),
+            entry: random.below(ports) * 2048 + random.below(nodes),
         },
         Call::Round {
             // Now and then too little room: 3 is tested before 27.
-            room: vec![0x5A; ROUND_BYTES + 3 - random.pick(&[0, 0, 3, 3, 3, 3, 4, 19])],
+            room: vec![0x5A; room + 3 - random.pick(&[0, 0, 3, 3, 3, 3, 4, 3 + room])],
         },
         Call::Setup(Settings {
             nodes: random.among(1, nodes),
-            ..ledger.settings
+            ..*settings
         }),
     ]
 }
@@ -242,7 +266,7 @@ fn try_calls<D: Desk>(
                 "{call:?} answers {answer:?}, the model {wanted:?} ({why:?})"
             ));
         }
-        let size_now = after.ledger().map_or(0, |l| size(l.settings.nodes));
+        let size_now = after.ledger().map_or(0, |l| size(&l.settings));
         let nothing = changes_nothing(call, &answer);
         let kept_from = if nothing { 0 } else { size_now };
         if let Some(told) = difference(whole, &copy, kept_from) {
@@ -267,7 +291,10 @@ fn try_calls<D: Desk>(
 /// Now and then less memory is lent than the state needs, or than its settings
 /// do.
 fn lent(random: &mut Random, all: usize, needed: usize) -> usize {
-    let short = [random.below(12), random.below(needed as u32)];
+    let short = [
+        random.below(SETTINGS_END as u32),
+        random.below(needed as u32),
+    ];
     match random.below(40) {
         0 => random.pick(&short) as usize,
         1 => needed - 1,
@@ -288,9 +315,9 @@ pub fn run_with<D: Desk>(
     verdicts: &mut Verdicts,
 ) -> Result<(), Box<Failure>> {
     let mut random = Random::new(plan.seed.rotate_left(32));
-    let memory_len = size(plan.nodes) + random.below(52) as usize;
+    let memory_len = plan.scale.bytes_and_some(&mut random);
     let mut pair = Pair::new(desk, plan.seed, memory_len, 256);
-    let mut traffic = Traffic::new(plan.seed, plan.profile);
+    let mut traffic = Traffic::of(plan.seed, plan.profile, plan.scale.shape);
     let mut number = 0;
     while number < plan.damaged {
         let failure = |lent, changes, message| {
@@ -311,10 +338,9 @@ pub fn run_with<D: Desk>(
             Some(ledger) => ledger,
             None => continue,
         };
-        let nodes = ledger.settings.nodes as usize;
-        let changes = changes(&mut random, pair.memory(), nodes);
+        let changes = changes(&mut random, pair.memory(), &ledger.settings);
         let calls = one_of_each(&mut random, ledger);
-        let lent = lent(&mut random, pair.lent(), size(ledger.settings.nodes));
+        let lent = lent(&mut random, pair.lent(), size(&ledger.settings));
         let whole = apply(pair.memory(), &changes);
         if let Err(message) = try_calls(desk, crew, &whole, lent, &calls, verdicts) {
             let mut told = message;

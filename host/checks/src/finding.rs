@@ -6,12 +6,11 @@
 use std::cmp::Ordering;
 
 use model::{
-    price, size, ListKind, Settings, DESTINATIONS, LONGEST, MOST_NODES, PORTS, QUEUES, SHORTEST,
+    price, ListKind, Settings, Shape, DESTINATIONS, LONGEST, MOST_NODES, MOST_PORTS, MOST_QUEUES,
 };
 
-use crate::reader::{
-    credit_cell, list_number, node_slot, settings, Table, Tables, LISTS, LISTS_PER_PORT,
-};
+use crate::reader::settings;
+use crate::tables::{Table, Tables, MAPPED, SETTING, SETTINGS, SETTINGS_END};
 
 /// A broken rule.
 #[derive(Debug, Clone, Copy, PartialEq, Eq)]
@@ -32,12 +31,14 @@ impl Finding {
 
 /// Every way in which a rule can be found broken. The setting of credit is
 /// none: two bytes hold nothing that isn't in its row.
-pub const WAYS: [(char, &str); 28] = [
+pub const WAYS: [(char, &str); 30] = [
     ('a', "ports"),
     ('a', "queues"),
     ('a', "nodes"),
     ('a', "beat"),
     ('a', "slots"),
+    ('a', "edition"),
+    ('a', "packets"),
     ('a', "too short for settings"),
     ('a', "too short for the state"),
     ('b', "last served queue"),
@@ -82,42 +83,47 @@ pub fn first(memory: &[u8]) -> Option<Finding> {
 struct Image<'m> {
     memory: &'m [u8],
     tables: Tables,
-    nodes: usize,
     settings: Settings,
 }
 
-/// The settings' names and rows, in the memory's order.
-fn in_its_row(setting: usize, number: u32) -> Result<(), &'static str> {
+/// The settings' names and rows, in the memory's order. The ten-byte header asks
+/// for just its ports and queues, any other edition for those of the wide ones.
+fn in_its_row(setting: usize, number: u32, edition: u32) -> Result<(), &'static str> {
+    let Shape { ports, queues, .. } = Shape::TEN_BYTES;
     let (name, fits) = match setting {
-        0 => ("ports", number == PORTS),
-        1 => ("queues", number == QUEUES),
+        0 if edition == 0 => ("ports", number == ports),
+        0 => ("ports", (2..=MOST_PORTS).contains(&number)),
+        1 if edition == 0 => ("queues", number == queues),
+        1 => ("queues", (2..=MOST_QUEUES).contains(&number)),
         2 => ("nodes", (1..=MOST_NODES).contains(&number)),
         3 => ("beat", [64, 128, 256, 512].contains(&number)),
         4 => ("slots", (1..=8).contains(&number)),
-        _ => ("credit", number <= 65_535),
+        5 => ("credit", number <= 65_535),
+        6 => ("edition", number <= 1),
+        _ => ("packets", number == 0),
     };
     fits.then_some(()).ok_or(name)
 }
 
 impl<'m> Image<'m> {
-    /// Rule (a). Item 6 is that the memory is too short, for the settings too.
+    /// Rule (a). Behind the settings' numbers comes that the memory is too short,
+    /// for the settings too.
     fn open(memory: &'m [u8]) -> Result<Image<'m>, Breach> {
-        if memory.len() < 12 {
-            return Err((6, "too short for settings"));
-        }
-        let setting = |i| Tables::of(0).setting.get(memory, i);
-        for i in 0..6 {
-            in_its_row(i, setting(i)).map_err(|name| (i as u64, name))?;
+        if memory.len() < SETTINGS_END {
+            return Err((SETTINGS as u64, "too short for settings"));
         }
         let settings = settings(memory);
-        if memory.len() < size(settings.nodes) {
-            return Err((6, "too short for the state"));
+        for i in 0..SETTINGS {
+            in_its_row(i, SETTING.get(memory, i), settings.edition)
+                .map_err(|name| (i as u64, name))?;
         }
-        let nodes = settings.nodes as usize;
+        let tables = Tables::of(&settings);
+        if memory.len() < tables.size {
+            return Err((SETTINGS as u64, "too short for the state"));
+        }
         Ok(Image {
             memory,
-            tables: Tables::of(nodes),
-            nodes,
+            tables,
             settings,
         })
     }
@@ -143,20 +149,21 @@ impl<'m> Image<'m> {
     /// Rule (b): last served queues, then map entries, then prefetch lists, port
     /// by port and queue by queue. Credits are in range in any two bytes.
     fn ranges(&self) -> Option<Breach> {
-        for port in 0..PORTS {
-            if self.get(self.tables.last, port as usize) >= QUEUES {
+        let Settings { ports, queues, .. } = self.settings;
+        for port in 0..ports {
+            if self.get(self.tables.last, port as usize) >= queues {
                 return Some((port.into(), "last served queue"));
             }
         }
         for id in 0..DESTINATIONS {
-            if self.get(self.tables.mapped, id as usize) >= PORTS {
-                return Some(((PORTS + id).into(), "map entry"));
+            if self.get(MAPPED, id as usize) >= ports {
+                return Some(((ports + id).into(), "map entry"));
             }
         }
-        for (port, queue) in (0..PORTS).flat_map(|p| (0..QUEUES).map(move |q| (p, q))) {
-            let list = list_number(ListKind::Prefetch { port, queue });
+        for (port, queue) in (0..ports).flat_map(|p| (0..queues).map(move |q| (p, q))) {
+            let list = self.tables.list(ListKind::Prefetch { port, queue });
             if self.get(self.tables.count, list) > self.settings.slots {
-                let item = PORTS + DESTINATIONS + port * QUEUES + queue;
+                let item = ports + DESTINATIONS + port * queues + queue;
                 return Some((item.into(), "too many prefetched"));
             }
         }
@@ -168,7 +175,10 @@ impl<'m> Image<'m> {
         let mut entry = self.get(self.tables.head, list);
         let mut last = None;
         for _ in 0..self.get(self.tables.count, list) {
-            let slot = node_slot(entry, self.nodes).ok_or("an id that is no node")?;
+            let slot = self
+                .tables
+                .node_slot(entry)
+                .ok_or("an id that is no node")?;
             match met[slot].replace(list) {
                 None => {}
                 Some(before) if before == list => return Err("a node twice in a list"),
@@ -188,24 +198,24 @@ impl<'m> Image<'m> {
     /// Rule (c): the first list that is wrong; behind the lists' numbers, the
     /// first node that stands in none.
     fn once(&self) -> Option<Breach> {
-        let mut met = vec![None; PORTS as usize * self.nodes];
-        for list in 0..LISTS {
+        let mut met = vec![None; self.tables.all_nodes()];
+        for list in 0..self.tables.lists() {
             if let Err(way) = self.list_once(list, &mut met) {
                 return Some((list as u64, way));
             }
         }
         let slot = met.iter().position(Option::is_none)?;
-        Some(((LISTS + slot) as u64, "a node in no list"))
+        Some(((self.tables.lists() + slot) as u64, "a node in no list"))
     }
 
     /// Every node with its list and its slot, list by list and from the head:
     /// read where rule (c) is kept.
     fn nodes(&self) -> Vec<(usize, u32, usize)> {
         let mut nodes = Vec::new();
-        for list in 0..LISTS {
+        for list in 0..self.tables.lists() {
             let mut entry = self.get(self.tables.head, list);
             for _ in 0..self.get(self.tables.count, list) {
-                if let Some(slot) = node_slot(entry, self.nodes) {
+                if let Some(slot) = self.tables.node_slot(entry) {
                     nodes.push((list, entry, slot));
                     entry = self.get(self.tables.next, slot);
                 }
@@ -221,7 +231,8 @@ impl<'m> Image<'m> {
         test: fn(&Self, usize, usize, u32, usize) -> Result<(), &'static str>,
     ) -> Option<Breach> {
         self.nodes().into_iter().find_map(|(list, entry, slot)| {
-            let (port, column) = (list / LISTS_PER_PORT, list % LISTS_PER_PORT);
+            let per_port = self.tables.lists_per_port();
+            let (port, column) = (list / per_port, list % per_port);
             let way = test(self, port, column, entry, slot).err()?;
             Some((entry.into(), way))
         })
@@ -244,7 +255,8 @@ impl<'m> Image<'m> {
 
     /// Rule (e), of egress and prefetch lists.
     fn own_queue(&self, _: usize, column: usize, _: u32, slot: usize) -> Result<(), &'static str> {
-        let (queue, queues) = (self.get(self.tables.queue, slot) as usize, QUEUES as usize);
+        let queues = self.tables.queues;
+        let queue = self.get(self.tables.queue, slot) as usize;
         match column {
             0 | 1 => Ok(()),
             _ if column < 2 + queues && queue != column - 2 => Err("in an egress list"),
@@ -255,16 +267,17 @@ impl<'m> Image<'m> {
 
     /// Rule (f), of all but free lists.
     fn record(&self, _: usize, column: usize, _: u32, slot: usize) -> Result<(), &'static str> {
+        let shape = self.settings.shape();
         let field = |table: Table| self.get(table, slot);
         let (length, queue) = (field(self.tables.length), field(self.tables.queue));
         let paid = field(self.tables.price);
         match column {
             0 => Ok(()),
-            _ if length < SHORTEST => Err("length too small"),
+            _ if length < shape.shortest() => Err("length too small"),
             _ if length > LONGEST => Err("length too great"),
-            _ if queue >= QUEUES => Err("queue"),
+            _ if queue >= shape.queues => Err("queue"),
             // As wide as the header's field.
-            _ if field(self.tables.dest) > 3 => Err("destination"),
+            _ if field(self.tables.dest) >> shape.port_bits() > 0 => Err("destination"),
             _ if field(self.tables.poisoned) > 1 => Err("poisoned flag"),
             _ if paid == price(length, queue, self.settings.beat) => Ok(()),
             _ if queue == 0 => Err("price in queue 0"),
@@ -275,17 +288,16 @@ impl<'m> Image<'m> {
     /// Rule (g): the first credit that is not K together with the prices of its
     /// port's nodes of its queue that aren't free.
     fn paid(&self) -> Option<Breach> {
-        let mut owed = [[0; QUEUES as usize]; PORTS as usize];
+        let Tables { ports, queues, .. } = self.tables;
+        let mut owed = vec![vec![0; queues]; ports];
         for (list, entry, slot) in self.nodes() {
-            if list % LISTS_PER_PORT != 0 {
+            if list % self.tables.lists_per_port() != 0 {
                 let queue = self.get(self.tables.queue, slot) as usize;
                 owed[entry as usize / 2048][queue] += self.get(self.tables.price, slot);
             }
         }
-        for (port, queue) in
-            (0..PORTS as usize).flat_map(|p| (1..QUEUES as usize).map(move |q| (p, q)))
-        {
-            let cell = credit_cell(port, queue);
+        for (port, queue) in (0..ports).flat_map(|p| (1..queues).map(move |q| (p, q))) {
+            let cell = self.tables.credit_cell(port, queue);
             let both = self.get(self.tables.arrival, cell) + owed[port][queue];
             match both.cmp(&self.settings.credit) {
                 Ordering::Less => return Some((cell as u64, "too little")),

@@ -8,15 +8,19 @@ pub mod counts;
 pub mod cut;
 pub mod damage;
 pub mod finding;
+pub mod headers;
 pub mod library;
 pub mod night;
 pub mod reader;
 pub mod run;
+pub mod scale;
 pub mod search;
+pub mod tables;
 pub mod waits;
 pub mod watch;
 pub mod workers;
 pub mod wrapper;
+pub mod writer;
 
 use model::{Call, Reply};
 

@@ -1,13 +1,37 @@
 //! One call of the proved library, told in the model's words.
 
-use model::{Call, ListKind, Packet, Reply, Side, REFUSALS, ROUND_BYTES};
+use model::{Call, ListKind, Packet, Reply, Settings, Side, REFUSALS};
 use ventorupo::calls;
+
+use crate::reader;
 
 /// Rooms start with these bytes, so that a byte that should stay is seen.
 const FILL: u8 = 0xA7;
 
 /// Bytes before and behind a round's room, to see that nobody writes there.
 const GUARD: usize = 7;
+
+/// The settings in the C interface's order.
+fn numbers(settings: &Settings) -> [u32; 8] {
+    [
+        settings.nodes,
+        settings.beat,
+        settings.slots,
+        settings.credit,
+        settings.ports,
+        settings.queues,
+        settings.edition,
+        settings.packets,
+    ]
+}
+
+/// The bytes of a state of these settings; none if one isn't in its row.
+pub fn size(settings: &Settings) -> Option<usize> {
+    match calls::size(&numbers(settings)) {
+        0 => None,
+        bytes => usize::try_from(bytes).ok(),
+    }
+}
 
 /// What a refused call must leave in its room.
 fn refused<T: PartialEq + std::fmt::Debug>(
@@ -28,7 +52,7 @@ fn refused<T: PartialEq + std::fmt::Debug>(
 /// rooms, whatever the model says.
 pub fn call(memory: &mut [u8], call: &Call) -> Result<Reply, String> {
     match call {
-        Call::Setup(s) => match calls::setup(memory, s.nodes, s.beat, s.slots, s.credit) {
+        Call::Setup(settings) => match calls::setup(memory, &numbers(settings)) {
             0 => Ok(Reply::Done),
             number => refused(number, (), ()),
         },
@@ -104,12 +128,13 @@ fn round(memory: &mut [u8], room: &[u8]) -> Result<Reply, String> {
     if number != 0 {
         return refused(number, after, before);
     }
-    if room.len() < ROUND_BYTES {
+    // Four bytes for each of as many ports as the state says.
+    let bytes = reader::settings(memory).shape().round_bytes();
+    if room.len() < bytes {
         return Err(format!("a round takes a room of {} bytes", room.len()));
     }
-    let mut turns = [0; ROUND_BYTES];
-    let told = GUARD..GUARD + ROUND_BYTES;
-    turns.copy_from_slice(&after[told.clone()]);
+    let told = GUARD..GUARD + bytes;
+    let turns = after[told.clone()].to_vec();
     after[told.clone()].copy_from_slice(&before[told]);
     if after != before {
         return Err(format!("a round wrote past its turns: {after:?}"));
@@ -129,7 +154,7 @@ fn turned(sent: &[u8; 16]) -> Result<Reply, String> {
     };
     // Wider in the room than in the model.
     let (destination, poisoned) = (two(6), sent[12]);
-    if destination > 3 || poisoned > 1 {
+    if destination > 255 || poisoned > 1 {
         return Err(format!("a turn wrote {sent:?}"));
     }
     let packet = Packet {

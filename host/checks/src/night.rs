@@ -1,11 +1,11 @@
 //! What the night crew asks of a memory, beside the independent reader and the
 //! model: which rule it breaks and where, every node's place, and a repair.
 
-use model::{Model, PLACE_BYTES, PORTS};
+use model::{Ledger, Model, PLACE_BYTES};
 use ventorupo::calls;
 
 use crate::finding::{self, Finding};
-use crate::{difference, reader};
+use crate::{difference, writer};
 
 /// The functions that answer it, and the test that every call but setup, the
 /// finding and the repair asks first. In tests one of them may have a slip.
@@ -87,8 +87,8 @@ impl Crew {
     /// Into a room that is enough for the model's nodes, one that is a byte
     /// shorter, and one that is longer.
     pub fn audits(&self, memory: &[u8], model: &Model) -> Result<(), String> {
-        let nodes = model.ledger().map_or(1, |ledger| ledger.settings.nodes);
-        let enough = PLACE_BYTES * (PORTS * nodes) as usize;
+        let nodes = |ledger: &Ledger| ledger.settings.ports * ledger.settings.nodes;
+        let enough = PLACE_BYTES * model.ledger().map_or(4, nodes) as usize;
         let rooms = [enough, enough - 1, enough + LONGER];
         rooms
             .iter()
@@ -121,7 +121,7 @@ impl Crew {
     pub fn repairs(&self, whole: &[u8], lent: usize) -> Result<(), String> {
         let mut after = whole.to_vec();
         let answer = (self.repair)(&mut after[..lent]);
-        let wanted = reader::repaired(&whole[..lent]);
+        let wanted = writer::repaired(&whole[..lent]);
         if answer != wanted.as_ref().map_or(3, |_| 0) {
             return Err(format!("a repair answers {answer}"));
         }

@@ -2,21 +2,26 @@
 
 use std::fmt;
 
-use model::{size, Call, Model, Reply};
+use model::{size, Call, Ledger, Model, Reply, Shape};
 use traffic::{Profile, Random, Traffic};
 
 use crate::counts::Counts;
 use crate::cut::cut_down;
-use crate::{changes_nothing, difference, night, reader, Desk};
+use crate::scale::Scale;
+use crate::{changes_nothing, difference, night, reader, writer, Desk};
 
 /// Bytes behind the lent memory, to see that nobody writes there.
 const GUARD: usize = 64;
+
+/// The calls of a run on a small switch.
+const CALLS: usize = 5000;
 
 /// A run that can be made again.
 #[derive(Debug, Clone, Copy, PartialEq, Eq)]
 pub struct Plan {
     pub seed: u64,
     pub profile: Profile,
+    pub shape: Shape,
     /// Bytes of lent memory; with it comes the most nodes per port.
     pub memory_len: usize,
     pub calls: usize,
@@ -25,27 +30,25 @@ pub struct Plan {
 }
 
 impl Plan {
-    /// The run of a number: all profiles, small pools mostly, large ones now and
-    /// then, and memory with a few bytes more than the pool needs.
-    pub fn numbered(seed: u64, number: u64, calls: usize) -> Plan {
+    /// The run of a number: all profiles and shapes, small pools mostly, and
+    /// memory with a few bytes more than the pool needs. Runs take about as long,
+    /// so those on large switches have few calls.
+    pub fn numbered(seed: u64, number: u64) -> Plan {
         let mut random = Random::new(seed ^ number.wrapping_mul(0xD1B5_4A32_D192_ED03));
-        const NODES: [u32; 20] = [
-            1, 2, 4, 16, 1, 2, 4, 16, 1, 2, 4, 16, 4, 16, 1, 2, 4, 16, 64, 256,
-        ];
         let profiles = Profile::ALL.len() as u64;
-        let nodes = match number / profiles % 100 {
-            49 => 1000,
-            99 => 2048,
-            other => NODES[(other % 20) as usize],
-        };
+        let scale = Scale::of_turn(number / profiles, &mut random);
         Plan {
             seed: random.word(),
             profile: Profile::ALL[(number % profiles) as usize],
-            // Under 52 more bytes: no further node.
-            memory_len: size(nodes) + random.below(52) as usize,
-            calls,
+            shape: scale.shape,
+            memory_len: scale.bytes_and_some(&mut random),
+            calls: scale.share(CALLS),
             ledger_every: 256,
         }
+    }
+
+    fn traffic(&self) -> Traffic {
+        Traffic::of(self.seed, self.profile, self.shape)
     }
 }
 
@@ -93,7 +96,7 @@ impl<'d, D: Desk> Pair<'d, D> {
         let mut memory = vec![0; start + lent + GUARD];
         if random.one_in(2) {
             memory.fill_with(|| random.word() as u8);
-            // No state, for sure: not 4 ports.
+            // No state, for sure: so many ports are in no row.
             memory[start] = 0xFF;
         }
         Pair {
@@ -102,6 +105,23 @@ impl<'d, D: Desk> Pair<'d, D> {
             before: memory.clone(),
             memory,
             start,
+            lent,
+            made: 0,
+            ledger_every,
+        }
+    }
+
+    /// From a ledger on, in bytes that no call of the library has written.
+    pub fn over(desk: &'d D, ledger: &Ledger, ledger_every: usize) -> Pair<'d, D> {
+        let mut memory = writer::image(ledger);
+        let lent = memory.len();
+        memory.extend([0x5A; GUARD]);
+        Pair {
+            desk,
+            model: Model::with_ledger(lent, ledger.clone()),
+            before: memory.clone(),
+            memory,
+            start: 0,
             lent,
             made: 0,
             ledger_every,
@@ -128,7 +148,7 @@ impl<'d, D: Desk> Pair<'d, D> {
                 "the library answers {answer:?}, the model {wanted:?}"
             ));
         }
-        let size_now = self.model.ledger().map_or(0, |l| size(l.settings.nodes));
+        let size_now = self.model.ledger().map_or(0, |l| size(&l.settings));
         let kept_from = if changes_nothing(call, &answer) {
             0
         } else {
@@ -141,15 +161,15 @@ impl<'d, D: Desk> Pair<'d, D> {
         if let Some(told) = difference(before, after, kept_from) {
             return Err(format!("after {answer:?} {told}"));
         }
-        if let (Call::Setup(settings), Reply::Done) = (call, answer) {
-            let image = reader::image(*settings);
+        if let (Call::Setup(settings), Reply::Done) = (call, &answer) {
+            let image = writer::starting(*settings);
             if let Some(told) = difference(&image, &after[..size_now], 0) {
                 return Err(format!("after setup {told}"));
             }
         }
         self.made += 1;
         // More often after a round: it moves much, and tells of its turns alone.
-        let every = match answer {
+        let every = match &answer {
             Reply::Turns(_) => self.ledger_every.min(4),
             _ => self.ledger_every,
         };
@@ -176,12 +196,15 @@ impl<'d, D: Desk> Pair<'d, D> {
 }
 
 /// The first part in which two ledgers differ.
-fn ledger_difference(pictured: &model::Ledger, wanted: &model::Ledger) -> String {
-    if pictured.settings != wanted.settings || pictured.map != wanted.map {
-        return format!(
-            "the memory has {:?} {:?}, the model {:?} {:?}",
-            pictured.settings, pictured.map, wanted.settings, wanted.map
-        );
+fn ledger_difference(pictured: &Ledger, wanted: &Ledger) -> String {
+    if pictured.settings != wanted.settings {
+        let (has, wanted) = (pictured.settings, wanted.settings);
+        return format!("the memory has {has:?}, the model {wanted:?}");
+    }
+    for (id, (port, wanted)) in pictured.map.iter().zip(&wanted.map).enumerate() {
+        if port != wanted {
+            return format!("id {id} is mapped to {port} in memory, to {wanted} in the model");
+        }
     }
     for ((kind, list), (_, wanted_list)) in pictured.lists().zip(wanted.lists()) {
         if list != wanted_list {
@@ -209,23 +232,27 @@ fn ledger_difference(pictured: &model::Ledger, wanted: &model::Ledger) -> String
 
 /// Make the run. A failing one is made again, written down and cut down.
 pub fn run<D: Desk>(plan: &Plan, desk: &D, counts: &mut Counts) -> Result<(), Box<Failure>> {
+    made(plan, desk, counts).map_err(|(at, message)| Box::new(failure(plan, desk, at, message)))
+}
+
+/// Make the run; the error is the number of the first call after which something
+/// differs, and what.
+pub fn made<D: Desk>(plan: &Plan, desk: &D, counts: &mut Counts) -> Result<(), (usize, String)> {
     let mut pair = Pair::new(desk, plan.seed, plan.memory_len, plan.ledger_every);
-    let mut traffic = Traffic::new(plan.seed, plan.profile);
+    let mut traffic = plan.traffic();
     for at in 0..plan.calls {
         let call = traffic.next(&pair.model);
-        match pair.call(&call) {
-            Ok(reply) => counts.note(&call, &reply),
-            Err(message) => return Err(Box::new(failure(plan, desk, at, message))),
-        }
+        let reply = pair.call(&call).map_err(|message| (at, message))?;
+        counts.note(&call, &reply);
     }
     pair.compare_ledgers()
-        .map_err(|message| Box::new(failure(plan, desk, plan.calls, message)))
+        .map_err(|message| (plan.calls, message))
 }
 
 fn failure<D: Desk>(plan: &Plan, desk: &D, at: usize, message: String) -> Failure {
     // The traffic looks at the model only, so it is the same again.
     let mut model = Model::new(plan.memory_len);
-    let mut traffic = Traffic::new(plan.seed, plan.profile);
+    let mut traffic = plan.traffic();
     let mut calls = Vec::new();
     for _ in 0..plan.calls.min(at + 1) {
         let call = traffic.next(&model);

@@ -2,9 +2,8 @@
 //! calls, at random or so that a packet is always passed by the others, and
 //! rounds with any other calls between them.
 
-use model::{price, size, Call, Ledger, Model, Reply, Settings};
-use model::{MOST_CREDIT, PORTS, QUEUES, ROUND_BYTES};
-use traffic::{header, Profile, Random, Traffic};
+use model::{price, size, Call, Ledger, Model, Reply, Settings, Shape, MOST_CREDIT};
+use traffic::{plain, Profile, Random, Traffic};
 
 use crate::waits::Tally;
 use crate::watch::{Scene, Watch};
@@ -26,15 +25,17 @@ pub enum Aim {
 pub struct Start {
     pub seed: u64,
     pub aim: Aim,
+    pub shape: Shape,
 }
 
 impl Start {
     /// The start of a number: half of them aimed.
-    pub fn numbered(seed: u64, number: u64) -> Start {
+    pub fn numbered(seed: u64, number: u64, shape: Shape) -> Start {
         let mut random = Random::new(seed ^ number.wrapping_mul(0xD1B5_4A32_D192_ED03));
         Start {
             seed: random.word(),
             aim: [Aim::Any, Aim::Full, Aim::Any, Aim::Chased][(number % 4) as usize],
+            shape,
         }
     }
 }
@@ -73,16 +74,17 @@ impl<'d, D: Desk> Search<'d, D> {
             Aim::Full => random.pick(&[12, 16, 16, 32]),
             Aim::Chased => random.pick(&[1, 2, 3, 4, 8, 16, 32]),
         };
-        let settings = Settings {
+        let settings = Settings::of(
+            start.shape,
             nodes,
-            beat: random.pick(&[64, 128, 256, 512]),
-            slots: random.among(1, 8),
-            credit: random.pick(&[128, 200, 1000, MOST_CREDIT]),
-        };
+            random.pick(&[64, 128, 256, 512]),
+            random.among(1, 8),
+            random.pick(&[128, 200, 1000, MOST_CREDIT]),
+        );
         let profile = random.pick(&[Profile::Valid, Profile::Hostile, Profile::Full]);
         let mut search = Search {
-            scene: Scene::new(desk, size(nodes)),
-            traffic: Traffic::new(random.word(), profile),
+            scene: Scene::new(desk, size(&settings)),
+            traffic: Traffic::of(random.word(), profile, start.shape),
             random,
             settings,
         };
@@ -101,8 +103,9 @@ impl<'d, D: Desk> Search<'d, D> {
     /// A packet of a few beats arrives: its entry id and its price; none where
     /// other calls have left no node or no credit.
     fn arrive(&mut self, port: u32, id: u32, queue: u32) -> Result<Option<(u16, u32)>, String> {
-        let length = self.random.among(12, 3 * self.settings.beat);
-        let header = header(id, port, queue, length, false, false, 0, 0, 0).to_vec();
+        let shape = self.settings.shape();
+        let length = self.random.among(shape.shortest(), 3 * self.settings.beat);
+        let header = plain(&shape, id, port, queue, length);
         match self.scene.call(&Call::Arrive { port, header })? {
             Reply::Entry(entry) => Ok(Some((entry, price(length, queue, self.settings.beat)))),
             Reply::Refused(10 | 11) => Ok(None),
@@ -128,8 +131,17 @@ impl<'d, D: Desk> Search<'d, D> {
         self.scene.call(&call).map(|_| ())
     }
 
+    fn round_bytes(&self) -> usize {
+        self.settings.shape().round_bytes()
+    }
+
+    /// Any destination id that a header can name.
+    fn ids(&self) -> u32 {
+        1 << self.settings.shape().port_bits()
+    }
+
     fn round(&mut self) -> Result<(), String> {
-        let room = vec![0x5A; ROUND_BYTES + self.random.below(3) as usize];
+        let room = vec![0x5A; self.round_bytes() + self.random.below(3) as usize];
         self.accepted(Call::Round { room }).map(|_| ())
     }
 
@@ -140,9 +152,12 @@ impl<'d, D: Desk> Search<'d, D> {
                 beat: 65,
                 ..self.settings
             }),
-            _ => Call::Round {
-                room: vec![0x5A; self.random.below(ROUND_BYTES as u32) as usize],
-            },
+            _ => {
+                let less = self.random.below(self.round_bytes() as u32);
+                Call::Round {
+                    room: vec![0x5A; less as usize],
+                }
+            }
         };
         match self.scene.call(&call)? {
             Reply::Refused(_) => Ok(()),
@@ -173,8 +188,10 @@ impl<'d, D: Desk> Search<'d, D> {
         if crowded {
             self.crowd()?;
         }
+        let Settings { ports, queues, .. } = self.settings;
+        let ids = self.ids();
         let r = &mut self.random;
-        let (port, id, queue) = (r.below(PORTS), r.below(4), r.below(QUEUES));
+        let (port, id, queue) = (r.below(ports), r.below(ids), r.below(queues));
         if self.arrive_watched(port, id, queue)?.is_none() {
             return Ok(());
         }
@@ -197,13 +214,15 @@ impl<'d, D: Desk> Search<'d, D> {
 
     /// Packets of all queues for one port, most of them with credit.
     fn crowd(&mut self) -> Result<(), String> {
-        let out = self.random.below(PORTS);
-        for id in 0..4 {
+        let Settings { ports, queues, .. } = self.settings;
+        let shape = self.settings.shape();
+        let out = self.random.below(ports);
+        for id in 0..self.ids() {
             self.accepted(Call::Map { id, port: out })?;
         }
         for _ in 0..self.random.below(4 * self.settings.nodes).min(150) {
-            let (port, queue) = (self.random.below(PORTS), self.random.below(QUEUES));
-            let header = header(0, port, queue, 12, false, false, 0, 0, 0).to_vec();
+            let (port, queue) = (self.random.below(ports), self.random.below(queues));
+            let header = plain(&shape, 0, port, queue, shape.shortest());
             // Refused where the pool is empty.
             self.scene.call(&Call::Arrive { port, header })?;
             self.scene.call(&Call::Stitch { port })?;
@@ -215,7 +234,7 @@ impl<'d, D: Desk> Search<'d, D> {
 
     /// Just enough credit for a packet that the next round stitches.
     fn cover(&mut self) -> Result<(), String> {
-        let room = vec![0; ROUND_BYTES];
+        let room = vec![0; self.round_bytes()];
         match self.scene.line_ahead(&Call::Round { room })? {
             Some(line) if !line.covered => self.credit(line.port, line.queue, line.lacking),
             _ => Ok(()),
@@ -236,7 +255,7 @@ impl<'d, D: Desk> Search<'d, D> {
 
     /// A port with a free node that isn't one of these two.
     fn other_port(&self, ledger: &Ledger, not: [u32; 2]) -> Option<u32> {
-        (0..PORTS)
+        (0..self.settings.ports)
             .filter(|port| !not.contains(port))
             .max_by_key(|&port| ledger.ports[port as usize].free.len())
             .filter(|&port| !ledger.ports[port as usize].free.is_empty())
@@ -256,14 +275,16 @@ impl<'d, D: Desk> Search<'d, D> {
 
     fn plan(&mut self, aim: Aim) -> Aimed {
         let most_ahead = (self.settings.nodes - 1).min(30);
+        let Settings { ports, queues, .. } = self.settings;
+        let ids = self.ids();
         let r = &mut self.random;
-        let into = r.below(PORTS);
+        let into = r.below(ports);
         Aimed {
             into,
-            out: r.below(PORTS),
-            queue: r.below(QUEUES),
-            id: r.below(4),
-            chaser: (into + r.among(1, 3)) % PORTS,
+            out: r.below(ports),
+            queue: r.below(queues),
+            id: r.below(ids),
+            chaser: (into + r.among(1, ports - 1)) % ports,
             ahead_in_ingress: r.below(most_ahead + 1).min(r.below(31)),
             ahead_in_line: r.pick(&[0, 0, 0, 1, 1, 2, 2, 3, 4, 5, 6, 7]),
             late: aim == Aim::Full && r.one_in(6),
@@ -274,17 +295,17 @@ impl<'d, D: Desk> Search<'d, D> {
     /// the packet's own when the packet is stitched, if every round until then
     /// serves one.
     fn map_and_mark(&mut self, plan: &Aimed) -> Result<(), String> {
-        for id in 0..4 {
+        let Settings { ports, queues, .. } = self.settings;
+        for id in 0..self.ids() {
             // Packets for another port don't get in the way.
-            let port = plan.out + u32::from(id != plan.id);
-            let port = port % PORTS;
+            let port = (plan.out + u32::from(id != plan.id)) % ports;
             self.accepted(Call::Map { id, port })?;
         }
         let back = match self.random.pick(&[0, 0, 0, 0, 0, 0, 1, 12]) {
             _ if plan.late => 0,
             off => plan.ahead_in_ingress + off,
         };
-        self.serve(plan, (plan.queue + 2 * QUEUES - back) % QUEUES)
+        self.serve(plan, (plan.queue + queues - back % queues) % queues)
     }
 
     /// The line, the packets ahead in ingress and the watched packet, and
@@ -292,7 +313,8 @@ impl<'d, D: Desk> Search<'d, D> {
     fn line_up(&mut self, plan: &Aimed, aim: Aim) -> Result<(), String> {
         let steps = plan.ahead_in_ingress;
         // Those that the queue's own turns send before the stitch.
-        let earlier = (steps + QUEUES - 1) / QUEUES;
+        let queues = self.settings.queues;
+        let earlier = (steps + queues - 1) / queues;
         let busy = match aim {
             Aim::Chased => plan.chaser,
             _ => plan.into,
@@ -312,7 +334,7 @@ impl<'d, D: Desk> Search<'d, D> {
             self.fill(plan)?;
         }
         for _ in 0..steps {
-            let (id, queue) = ((plan.id + 1) % 4, self.random.below(QUEUES));
+            let (id, queue) = ((plan.id + 1) % self.ids(), self.random.below(queues));
             self.arrive(plan.into, id, queue)?;
         }
         let price = self
@@ -350,7 +372,7 @@ impl<'d, D: Desk> Search<'d, D> {
         let wait = plan.late && stitched.is_none();
         let ledger = self.scene.ledger()?;
         let at = &ledger.ports[plan.out as usize];
-        for queue in (0..QUEUES).filter(|&queue| queue != plan.queue) {
+        for queue in (0..self.settings.queues).filter(|&queue| queue != plan.queue) {
             let q = queue as usize;
             if queue > 0 && !wait && at.outward_credit[q] < 1000 {
                 self.credit(plan.out, queue, 50_000)?;
@@ -367,7 +389,7 @@ impl<'d, D: Desk> Search<'d, D> {
     /// watched packet's own.
     fn chase(&mut self, plan: &Aimed) -> Result<(), String> {
         let ledger = self.scene.ledger()?;
-        let queue = (ledger.ports[plan.out as usize].last_served + 1) % QUEUES;
+        let queue = (ledger.ports[plan.out as usize].last_served + 1) % self.settings.queues;
         let at = &ledger.ports[plan.chaser as usize];
         if queue == plan.queue || at.free.is_empty() || !at.ingress.is_empty() {
             return Ok(());

@@ -2,7 +2,7 @@
 //! stitched, and how many from there until it leaves. It goes by the library's
 //! answers; what stands ahead of the packet at its stitch is read off the bytes.
 
-use model::{Call, Ledger, ListKind, Packet, Reply, QUEUES, ROUND_BYTES};
+use model::{Call, Ledger, ListKind, Packet, Reply};
 
 use crate::{reader, Desk};
 
@@ -25,11 +25,13 @@ pub struct Line {
     pub lacking: u32,
     /// Rounds that were over before the stitch.
     from: u32,
+    /// The switch's queues.
+    queues: u32,
 }
 
 impl Line {
     fn most(&self) -> u32 {
-        QUEUES * (self.ahead + 1)
+        self.queues * (self.ahead + 1)
     }
 }
 
@@ -231,16 +233,17 @@ impl<'d, D: Desk> Scene<'d, D> {
             Some(watch) if watch.stitched.is_none() && watch.position == 0 => watch,
             _ => return Ok(None),
         };
+        let ledger = self.ledger()?;
+        let enough = ledger.settings.shape().round_bytes();
         let lower_ports = match call {
             Call::Stitch { port } if *port == watch.port => 0,
             // Lower ports are stitched before it.
-            Call::Round { room } if room.len() >= ROUND_BYTES => watch.port as usize,
+            Call::Round { room } if room.len() >= enough => watch.port as usize,
             _ => return Ok(None),
         };
-        let ledger = self.ledger()?;
         let packet = *ledger.packet(watch.entry).ok_or("the packet is gone")?;
         let port = ledger.map[usize::from(packet.destination)];
-        let at = &ledger.ports[port as usize];
+        let at = &ledger.ports[usize::from(port)];
         let queue = usize::from(packet.queue);
         let joins = |other: &Packet| {
             other.queue == packet.queue && ledger.map[usize::from(other.destination)] == port
@@ -258,12 +261,13 @@ impl<'d, D: Desk> Scene<'d, D> {
             .collect();
         let all = prices.iter().sum::<u32>() + packet.price;
         Ok(Some(Line {
-            port,
+            port: port.into(),
             queue: packet.queue.into(),
             ahead: prices.len() as u32,
             covered: queue == 0 || all <= at.outward_credit[queue],
             lacking: all.saturating_sub(at.outward_credit[queue]),
             from: self.rounds,
+            queues: ledger.settings.queues,
         }))
     }
 

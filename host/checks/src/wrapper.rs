@@ -1,20 +1,35 @@
 //! The same calls through the safe wrapper's typed answers.
 
-use model::{Call, ListKind, Packet, Reply, Side, ROUND_BYTES};
+use model::{Call, ListKind, Packet, Reply, Side};
 use ventorupo::{EntryId, Refusal, RoundTurn, Settings, Switch, Turn};
 
-use crate::library;
+use crate::tables::SETTINGS_END;
+use crate::{library, reader};
+
+/// The bytes that a round writes, as far as the settings say.
+fn round_bytes(memory: &[u8]) -> usize {
+    match memory.len() < SETTINGS_END {
+        true => 0,
+        false => reader::settings(memory).shape().round_bytes(),
+    }
+}
 
 /// Make the call through a `Switch` that borrows this memory.
 pub fn call(memory: &mut [u8], call: &Call) -> Result<Reply, String> {
+    let round_bytes = round_bytes(memory);
     let mut switch = Switch::over(&mut *memory);
     let reply = match call {
+        // The wrapper's settings have no word for it yet.
+        Call::Setup(s) if s.packets > 0 => return library::call(memory, call),
         Call::Setup(s) => {
             let settings = Settings {
                 nodes: s.nodes,
                 beat: s.beat,
                 slots: s.slots,
                 credit: s.credit,
+                ports: s.ports,
+                queues: s.queues,
+                edition: s.edition,
             };
             switch.setup_again(settings).map(|()| Reply::Done)
         }
@@ -47,13 +62,13 @@ pub fn call(memory: &mut [u8], call: &Call) -> Result<Reply, String> {
             Err(_) => return library::call(memory, call),
         },
         // The typed round lends room enough, always.
-        Call::Round { room } if room.len() < ROUND_BYTES => {
+        Call::Round { room } if room.len() < round_bytes => {
             let mut lent = room.clone();
             let answer = switch.round_into(&mut lent).map(|()| Reply::Done);
             assert_eq!(lent, *room);
             answer
         }
-        Call::Round { .. } => switch.round().map(turns),
+        Call::Round { .. } => switch.round().map(|of_ports| turns(&of_ports)),
     };
     Ok(reply.unwrap_or_else(|refusal: Refusal| Reply::Refused(refusal.number() as u8)))
 }
@@ -85,16 +100,13 @@ fn turned(turn: Turn) -> Reply {
     Reply::Leaves(packet, side)
 }
 
-fn turns(of_ports: [RoundTurn; 4]) -> Reply {
-    let mut turns = [0; ROUND_BYTES];
-    for (turn, told) in of_ports.into_iter().zip(turns.chunks_exact_mut(4)) {
-        match turn {
-            RoundTurn::Refused(refusal) => told[0] = refusal.number() as u8,
-            RoundTurn::Idle => told[1] = 1,
-            RoundTurn::Sent(entry) => told[2..].copy_from_slice(&entry.0.to_be_bytes()),
-        }
-    }
-    Reply::Turns(turns)
+fn turns(of_ports: &[RoundTurn]) -> Reply {
+    let told = |turn: &RoundTurn| match turn {
+        RoundTurn::Refused(refusal) => [refusal.number() as u8, 0, 0, 0],
+        RoundTurn::Idle => [0, 1, 0, 0],
+        RoundTurn::Sent(entry) => [0, 0, (entry.0 >> 8) as u8, entry.0 as u8],
+    };
+    Reply::Turns(of_ports.iter().flat_map(told).collect())
 }
 
 fn list(kind: ventorupo::ListKind) -> ListKind {

@@ -1,20 +1,16 @@
-//! The paper's cards and check values, through the library.
+//! The paper's cards and check values, through the library, on a switch with the
+//! ten-byte header; `wide` has those of the others.
 
 use model::checksum::crc8;
 use traffic::header;
 use ventorupo::{EntryId, ListKind, Refusal, Settings, Side, Switch, Turn};
 
-const SMALL: Settings = Settings {
-    nodes: 8,
-    beat: 64,
-    slots: 4,
-    credit: 128,
-};
+const SMALL: Settings = Settings::ten_bytes(8, 64, 4, 128);
 
 const SHORTEST: [u8; 10] = [0, 0, 0x30, 0, 0, 0, 0, 0, 0, 0x72];
 
 fn switch(settings: Settings) -> Switch<Vec<u8>> {
-    let memory = vec![0; ventorupo::size(settings.nodes).unwrap()];
+    let memory = vec![0; ventorupo::size(&settings).unwrap()];
     Switch::setup(memory, settings).unwrap()
 }
 
@@ -170,8 +166,8 @@ fn nodes_per_port() {
         (0, Some(Refusal::BadSetting)),
         (2049, Some(Refusal::BadSetting)),
         // The most that 65,536 bytes are enough for.
-        (1222, None),
-        (1223, Some(Refusal::ShortMemory)),
+        (1143, None),
+        (1144, Some(Refusal::ShortMemory)),
         (2048, Some(Refusal::ShortMemory)),
     ] {
         let settings = Settings { nodes, ..SMALL };
@@ -192,7 +188,7 @@ fn one_queue_holds_every_node() {
         nodes: 2048,
         ..SMALL
     };
-    let mut switch = Switch::setup(vec![0; 108_484], settings).unwrap();
+    let mut switch = Switch::setup(vec![0; 112_580], settings).unwrap();
     for entry in 0..8192 {
         let port = u32::from(entry / 2048);
         let header = plain(0, port, 0, 12);
@@ -222,13 +218,7 @@ fn prefetch_with_nothing_to_take_and_full_slots() {
 
 #[test]
 fn the_bench_programs_whole_case() {
-    let settings = Settings {
-        nodes: 1,
-        beat: 64,
-        slots: 1,
-        credit: 16,
-    };
-    let mut switch = switch(settings);
+    let mut switch = switch(Settings::ten_bytes(1, 64, 1, 16));
     assert_eq!(switch.arrive(0, &SHORTEST), Ok(EntryId(0)));
     assert_eq!(switch.stitch(0).unwrap().entry, EntryId(0));
     assert_eq!(switch.prefetch(0, 0), Ok(EntryId(0)));
@@ -283,12 +273,7 @@ fn a_turn_answers_every_recorded_field() {
 /// position, count or field of an answer is 0 where another number is right.
 #[test]
 fn packets_that_cross_from_port_to_port() {
-    let mut switch = switch(Settings {
-        nodes: 4,
-        beat: 64,
-        slots: 2,
-        credit: 200,
-    });
+    let mut switch = switch(Settings::ten_bytes(4, 64, 2, 200));
     let across = header(3, 1, 5, 100, true, false, 0x0102_0304, 9, 171);
     let place = |switch: &Switch<Vec<u8>>, entry| {
         let place = switch.place_of(EntryId(entry)).unwrap();
@@ -403,7 +388,7 @@ fn headers_of_other_lengths() {
 /// bytes would be too short.
 #[test]
 fn more_memory_than_needed() {
-    let needed = ventorupo::size(SMALL.nodes).unwrap();
+    let needed = ventorupo::size(&SMALL).unwrap();
     for length in [needed, needed + 1, 65_535, 65_536, 65_537, 131_072, 1 << 24] {
         let mut memory = vec![0x5A; length];
         let mut switch = Switch::setup(&mut memory[..], SMALL).unwrap();

@@ -2,21 +2,27 @@
 
 use checks::counts::Counts;
 use checks::run::{run, Plan};
+use checks::scale::Scale;
 use checks::{damage, library, wrapper, Desk};
-use model::{size, Call, Model, Reply, Settings};
-use traffic::{header, Profile, Traffic};
+use model::header::Header;
+use model::{size, Call, Model, Reply, Settings, Shape};
+use traffic::headers::spelt;
+use traffic::{plain, Profile, Traffic, SHAPES};
 
 const NODES: [u32; 7] = [1, 2, 4, 16, 64, 256, 257];
 
-fn run_all<D: Desk>(desk: &D, calls: usize) -> Counts {
+/// All profiles on switches of a shape, with so many calls on the smallest.
+fn run_shape<D: Desk>(desk: &D, shape: Shape, nodes: &[u32], calls: usize) -> Counts {
     let mut counts = Counts::default();
     for profile in Profile::ALL {
-        for (seed, nodes) in (1..).zip(NODES) {
+        for (seed, &nodes) in (1..).zip(nodes) {
+            let scale = Scale { shape, nodes };
             let plan = Plan {
                 seed,
                 profile,
-                memory_len: size(nodes) + 7,
-                calls: if nodes > 16 { calls / 4 } else { calls },
+                shape,
+                memory_len: scale.bytes() + 7,
+                calls: scale.share(calls),
                 ledger_every: 64,
             };
             if let Err(failure) = run(&plan, desk, &mut counts) {
@@ -25,6 +31,10 @@ fn run_all<D: Desk>(desk: &D, calls: usize) -> Counts {
         }
     }
     counts
+}
+
+fn run_all<D: Desk>(desk: &D, calls: usize) -> Counts {
+    run_shape(desk, Shape::TEN_BYTES, &NODES, calls)
 }
 
 #[test]
@@ -41,20 +51,44 @@ fn the_wrapper_agrees_with_the_model() {
     assert_eq!(counts.too_rare(1, 50), []);
 }
 
+/// Every shape, through the raw calls and through the wrapper.
+#[test]
+fn every_shape_agrees_with_the_model() {
+    let mut all = Counts::default();
+    for shape in SHAPES {
+        let counts = run_shape(&library::call, shape, &[1, 8], 1_500);
+        println!("{shape:?}\n{counts}");
+        assert!(counts.each_call_at_least(3));
+        all.add(&counts);
+        run_shape(&wrapper::call, shape, &[2], 500);
+    }
+    assert_eq!(all.too_rare(20, 100), []);
+}
+
+/// The largest switches there are, a few calls each.
+#[test]
+fn the_largest_switches_agree_with_the_model() {
+    for (ports, queues) in [(32, 64), (31, 63), (32, 2), (2, 64)] {
+        run_shape(&library::call, Shape::wide(ports, queues), &[2048], 2_000);
+    }
+}
+
 /// Every pool to its last node, every node home, `times` times over, with the
 /// library beside the model at each call.
-fn full_pools(nodes: u32, times: u32) {
+fn full_pools(scale: Scale, times: u32) {
+    let Scale { shape, nodes } = scale;
     let mut plan = Plan {
         seed: nodes.into(),
         profile: Profile::Brim,
-        memory_len: size(nodes) + 7,
+        shape,
+        memory_len: scale.bytes() + 7,
         calls: 0,
         ledger_every: 512,
     };
     // The traffic looks at the model alone, so the run's length can be found
     // without the library.
     let mut model = Model::new(plan.memory_len);
-    let mut traffic = Traffic::new(plan.seed, plan.profile);
+    let mut traffic = Traffic::of(plan.seed, plan.profile, shape);
     let (mut emptied, mut home) = (0, 0);
     while home < times {
         let call = traffic.next(&model);
@@ -69,7 +103,7 @@ fn full_pools(nodes: u32, times: u32) {
             if free == 0 && emptied == home {
                 emptied += 1;
             }
-            if free as u32 == 4 * nodes && emptied > home {
+            if free as u32 == shape.ports * nodes && emptied > home {
                 home += 1;
             }
         }
@@ -79,40 +113,82 @@ fn full_pools(nodes: u32, times: u32) {
         panic!("{failure}");
     }
     println!(
-        "N = {nodes}, pools emptied and refilled {times} times: {} calls",
+        "{scale:?}, pools emptied and refilled {times} times: {} calls",
         counts.calls()
     );
     println!("{counts}");
     assert!(counts.refused(11) > 0);
-    assert_eq!(counts.highest_entry(), 3 * 2048 + nodes as u16 - 1);
+    let last = (shape.ports - 1) * 2048 + nodes - 1;
+    assert_eq!(u32::from(counts.highest_entry()), last);
 }
 
 #[test]
 fn full_pools_of_257_nodes() {
-    full_pools(257, 4);
+    full_pools(Scale::ten_bytes(257), 4);
 }
 
 #[test]
 fn full_pools_of_1000_nodes() {
-    full_pools(1000, 1);
+    full_pools(Scale::ten_bytes(1000), 1);
 }
 
 #[test]
 fn full_pools_of_2048_nodes() {
-    full_pools(2048, 1);
+    full_pools(Scale::ten_bytes(2048), 1);
 }
 
-/// Every reserved bit, source and queue with lengths at the edges, and the
-/// checksum right or wrong: each fault alone and beside every other.
-fn headers_with_faults() -> Vec<Vec<u8>> {
+#[test]
+fn full_pools_of_every_shape() {
+    for shape in SHAPES {
+        let nodes = if shape.ports > 8 { 3 } else { 12 };
+        full_pools(Scale { shape, nodes }, 1);
+    }
+}
+
+/// Some numbers of a width: all of them where there are few.
+fn of_width(width: u32, edges: &[u32]) -> Vec<u32> {
+    let end = 1 << width;
+    match width {
+        0..=5 if edges.is_empty() => (0..end).collect(),
+        _ => edges.iter().copied().filter(|&edge| edge < end).collect(),
+    }
+}
+
+/// Reserved bits, sources and queues with lengths at the edges, and the checksum
+/// right or wrong: each fault alone and beside every other. With the ten-byte
+/// header every source and queue, else those at an edge.
+fn headers_with_faults(shape: &Shape) -> Vec<Vec<u8>> {
+    let Shape { ports, queues, .. } = *shape;
+    let ten = *shape == Shape::TEN_BYTES;
+    let most = (1 << shape.reserved_bits()) - 1;
+    let mut some_reserved = vec![0, 1, most];
+    some_reserved.retain(|&bits| bits <= most);
+    some_reserved.dedup();
+    let (sources, some_queues) = match ten {
+        true => (vec![], vec![]),
+        false => (
+            vec![0, 1, ports - 1, ports, 31],
+            vec![0, 1, queues - 1, queues, 63],
+        ),
+    };
     let mut headers = Vec::new();
-    for reserved in [false, true] {
-        for source in 0..4 {
-            for queue in 0..32 {
-                for length in [0, 11, 12, 64, 65, 8191] {
-                    let right = header(3, source, queue, length, true, reserved, 5, 6, 7).to_vec();
+    for reserved in some_reserved {
+        for &source in &of_width(shape.port_bits(), &sources) {
+            for &queue in &of_width(shape.queue_bits(), &some_queues) {
+                for length in [0, shape.shortest() - 1, shape.shortest(), 64, 65, 8191] {
+                    let header = Header {
+                        destination: 1,
+                        source,
+                        queue,
+                        length,
+                        poisoned: 1,
+                        timestamp: 5,
+                        credit: 6,
+                        transaction: 7,
+                    };
+                    let right = spelt(shape, &header, reserved);
                     let mut wrong = right.clone();
-                    wrong[9] ^= 1;
+                    wrong[right.len() - 1] ^= 1;
                     headers.extend([right, wrong]);
                 }
             }
@@ -125,29 +201,29 @@ fn headers_with_faults() -> Vec<Vec<u8>> {
 #[test]
 fn headers_with_every_mix_of_faults() {
     let mut counts = Counts::default();
-    for (taken, credit) in [(false, 1), (false, 0), (true, 1), (true, 0)] {
-        let (nodes, beat, slots) = (1, 64, 1);
-        let mut calls = vec![Call::Setup(Settings {
-            nodes,
-            beat,
-            slots,
-            credit,
-        })];
-        if taken {
-            let header = header(0, 2, 0, 12, false, false, 0, 0, 0).to_vec();
-            calls.push(Call::Arrive { port: 2, header });
-        }
-        let (mut start, mut model) = (vec![0; size(nodes)], Model::new(size(nodes)));
-        for call in &calls {
-            assert_eq!(library::call(&mut start, call), Ok(model.call(call)));
-        }
-        for header in headers_with_faults() {
-            let call = Call::Arrive { port: 2, header };
-            let (mut memory, wanted) = (start.clone(), model.clone().call(&call));
-            assert_eq!(library::call(&mut memory, &call), Ok(wanted), "{call:?}");
-            let refused = matches!(wanted, Reply::Refused(_));
-            assert_eq!(memory == start, refused, "{call:?}");
-            counts.note(&call, &wanted);
+    for shape in SHAPES {
+        let port = shape.ports - 1;
+        for (taken, credit) in [(false, 1), (false, 0), (true, 1), (true, 0)] {
+            let settings = Settings::of(shape, 1, 64, 1, credit);
+            let mut calls = vec![Call::Setup(settings)];
+            if taken {
+                let header = plain(&shape, 0, port, 0, shape.shortest());
+                calls.push(Call::Arrive { port, header });
+            }
+            let bytes = size(&settings);
+            let (mut start, mut model) = (vec![0; bytes], Model::new(bytes));
+            for call in &calls {
+                assert_eq!(library::call(&mut start, call), Ok(model.call(call)));
+            }
+            for header in headers_with_faults(&shape) {
+                let call = Call::Arrive { port, header };
+                let (mut memory, wanted) = (start.clone(), model.clone().call(&call));
+                let answer = library::call(&mut memory, &call);
+                assert_eq!(answer.as_ref(), Ok(&wanted), "{call:?}");
+                let refused = matches!(wanted, Reply::Refused(_));
+                assert_eq!(memory == start, refused, "{call:?}");
+                counts.note(&call, &wanted);
+            }
         }
     }
     println!("{counts}");
@@ -160,11 +236,13 @@ fn headers_with_every_mix_of_faults() {
 #[test]
 fn memory_too_short_for_any_state() {
     let mut counts = Counts::default();
-    for memory_len in (0..40).chain([100, 1988, size(1) - 1]) {
+    let ten = Scale::ten_bytes(1).bytes();
+    for memory_len in (0..40).chain([100, 4111, 4112, ten - 1]) {
         for profile in Profile::ALL {
             let plan = Plan {
                 seed: memory_len as u64,
                 profile,
+                shape: Shape::TEN_BYTES,
                 memory_len,
                 calls: 50,
                 ledger_every: 1,
@@ -176,33 +254,92 @@ fn memory_too_short_for_any_state() {
     }
 }
 
+/// Every number of ports and queues with nodes at the edges; and all nodes.
 #[test]
 fn the_size_is_the_published_formula() {
-    for nodes in 0..5000 {
-        let wanted = (1..=2048)
-            .contains(&nodes)
-            .then(|| 1988 + 52 * nodes as usize);
-        assert_eq!(ventorupo::size(nodes), wanted, "{nodes} nodes");
+    let formula = |s: &Settings| {
+        let fixed = 16 + 4096 + s.ports + 4 * s.ports * (s.queues - 1);
+        (fixed + 8 * s.ports * (2 + 2 * s.queues) + 13 * s.ports * s.nodes) as usize
+    };
+    let agrees = |settings: Settings| {
+        let wanted = settings.in_their_rows().then(|| formula(&settings));
+        assert_eq!(library::size(&settings), wanted, "{settings:?}");
+    };
+    for ports in 0..40 {
+        for queues in 0..80 {
+            for nodes in [0, 1, 2, 255, 256, 2047, 2048, 2049] {
+                agrees(Settings::wide(ports, queues, nodes, 64, 1, 0));
+            }
+            let shape = Shape {
+                edition: 0,
+                ports,
+                queues,
+            };
+            agrees(Settings::of(shape, 7, 64, 1, 0));
+        }
     }
-    for nodes in [65_536, 65_537, 1 << 31, u32::MAX] {
-        assert_eq!(ventorupo::size(nodes), None);
+    for nodes in (0..5000).chain([65_536, 65_537, 1 << 31, u32::MAX]) {
+        agrees(Settings::ten_bytes(nodes, 64, 1, 0));
+    }
+    // 0 where any setting is out of its row.
+    let good = Settings::wide(8, 16, 100, 64, 8, 65_535);
+    agrees(good);
+    let each: [fn(&mut Settings) -> &mut u32; 8] = [
+        |s| &mut s.nodes,
+        |s| &mut s.beat,
+        |s| &mut s.slots,
+        |s| &mut s.credit,
+        |s| &mut s.ports,
+        |s| &mut s.queues,
+        |s| &mut s.edition,
+        |s| &mut s.packets,
+    ];
+    for setting in each {
+        for wrong in [65_536, 65_537, 65_600, 1 << 31, u32::MAX] {
+            let mut settings = good;
+            *setting(&mut settings) = wrong;
+            agrees(settings);
+        }
     }
 }
 
 #[test]
 fn damaged_memory_is_judged_alike_by_all() {
     let mut verdicts = damage::Verdicts::default();
-    for number in 0..40 {
+    let mut number = 0;
+    while verdicts.memories() < 4000 {
         let plan = damage::Plan::numbered(5, number, 50);
+        number += 1;
         if let Err(failure) = damage::run(&plan, &library::call, &mut verdicts) {
             panic!("{failure}");
         }
     }
     println!("{verdicts}");
-    assert_eq!(verdicts.memories(), 2000);
-    assert!(verdicts.states > 100 && verdicts.no_states > 1000);
+    assert!(verdicts.states > 200 && verdicts.no_states > 2000);
     assert!(verdicts.repairs > 500);
     assert_eq!(verdicts.too_rare(1), []);
+}
+
+/// Every shape with each profile's states.
+#[test]
+fn damaged_memory_of_every_shape_is_judged_alike_by_all() {
+    for shape in SHAPES {
+        let mut verdicts = damage::Verdicts::default();
+        for (seed, profile) in (1..).zip(Profile::ALL) {
+            let scale = Scale { shape, nodes: 4 };
+            let plan = damage::Plan {
+                seed,
+                profile,
+                scale,
+                damaged: scale.share(100).max(10),
+            };
+            if let Err(failure) = damage::run(&plan, &library::call, &mut verdicts) {
+                panic!("{failure}");
+            }
+        }
+        println!("{shape:?}\n{verdicts}");
+        assert!(verdicts.no_states > 30 && verdicts.repairs > 15);
+    }
 }
 
 // Would slips be found? Libraries with one, each found and cut down.
@@ -211,7 +348,8 @@ fn damaged_memory_is_judged_alike_by_all() {
 const SLIPPERY: Plan = Plan {
     seed: 3,
     profile: Profile::Valid,
-    memory_len: 1988 + 52 * 4,
+    shape: Shape::TEN_BYTES,
+    memory_len: 6084 + 52 * 4,
     calls: 20_000,
     ledger_every: 256,
 };
@@ -232,9 +370,9 @@ fn calls_that_remain<D: Desk>(desk: &D) -> Vec<Call> {
 fn a_slip_in_the_ledger_is_found_and_cut_down() {
     let slip = |memory: &mut [u8], call: &Call| {
         let reply = library::call(memory, call)?;
-        if let (Call::Prefetch { .. }, Reply::Entry(_)) = (call, reply) {
+        if let (Call::Prefetch { .. }, Reply::Entry(_)) = (call, &reply) {
             // Arrival credit of port 0 and queue 1, lowest byte.
-            memory[21] = memory[21].wrapping_add(1);
+            memory[4117] = memory[4117].wrapping_add(1);
         }
         Ok(reply)
     };
@@ -251,9 +389,9 @@ fn a_slip_in_an_answer_is_found_and_cut_down() {
         reply => Ok(reply),
     };
     // Setup, ready, and for each of two packets arrive, stitch, prefetch and,
-    // above queue 0, credit.
+    // above queue 0, credit; a round stands for both stitches and prefetches.
     let remaining = calls_that_remain(&slip).len();
-    assert!((8..=10).contains(&remaining), "{remaining} remain");
+    assert!((6..=10).contains(&remaining), "{remaining} remain");
 }
 
 /// Writing one byte past the size.
@@ -276,8 +414,8 @@ fn a_slip_in_the_test_for_a_state_is_found() {
     let slip = |memory: &mut [u8], call: &Call| {
         let kept = memory.to_vec();
         // A last served queue out of range is taken for 0.
-        if memory.len() > 19 && memory[16] > 23 {
-            memory[16] = 0;
+        if memory.len() > 4112 && memory[4112] >= memory[3] {
+            memory[4112] = 0;
         }
         let reply = library::call(memory, call)?;
         if let Reply::Refused(_) | Reply::Idle = reply {
@@ -297,5 +435,5 @@ fn a_slip_in_the_test_for_a_state_is_found() {
     }
     let failure = found.expect("the slip was not found");
     assert_eq!(failure.changes.len(), 1);
-    assert_eq!(failure.changes[0].at, 16);
+    assert_eq!(failure.changes[0].at, 4112);
 }

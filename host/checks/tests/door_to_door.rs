@@ -5,12 +5,7 @@
 use traffic::header;
 use ventorupo::{EntryId, ListKind, Refusal, RoundTurn, Settings, Switch};
 
-const SETTINGS: Settings = Settings {
-    nodes: 25,
-    beat: 64,
-    slots: 2,
-    credit: 16,
-};
+const SETTINGS: Settings = Settings::ten_bytes(25, 64, 2, 16);
 
 /// Where the packet comes in and goes out, by queue 1; 100 bytes cost 2 beats.
 const IN: u32 = 1;
@@ -30,7 +25,7 @@ struct Scene {
 impl Scene {
     /// With so many of its queue in the line, two of them in the slots.
     fn new(in_line: usize) -> Scene {
-        let memory = vec![0; ventorupo::size(SETTINGS.nodes).unwrap()];
+        let memory = vec![0; ventorupo::size(&SETTINGS).unwrap()];
         let mut switch = Switch::setup(memory, SETTINGS).unwrap();
         switch.map(1, OUT).unwrap();
         let mut scene = Scene {

@@ -7,50 +7,49 @@ use std::cell::Cell;
 use checks::changes::{apply, changes};
 use checks::finding::{self, WAYS};
 use checks::night::{Crew, PROVED};
-use checks::reader::{self, Tables};
-use checks::{damage, library};
-use model::{size, Call, Ledger, Model, Reply, Settings, PORTS};
-use traffic::{header, Profile, Random, Traffic};
+use checks::scale::Scale;
+use checks::{damage, library, reader, writer};
+use model::{Call, Ledger, Model, Reply, Settings, Shape};
+use traffic::{plain, Profile, Random, Traffic, SHAPES};
 use ventorupo::calls;
 
-const NODES: [u32; 5] = [1, 2, 16, 256, 2048];
-
-fn settings(nodes: u32) -> Settings {
-    Settings {
-        nodes,
-        beat: 64,
-        slots: 2,
-        credit: 1000,
-    }
+/// The switches that are audited: every shape, and the ten-byte header's with
+/// many nodes too.
+fn scales() -> Vec<Scale> {
+    let small = SHAPES.into_iter().map(|shape| Scale { shape, nodes: 3 });
+    let ten = [1, 2, 16, 256, 2048].map(Scale::ten_bytes);
+    small.chain(ten).collect()
 }
 
 /// Library and model, after setup.
-fn begin(nodes: u32) -> (Vec<u8>, Model) {
-    let (mut memory, mut model) = (vec![0; size(nodes)], Model::new(size(nodes)));
-    make(&mut memory, &mut model, &Call::Setup(settings(nodes)));
+fn begin(scale: &Scale) -> (Vec<u8>, Model) {
+    let (mut memory, mut model) = (vec![0; scale.bytes()], Model::new(scale.bytes()));
+    let settings = Settings::of(scale.shape, scale.nodes, 64, 2, 1000);
+    make(&mut memory, &mut model, &Call::Setup(settings));
     (memory, model)
 }
 
 /// A call on both.
 fn make(memory: &mut [u8], model: &mut Model, call: &Call) -> Reply {
     let reply = model.call(call);
-    assert_eq!(library::call(memory, call), Ok(reply), "{call:?}");
+    assert_eq!(library::call(memory, call).as_ref(), Ok(&reply), "{call:?}");
     reply
 }
 
 /// So many packets at each port, in all lists but the free ones, in turn.
-fn fill(memory: &mut [u8], model: &mut Model, packets: u32) {
-    for port in 0..PORTS {
-        let to = (port + 1) % PORTS;
+fn fill(memory: &mut [u8], model: &mut Model, shape: &Shape, packets: u32) {
+    let Shape { ports, queues, .. } = *shape;
+    for port in 0..ports {
+        let to = (port + 1) % ports;
         make(memory, model, &Call::Map { id: port, port: to });
     }
     for packet in 0..packets {
-        for port in 0..PORTS {
-            let queue = packet % 24;
-            let header = header(port, port, queue, 100, false, false, 0, 0, 0).to_vec();
+        for port in 0..ports {
+            let queue = (packet + port) % queues;
+            let header = plain(shape, port, port, queue, 100);
             let reply = make(memory, model, &Call::Arrive { port, header });
             assert!(matches!(reply, Reply::Entry(_)), "{reply:?}");
-            let to = (port + 1) % PORTS;
+            let to = (port + 1) % ports;
             if packet % 3 > 0 {
                 make(memory, model, &Call::Stitch { port });
             }
@@ -62,8 +61,9 @@ fn fill(memory: &mut [u8], model: &mut Model, packets: u32) {
 }
 
 /// Every node's block of an audit is what where answers for it.
-fn blocks_are_places(memory: &[u8], nodes: u32) {
-    let mut room = vec![0xA7; (8 * PORTS * nodes) as usize];
+fn blocks_are_places(memory: &[u8], scale: &Scale) {
+    let nodes = scale.nodes;
+    let mut room = vec![0xA7; (8 * scale.shape.ports * nodes) as usize];
     assert_eq!(calls::audit(memory, &mut room), 0);
     for (at, block) in (0..).zip(room.chunks_exact(8)) {
         let mut place = [0; 8];
@@ -77,19 +77,20 @@ fn blocks_are_places(memory: &[u8], nodes: u32) {
 /// lengths about the least, and by `where` node for node.
 #[test]
 fn audits_of_empty_half_full_and_full_switches() {
-    for nodes in NODES {
+    for scale in scales() {
+        let Scale { shape, nodes } = scale;
         for packets in [0, nodes / 2, nodes] {
-            let (mut memory, mut model) = begin(nodes);
-            fill(&mut memory, &mut model, packets);
+            let (mut memory, mut model) = begin(&scale);
+            fill(&mut memory, &mut model, &shape, packets);
             let free = |ledger: &Ledger| ledger.ports.iter().map(|p| p.free.len()).sum::<usize>();
             let left = model.ledger().map(free);
-            assert_eq!(left, Some((PORTS * (nodes - packets)) as usize));
-            let enough = 8 * (PORTS * nodes) as usize;
+            assert_eq!(left, Some((shape.ports * (nodes - packets)) as usize));
+            let enough = 8 * (shape.ports * nodes) as usize;
             for room in [0, 7, 8, enough - 1, enough, enough + 1, enough + 4000] {
                 PROVED.audits_into(&memory, &model, room).unwrap();
             }
             assert_eq!(PROVED.finds(&memory), Ok(None));
-            blocks_are_places(&memory, nodes);
+            blocks_are_places(&memory, &scale);
         }
     }
 }
@@ -98,30 +99,32 @@ fn audits_of_empty_half_full_and_full_switches() {
 /// the starting ledger with the map kept, and agree.
 #[test]
 fn traffic_goes_on_after_a_repair() {
-    for (seed, nodes) in (1..).zip([1, 2, 4, 16, 64]) {
-        let (mut memory, mut model) = begin(nodes);
+    let ten = [1, 2, 4, 16, 64].map(Scale::ten_bytes);
+    let wide = SHAPES.into_iter().map(|shape| Scale { shape, nodes: 4 });
+    for (seed, scale) in (1..).zip(ten.into_iter().chain(wide)) {
+        let (mut memory, mut model) = begin(&scale);
         let mut random = Random::new(seed);
-        let mut traffic = Traffic::new(seed, Profile::Valid);
+        let mut traffic = Traffic::of(seed, Profile::Valid, scale.shape);
         let mut repairs = 0;
-        while repairs < 100 {
+        while repairs < scale.share(60) {
             for _ in 0..random.among(1, 60) {
                 let call = traffic.next(&model);
                 make(&mut memory, &mut model, &call);
             }
             let ledger = model.ledger().unwrap();
-            let damage = changes(&mut random, &memory, ledger.settings.nodes as usize);
+            let damage = changes(&mut random, &memory, &ledger.settings);
             // A sound one is repaired too, now and then.
             let damaged = match random.one_in(8) {
                 true => memory.clone(),
                 false => apply(&memory, &damage),
             };
-            let (settings, map) = match reader::repaired(&damaged) {
-                None => continue,
-                Some(_) => settings_and_map(&damaged),
-            };
+            if writer::repaired(&damaged).is_none() {
+                continue;
+            }
+            let repaired = Ledger::repaired(reader::settings(&damaged), reader::map(&damaged));
             memory = damaged;
             assert_eq!(calls::repair(&mut memory), 0);
-            model = Model::with_ledger(memory.len(), Ledger::repaired(settings, map));
+            model = Model::with_ledger(memory.len(), repaired);
             let after = reader::judged(&memory).unwrap();
             assert_eq!(after.ledger(), model.ledger());
             repairs += 1;
@@ -129,23 +132,22 @@ fn traffic_goes_on_after_a_repair() {
     }
 }
 
-fn settings_and_map(memory: &[u8]) -> (Settings, [u32; 4]) {
-    let mapped = Tables::of(0).mapped;
-    (
-        reader::settings(memory),
-        [0, 1, 2, 3].map(|id| mapped.get(memory, id)),
-    )
-}
-
 /// Any bytes at all, of any length: the finding ends, and with (a) mostly.
 #[test]
 fn any_bytes_are_found_alike() {
     let mut random = Random::new(11);
-    for length in (0..40).chain([2039, 2040, 2041, 65_536]).cycle().take(2000) {
+    let lengths = (0..40).chain([4243, 4244, 4245, 6135, 6136, 6137, 65_536]);
+    for length in lengths.cycle().take(2000) {
         let mut bytes: Vec<u8> = (0..length).map(|_| random.word() as u8).collect();
-        // Settings that are right, and the rest anything.
-        if length >= 12 && random.one_in(2) {
-            bytes[..12].copy_from_slice(&[0, 4, 0, 24, 0, 1, 0, 64, 0, 8, 1, 0]);
+        // Settings that are right, and the rest anything: of two editions.
+        let ten = [0, 4, 0, 24, 0, 1, 0, 64, 0, 8, 1, 0, 0, 0, 0, 0];
+        let wide = [0, 2, 0, 2, 0, 1, 0, 64, 0, 8, 1, 0, 0, 1, 0, 0];
+        if length >= 16 && random.one_in(2) {
+            bytes[..16].copy_from_slice(&random.pick(&[ten, wide]));
+        }
+        // And a map that is right.
+        if length >= 4112 && random.one_in(2) {
+            bytes[16..4112].fill(1);
         }
         let judged = reader::judged(&bytes);
         let found = PROVED.agrees(&bytes, length, &judged).unwrap();
@@ -175,7 +177,7 @@ fn a_slip_in_the_test_is_found() {
             "the test says true, the finding is Some(Finding { rule: 'g'",
         ),
         (
-            |memory| rules::is_state(memory) && memory[16] == 0,
+            |memory| rules::is_state(memory) && memory[4112] == 0,
             "the test says false, the finding is None",
         ),
     ] {
@@ -299,22 +301,22 @@ fn a_slip_in_the_repair_is_found() {
             (|memory| {
                 let answer = calls::repair(memory);
                 if answer == 0 {
-                    memory[12] = 0;
+                    memory[17] = 0;
                 }
                 answer
             }) as fn(&mut [u8]) -> u32,
-            "after a repair, answered 0, byte 12",
+            "after a repair, answered 0, byte 17",
         ),
         (
             |memory| {
-                let kept = memory.get(15).copied();
+                let kept = memory.get(4111).copied();
                 let answer = calls::repair(memory);
                 if let (0, Some(4)) = (answer, kept) {
-                    memory[15] = 4;
+                    memory[4111] = 4;
                 }
                 answer
             },
-            "after a repair, answered 0, byte 15 was 0 and is 4",
+            "after a repair, answered 0, byte 4111 was 0 and is 4",
         ),
         (
             |memory| match rules::is_state(memory) {

@@ -1,4 +1,5 @@
-//! The bench program on the model: tagged fields in, lines out.
+//! The bench program on the model: tagged fields in, lines out. It keeps to the
+//! ten-byte header, four ports and 24 queues.
 
 use crate::{Call, Model, Reply, Settings};
 
@@ -43,12 +44,12 @@ fn read_field(bytes: &[u8]) -> Option<(Call, &[u8])> {
 fn read_call(tag: u8, value: &[u8]) -> Option<Call> {
     let two = |high: u8, low: u8| u32::from(u16::from_be_bytes([high, low]));
     let call = match (tag, value) {
-        (1, &[n1, n0, b1, b0, slots, k1, k0]) => Call::Setup(Settings {
-            nodes: two(n1, n0),
-            beat: two(b1, b0),
-            slots: slots.into(),
-            credit: two(k1, k0),
-        }),
+        (1, &[n1, n0, b1, b0, slots, k1, k0]) => Call::Setup(Settings::ten_bytes(
+            two(n1, n0),
+            two(b1, b0),
+            slots.into(),
+            two(k1, k0),
+        )),
         (2, &[port, ref header @ ..]) if header.len() == 10 => Call::Arrive {
             port: port.into(),
             header: header.to_vec(),

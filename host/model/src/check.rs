@@ -1,10 +1,8 @@
 //! When a ledger is sound: rules (a) to (g), each gone through over the whole
 //! ledger before the next. The message starts with the broken rule's letter.
 
-use crate::ledger::{entry_id, index, owner};
-use crate::{
-    price, size, Ledger, ListKind, DESTINATIONS, LONGEST, MOST_CREDIT, PORTS, QUEUES, SHORTEST,
-};
+use crate::ledger::{index, owner};
+use crate::{price, size, Ledger, ListKind, Settings, DESTINATIONS, LONGEST, MOST_CREDIT};
 
 /// A broken rule ends the check with a message.
 macro_rules! rule {
@@ -30,25 +28,30 @@ fn settings(ledger: &Ledger, memory_len: usize) -> Result<(), String> {
     let s = &ledger.settings;
     rule!(s.in_their_rows(), "(a) a setting not in its row: {s:?}");
     rule!(
-        memory_len >= size(s.nodes),
-        "(a) memory of {memory_len} bytes is too short for {} nodes",
-        s.nodes
+        memory_len >= size(s),
+        "(a) memory of {memory_len} bytes is too short for {s:?}"
     );
     Ok(())
 }
 
 /// Rule (b).
 fn ranges(ledger: &Ledger) -> Result<(), String> {
+    let Settings { ports, queues, .. } = ledger.settings;
+    rule!(
+        ledger.map.len() == DESTINATIONS as usize,
+        "(b) {} map entries",
+        ledger.map.len()
+    );
     for (id, &port) in ledger.map.iter().enumerate() {
-        rule!(port < PORTS, "(b) map entry {id} is port {port}");
+        rule!(u32::from(port) < ports, "(b) map entry {id} is port {port}");
     }
     for (port, at) in ledger.ports.iter().enumerate() {
         rule!(
-            at.last_served < QUEUES,
+            at.last_served < queues,
             "(b) port {port} last served queue {}",
             at.last_served
         );
-        for q in 1..QUEUES as usize {
+        for q in 1..queues as usize {
             rule!(
                 at.arrival_credit[q] <= MOST_CREDIT,
                 "(b) port {port} queue {q} has arrival credit {}",
@@ -75,7 +78,7 @@ fn ranges(ledger: &Ledger) -> Result<(), String> {
 /// that is no node stands in any.
 fn every_node_once(ledger: &Ledger) -> Result<(), String> {
     let nodes = ledger.settings.nodes as usize;
-    let mut seen = vec![vec![0u32; nodes]; PORTS as usize];
+    let mut seen = vec![vec![0u32; nodes]; ledger.ports.len()];
     for (kind, list) in ledger.lists() {
         for &entry in list {
             let times = seen
@@ -131,6 +134,8 @@ fn queues_of_lists(ledger: &Ledger) -> Result<(), String> {
 
 /// Rule (f), and that exactly the nodes that aren't free have a record.
 fn records(ledger: &Ledger) -> Result<(), String> {
+    let shape = ledger.settings.shape();
+    let lengths = shape.shortest()..=LONGEST;
     for (kind, list) in ledger.lists() {
         let free = matches!(kind, ListKind::Free { .. });
         for &entry in list {
@@ -142,9 +147,10 @@ fn records(ledger: &Ledger) -> Result<(), String> {
             let (length, queue) = (u32::from(packet.length), u32::from(packet.queue));
             rule!(
                 packet.entry == entry
-                    && (SHORTEST..=LONGEST).contains(&length)
-                    && queue < QUEUES
-                    && u32::from(packet.destination) < DESTINATIONS
+                    && lengths.contains(&length)
+                    && queue < shape.queues
+                    // As wide as the header's field, also where it is no port.
+                    && packet.destination >> shape.port_bits() == 0
                     && packet.price == price(length, queue, ledger.settings.beat),
                 "(f) entry {entry} records {packet:?}"
             );
@@ -155,15 +161,14 @@ fn records(ledger: &Ledger) -> Result<(), String> {
 
 /// Rule (g).
 fn arrival_credit(ledger: &Ledger) -> Result<(), String> {
-    for port in 0..PORTS {
-        let at = &ledger.ports[port as usize];
-        for queue in 1..QUEUES {
-            let out: u32 = (0..ledger.settings.nodes)
-                .filter_map(|node| ledger.packet(entry_id(port, node)))
-                .filter(|packet| u32::from(packet.queue) == queue)
-                .map(|packet| packet.price)
-                .sum();
-            let held = at.arrival_credit[queue as usize];
+    for (port, at) in ledger.ports.iter().enumerate() {
+        // By queue, of this port's nodes wherever they stand.
+        let mut out = vec![0; at.arrival_credit.len()];
+        for packet in at.packets.iter().flatten() {
+            out[usize::from(packet.queue)] += packet.price;
+        }
+        for queue in 1..out.len() {
+            let (held, out) = (at.arrival_credit[queue], out[queue]);
             rule!(
                 held + out == ledger.settings.credit,
                 "(g) port {port} queue {queue}: arrival credit {held} and prices {out} aren't {}",

@@ -1,37 +1,135 @@
-//! The ten-byte header, read.
+//! Headers of every shape, read and written: a header is one number of 80 to 96
+//! bits, and its fields are taken off its upper end one after the other.
 
 use crate::checksum::crc8;
+use crate::{Shape, LONGEST};
 
-/// A header's fields, as they stand there.
-#[derive(Debug, Clone, Copy, PartialEq, Eq)]
+/// A header's fields. Reserved bits and checksum are fixed by these.
+#[derive(Debug, Clone, Copy, PartialEq, Eq, Default)]
 pub struct Header {
-    pub destination: u8,
-    pub source: u8,
-    /// 0 to 31, and so also ones that no switch has.
-    pub queue: u8,
-    pub length: u16,
-    pub poisoned: bool,
-    pub reserved: bool,
+    pub destination: u32,
+    pub source: u32,
+    pub queue: u32,
+    /// Header, data and footer, in bytes.
+    pub length: u32,
+    /// 0 or 1.
+    pub poisoned: u32,
     pub timestamp: u32,
-    pub offered: u8,
-    pub transaction: u8,
-    /// Does byte 9 fit bytes 0 to 8?
-    pub checksum_fits: bool,
+    /// Credits on offer.
+    pub credit: u32,
+    pub transaction: u32,
 }
 
-/// Read ten bytes as a header.
-pub fn read(bytes: &[u8; 10]) -> Header {
-    let [b0, b1, b2, ..] = bytes.map(u16::from);
-    Header {
-        destination: (b0 >> 6) as u8,
-        source: (b0 >> 4 & 0b11) as u8,
-        queue: ((b0 & 0b1111) << 1 | b1 >> 7) as u8,
-        length: (b1 & 0b111_1111) << 6 | b2 >> 2,
-        poisoned: b2 & 0b10 != 0,
-        reserved: b2 & 0b01 != 0,
-        timestamp: u32::from_be_bytes([bytes[3], bytes[4], bytes[5], bytes[6]]),
-        offered: bytes[7],
-        transaction: bytes[8],
-        checksum_fits: crc8(&bytes[..9]) == bytes[9],
+/// A number whose upper bits are taken off.
+struct Bits {
+    number: u128,
+    left: u32,
+}
+
+impl Bits {
+    /// The next so many bits.
+    fn take(&mut self, width: u32) -> u32 {
+        self.left -= width;
+        (self.number >> self.left & ((1 << width) - 1)) as u32
     }
+}
+
+/// The header in some bytes, for a shape in its rows: 6, 7, 20, 9, 19 and, where
+/// it arrives at a port, 8 after 20. The error is the refusal's number.
+pub(crate) fn judged(shape: &Shape, bytes: &[u8], port: Option<u32>) -> Result<Header, u8> {
+    if bytes.len() != shape.header_bytes() {
+        return Err(6);
+    }
+    let mut bits = Bits {
+        number: bytes
+            .iter()
+            .fold(0, |all, &byte| all << 8 | u128::from(byte)),
+        left: 8 * bytes.len() as u32,
+    };
+    let destination = bits.take(shape.port_bits());
+    let source = bits.take(shape.port_bits());
+    let queue = bits.take(shape.queue_bits());
+    let length = bits.take(13);
+    let poisoned = bits.take(1);
+    let reserved = bits.take(shape.reserved_bits());
+    let timestamp = bits.take(32);
+    let credit = bits.take(shape.credit_bits());
+    let transaction = bits.take(8);
+    let checksum = bits.take(8);
+    if u32::from(crc8(&bytes[..bytes.len() - 1])) != checksum {
+        return Err(7);
+    }
+    if reserved != 0 {
+        return Err(20);
+    }
+    // A source that fits its field and is no port is nobody's.
+    if port.map_or(false, |port| port != source) {
+        return Err(8);
+    }
+    if length < shape.shortest() {
+        return Err(9);
+    }
+    if queue >= shape.queues {
+        return Err(19);
+    }
+    Ok(Header {
+        destination,
+        source,
+        queue,
+        length,
+        poisoned,
+        timestamp,
+        credit,
+        transaction,
+    })
+}
+
+/// The reader: 2, then as above. The error is the refusal's number.
+pub fn read(shape: &Shape, bytes: &[u8]) -> Result<Header, u8> {
+    if !shape.in_its_rows() {
+        return Err(2);
+    }
+    judged(shape, bytes, None)
+}
+
+/// Does every value fit its field, and would the reader take them?
+fn fits(shape: &Shape, header: &Header) -> bool {
+    let within = |number: u32, width: u32| u64::from(number) < 1 << width;
+    within(header.destination, shape.port_bits())
+        && within(header.source, shape.port_bits())
+        && header.queue < shape.queues
+        && (shape.shortest()..=LONGEST).contains(&header.length)
+        && within(header.poisoned, 1)
+        && within(header.credit, shape.credit_bits())
+        && within(header.transaction, 8)
+}
+
+/// The writer: the header's bytes, with their checksum. The error is the
+/// refusal's number, 2 or 21.
+pub fn write(shape: &Shape, header: &Header) -> Result<Vec<u8>, u8> {
+    if !shape.in_its_rows() {
+        return Err(2);
+    }
+    if !fits(shape, header) {
+        return Err(21);
+    }
+    let fields = [
+        (header.destination, shape.port_bits()),
+        (header.source, shape.port_bits()),
+        (header.queue, shape.queue_bits()),
+        (header.length, 13),
+        (header.poisoned, 1),
+        (0, shape.reserved_bits()),
+        (header.timestamp, 32),
+        (header.credit, shape.credit_bits()),
+        (header.transaction, 8),
+    ];
+    let number = fields.iter().fold(0u128, |number, &(field, width)| {
+        number << width | u128::from(field)
+    });
+    // The checksum is the last byte.
+    let size = shape.header_bytes();
+    let mut bytes = number.to_be_bytes()[16 - (size - 1)..].to_vec();
+    bytes.push(crc8(&bytes));
+    Ok(bytes)
 }

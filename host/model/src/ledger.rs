@@ -6,7 +6,7 @@ use std::collections::VecDeque;
 use crate::header;
 use crate::{
     price, Choice, ListKind, Packet, Reply, Settings, Side, DESTINATIONS, ENTRIES_PER_PORT,
-    MOST_CREDIT, PLACE_BYTES, PORTS, QUEUES, ROUND_BYTES, SHORTEST,
+    MOST_CREDIT, PLACE_BYTES,
 };
 
 /// What the ledger holds for one port. Lists run from the oldest (front) to
@@ -15,12 +15,13 @@ use crate::{
 pub struct Port {
     pub free: VecDeque<u16>,
     pub ingress: VecDeque<u16>,
-    pub egress: [VecDeque<u16>; QUEUES as usize],
-    pub prefetch: [VecDeque<u16>; QUEUES as usize],
+    /// By queue, as the prefetch lists and the credits.
+    pub egress: Vec<VecDeque<u16>>,
+    pub prefetch: Vec<VecDeque<u16>>,
     /// Cell 0 is no part of the ledger and stays 0: queue 0 has no credit.
-    pub arrival_credit: [u32; QUEUES as usize],
+    pub arrival_credit: Vec<u32>,
     /// Cell 0 as above.
-    pub outward_credit: [u32; QUEUES as usize],
+    pub outward_credit: Vec<u32>,
     pub last_served: u32,
     /// By node index; none exactly while the node is free.
     pub packets: Vec<Option<Packet>>,
@@ -30,9 +31,9 @@ pub struct Port {
 #[derive(Debug, Clone, PartialEq, Eq)]
 pub struct Ledger {
     pub settings: Settings,
-    pub ports: [Port; PORTS as usize],
-    /// From destination id to port.
-    pub map: [u32; DESTINATIONS as usize],
+    pub ports: Vec<Port>,
+    /// From destination id to port, 4,096 of them.
+    pub map: Vec<u8>,
 }
 
 /// The entry id of a port's node.
@@ -52,26 +53,19 @@ pub fn index(entry: u16) -> usize {
 
 impl Port {
     fn starting(port: u32, settings: &Settings) -> Port {
-        let mut arrival_credit = [settings.credit; QUEUES as usize];
+        let queues = settings.queues as usize;
+        let mut arrival_credit = vec![settings.credit; queues];
         arrival_credit[0] = 0;
         Port {
             free: (0..settings.nodes).map(|i| entry_id(port, i)).collect(),
             ingress: VecDeque::new(),
-            egress: Default::default(),
-            prefetch: Default::default(),
+            egress: vec![VecDeque::new(); queues],
+            prefetch: vec![VecDeque::new(); queues],
             arrival_credit,
-            outward_credit: [0; QUEUES as usize],
-            last_served: QUEUES - 1,
+            outward_credit: vec![0; queues],
+            last_served: settings.queues - 1,
             packets: vec![None; settings.nodes as usize],
         }
-    }
-}
-
-fn port_in_range(port: u32) -> Result<usize, u8> {
-    if port < PORTS {
-        Ok(port as usize)
-    } else {
-        Err(4)
     }
 }
 
@@ -80,17 +74,29 @@ impl Ledger {
     pub fn starting(settings: Settings) -> Ledger {
         Ledger {
             settings,
-            ports: std::array::from_fn(|port| Port::starting(port as u32, &settings)),
-            map: [0; DESTINATIONS as usize],
+            ports: (0..settings.ports)
+                .map(|port| Port::starting(port, &settings))
+                .collect(),
+            map: vec![0; DESTINATIONS as usize],
         }
     }
 
     /// The ledger that a repair writes: the starting one with the map kept,
     /// entries above the last port set to 0.
-    pub fn repaired(settings: Settings, map: [u32; DESTINATIONS as usize]) -> Ledger {
+    pub fn repaired(settings: Settings, map: &[u8]) -> Ledger {
+        let kept = |&port: &u8| u32::from(port) < settings.ports;
+        let entry = |port: &u8| if kept(port) { *port } else { 0 };
         Ledger {
-            map: map.map(|port| if port < PORTS { port } else { 0 }),
+            map: map.iter().map(entry).collect(),
             ..Ledger::starting(settings)
+        }
+    }
+
+    fn port_in_range(&self, port: u32) -> Result<usize, u8> {
+        if port < self.settings.ports {
+            Ok(port as usize)
+        } else {
+            Err(4)
         }
     }
 
@@ -110,30 +116,10 @@ impl Ledger {
     }
 
     pub(crate) fn arrive(&mut self, port: u32, bytes: &[u8]) -> Result<Reply, u8> {
-        let p = port_in_range(port)?;
-        let bytes: &[u8; 10] = bytes.try_into().map_err(|_| 6)?;
-        let header = header::read(bytes);
-        if !header.checksum_fits {
-            return Err(7);
-        }
-        if header.reserved {
-            return Err(20);
-        }
-        if u32::from(header.source) != port {
-            return Err(8);
-        }
-        if u32::from(header.length) < SHORTEST {
-            return Err(9);
-        }
-        if u32::from(header.queue) >= QUEUES {
-            return Err(19);
-        }
+        let p = self.port_in_range(port)?;
+        let header = header::judged(&self.settings.shape(), bytes, Some(port))?;
         let queue = header.queue as usize;
-        let price = price(
-            header.length.into(),
-            header.queue.into(),
-            self.settings.beat,
-        );
+        let price = price(header.length, header.queue, self.settings.beat);
         let at = &mut self.ports[p];
         // Queue 0 costs nothing, so its cell, always 0, covers it.
         if price > at.arrival_credit[queue] {
@@ -142,12 +128,12 @@ impl Ledger {
         let entry = at.free.pop_front().ok_or(11)?;
         at.packets[index(entry)] = Some(Packet {
             entry,
-            length: header.length,
-            queue: header.queue,
-            destination: header.destination,
+            length: header.length as u16,
+            queue: header.queue as u8,
+            destination: header.destination as u8,
             timestamp: header.timestamp,
-            poisoned: header.poisoned,
-            transaction: header.transaction,
+            poisoned: header.poisoned == 1,
+            transaction: header.transaction as u8,
             price,
         });
         at.arrival_credit[queue] -= price;
@@ -156,7 +142,7 @@ impl Ledger {
     }
 
     pub(crate) fn stitch(&mut self, port: u32) -> Result<Reply, u8> {
-        let p = port_in_range(port)?;
+        let p = self.port_in_range(port)?;
         let entry = self.ports[p].ingress.pop_front().ok_or(12)?;
         let packet = *self.recorded(entry);
         // The map is read now, not on arrival.
@@ -167,14 +153,14 @@ impl Ledger {
         record[0..2].copy_from_slice(&entry.to_be_bytes());
         record[2..4].copy_from_slice(&packet.length.to_be_bytes());
         record[4] = packet.queue;
-        record[5] = mapped as u8;
+        record[5] = mapped;
         record[6..10].copy_from_slice(&packet.timestamp.to_be_bytes());
         Ok(Reply::Stitched(record))
     }
 
     pub(crate) fn prefetch(&mut self, port: u32, queue: u32) -> Result<Reply, u8> {
-        let p = port_in_range(port)?;
-        if queue >= QUEUES {
+        let p = self.port_in_range(port)?;
+        if queue >= self.settings.queues {
             return Err(5);
         }
         let q = queue as usize;
@@ -192,8 +178,8 @@ impl Ledger {
     }
 
     pub(crate) fn credit(&mut self, port: u32, queue: u32, amount: u32) -> Result<Reply, u8> {
-        let p = port_in_range(port)?;
-        if queue == 0 || queue >= QUEUES {
+        let p = self.port_in_range(port)?;
+        if queue == 0 || queue >= self.settings.queues {
             return Err(5);
         }
         let held = &mut self.ports[p].outward_credit[queue as usize];
@@ -211,13 +197,13 @@ impl Ledger {
         if id >= DESTINATIONS {
             return Err(15);
         }
-        port_in_range(port)?;
-        self.map[id as usize] = port;
+        self.port_in_range(port)?;
+        self.map[id as usize] = port as u8;
         Ok(Reply::Done)
     }
 
     pub(crate) fn turn(&mut self, port: u32, choice: Choice) -> Result<Reply, u8> {
-        let p = port_in_range(port)?;
+        let p = self.port_in_range(port)?;
         let chosen = match choice {
             Choice::WholeWord => pick(self.ready_word(p), self.ports[p].last_served),
             Choice::EarlyOut => self.first_ready(p),
@@ -250,14 +236,14 @@ impl Ledger {
     }
 
     pub(crate) fn ready(&self, port: u32) -> Result<Reply, u8> {
-        let word = self.ready_word(port_in_range(port)?);
+        let word = self.ready_word(self.port_in_range(port)?);
         Ok(Reply::Word(word, word.count_ones()))
     }
 
     pub(crate) fn find(&self, entry: u32) -> Result<Reply, u8> {
         let port = entry / ENTRIES_PER_PORT;
         let index = entry % ENTRIES_PER_PORT;
-        if port >= PORTS || index >= self.settings.nodes {
+        if port >= self.settings.ports || index >= self.settings.nodes {
             return Err(15);
         }
         let (kind, position) = self
@@ -269,11 +255,12 @@ impl Ledger {
     /// Every node's place, port by port and index by index.
     pub(crate) fn places(&self) -> Vec<u8> {
         let nodes = self.settings.nodes as usize;
-        let mut places = vec![0; PLACE_BYTES * PORTS as usize * nodes];
+        let mut places = vec![0; PLACE_BYTES * self.ports.len() * nodes];
         for (kind, list) in self.lists() {
-            for (position, &entry) in (0..).zip(list) {
+            for (position, &entry) in list.iter().enumerate() {
+                let told = told_place(entry, kind, position as u16);
                 let at = PLACE_BYTES * (owner(entry) * nodes + index(entry));
-                places[at..at + PLACE_BYTES].copy_from_slice(&told_place(entry, kind, position));
+                places[at..at + PLACE_BYTES].copy_from_slice(&told);
             }
         }
         places
@@ -282,23 +269,21 @@ impl Ledger {
     /// One stitch at each port in order, then one prefetch for each port and
     /// queue, then one turn at each port.
     pub(crate) fn round(&mut self, room: usize, choice: Choice) -> Result<Reply, u8> {
-        if room < ROUND_BYTES {
+        let Settings { ports, queues, .. } = self.settings;
+        if room < self.settings.shape().round_bytes() {
             return Err(27);
         }
         // Refusals inside are passed over: the first two kinds are told nowhere.
-        for port in 0..PORTS {
+        for port in 0..ports {
             let _ = self.stitch(port);
         }
-        for port in 0..PORTS {
-            for queue in 0..QUEUES {
+        for port in 0..ports {
+            for queue in 0..queues {
                 let _ = self.prefetch(port, queue);
             }
         }
-        let mut turns = [0; ROUND_BYTES];
-        for (port, told) in (0..PORTS).zip(turns.chunks_exact_mut(4)) {
-            told.copy_from_slice(&told_turn(self.turn(port, choice)));
-        }
-        Ok(Reply::Turns(turns))
+        let turns = (0..ports).flat_map(|port| told_turn(self.turn(port, choice)));
+        Ok(Reply::Turns(turns.collect()))
     }
 
     /// Is this queue of the port ready for a turn?
@@ -313,7 +298,7 @@ impl Ledger {
 
     /// The ready word: bit q for queue q.
     fn ready_word(&self, p: usize) -> u64 {
-        (0..QUEUES as usize)
+        (0..self.settings.queues as usize)
             .filter(|&q| self.is_ready(p, q))
             .fold(0, |word, q| word | 1 << q)
     }
@@ -322,7 +307,7 @@ impl Ledger {
     /// from 0 up to the last served itself.
     fn first_ready(&self, p: usize) -> Option<u32> {
         let last = self.ports[p].last_served;
-        (last + 1..QUEUES)
+        (last + 1..self.settings.queues)
             .chain(0..=last)
             .find(|&queue| self.is_ready(p, queue as usize))
     }
@@ -381,7 +366,9 @@ fn told_place(entry: u16, kind: ListKind, position: u16) -> [u8; PLACE_BYTES] {
 /// The lowest set bit above the last served queue or, if there is none, the
 /// lowest set bit of all.
 pub(crate) fn pick(word: u64, last_served: u32) -> Option<u32> {
-    let above = word >> (last_served + 1) << (last_served + 1);
+    // The last served queue's bit and all below it; above bit 63 there is none.
+    let not_above = u64::MAX >> (63 - last_served);
+    let above = word & !not_above;
     if above != 0 {
         Some(above.trailing_zeros())
     } else if word != 0 {

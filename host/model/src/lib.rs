@@ -1,5 +1,5 @@
 //! An independent model of the queue manager, written from papers 01 and 02
-//! (requests) alone.
+//! (requests) alone.
 //!
 //! The model keeps plain lists and numbers; it has no memory image. The
 //! caller's memory is only a length here, so that setup can refuse a short one.
@@ -11,61 +11,37 @@ mod check;
 pub mod checksum;
 pub mod header;
 pub mod ledger;
+mod shape;
 #[cfg(test)]
 mod tests;
 
 pub use ledger::{Ledger, Port};
+pub use shape::{Settings, Shape, TEN_BYTES, WIDE};
 
-/// Ports 0 to 3.
-pub const PORTS: u32 = 4;
-/// Queues 0 to 23 of each port.
-pub const QUEUES: u32 = 24;
-/// Destination ids 0 to 3.
-pub const DESTINATIONS: u32 = 4;
+/// The most ports.
+pub const MOST_PORTS: u32 = 32;
+/// The most queues of each port.
+pub const MOST_QUEUES: u32 = 64;
+/// Destination ids 0 to 4,095, whatever the header has room for.
+pub const DESTINATIONS: u32 = 4096;
 /// The step between the entry ids of two ports.
 pub const ENTRIES_PER_PORT: u32 = 2048;
 /// The most nodes per port: as many as there are entry ids.
 pub const MOST_NODES: u32 = ENTRIES_PER_PORT;
 /// The most that a credit can hold.
 pub const MOST_CREDIT: u32 = 65_535;
-/// Header and footer, without data: the shortest packet.
-pub const SHORTEST: u32 = 12;
+/// The footer's bytes.
+pub const FOOTER: u32 = 2;
 /// The most that 13 bits of length can say.
 pub const LONGEST: u32 = 8191;
-
-/// The bytes that a round writes: four for each port's turn.
-pub const ROUND_BYTES: usize = 4 * PORTS as usize;
 
 /// The bytes that an audit writes for each node.
 pub const PLACE_BYTES: usize = 8;
 
 /// The numbers of the refusals.
-pub const REFUSALS: [u8; 18] = [
-    1, 2, 3, 4, 5, 6, 7, 8, 9, 10, 11, 12, 13, 14, 15, 19, 20, 27,
+pub const REFUSALS: [u8; 19] = [
+    1, 2, 3, 4, 5, 6, 7, 8, 9, 10, 11, 12, 13, 14, 15, 19, 20, 21, 27,
 ];
-
-/// The settings, fixed at setup.
-#[derive(Debug, Clone, Copy, PartialEq, Eq)]
-pub struct Settings {
-    /// N, nodes per port.
-    pub nodes: u32,
-    /// Beat in bytes.
-    pub beat: u32,
-    /// D, prefetch slots per queue.
-    pub slots: u32,
-    /// K, arrival credit per port and queue, in beats.
-    pub credit: u32,
-}
-
-impl Settings {
-    /// Is every setting in its row of the paper's table?
-    pub fn in_their_rows(&self) -> bool {
-        (1..=MOST_NODES).contains(&self.nodes)
-            && [64, 128, 256, 512].contains(&self.beat)
-            && (1..=8).contains(&self.slots)
-            && self.credit <= MOST_CREDIT
-    }
-}
 
 /// The calls. Numbers are wide, so that a caller can hand in any number.
 #[derive(Debug, Clone, PartialEq, Eq)]
@@ -107,7 +83,7 @@ pub enum Call {
 }
 
 /// The answers.
-#[derive(Debug, Clone, Copy, PartialEq, Eq)]
+#[derive(Debug, Clone, PartialEq, Eq)]
 pub enum Reply {
     /// The refusal's number in the paper's table.
     Refused(u8),
@@ -126,7 +102,7 @@ pub enum Reply {
     /// Where: the node's list and the position in it, from 0.
     Found(ListKind, u32),
     /// Round: the bytes for each port's turn.
-    Turns([u8; ROUND_BYTES]),
+    Turns(Vec<u8>),
 }
 
 /// Everything recorded for a node that isn't free, with its entry id.
@@ -169,9 +145,15 @@ pub enum Choice {
     EarlyOut,
 }
 
-/// The bytes of lent memory that a state for `nodes` nodes per port needs.
-pub fn size(nodes: u32) -> usize {
-    1988 + 52 * nodes as usize
+/// The bytes of lent memory that a state of these settings needs.
+pub fn size(settings: &Settings) -> usize {
+    let [ports, queues, nodes] =
+        [settings.ports, settings.queues, settings.nodes].map(|number| number as usize);
+    let beside = 16 + DESTINATIONS as usize;
+    // Its mark; for each queue above 0 two credits, and for each list head, tail
+    // and count.
+    let each_port = 1 + 4 * (queues - 1) + 8 * (2 + 2 * queues);
+    beside + ports * (each_port + 13 * nodes)
 }
 
 /// The price of a packet in beats: its length, rounded up; queue 0 is free.
@@ -286,7 +268,7 @@ impl Model {
         if !settings.in_their_rows() {
             return Err(2);
         }
-        if self.memory_len < size(settings.nodes) {
+        if self.memory_len < size(&settings) {
             return Err(1);
         }
         self.ledger = Some(Ledger::starting(settings));

@@ -1,29 +1,51 @@
 //! The paper's cards, price cases, whole bench case and slips, and the
-//! refusals' order.
+//! refusals' order, of a switch with the ten-byte header; those of the others
+//! are in `wide`.
+
+mod wide;
 
 use crate::bench::bench;
 use crate::checksum::crc8;
+use crate::header::Header;
 use crate::ledger::pick;
-use crate::{header, price, size, Call, Choice, ListKind, Model, Packet, Reply, Settings, Side};
+use crate::{
+    header, price, size, Call, Choice, ListKind, Model, Packet, Reply, Settings, Shape, Side,
+};
 
-/// A header written as one number, field after field, unlike the reader.
-fn written(dest: u128, source: u128, queue: u128, length: u128) -> [u8; 10] {
+/// Fields of these widths written digit by digit, and the checksum behind them:
+/// unlike the model's writer.
+fn digits(fields: &[(u64, usize)]) -> Vec<u8> {
+    let mut digits = String::new();
+    for &(field, width) in fields {
+        assert!(field < 1 << width);
+        // Of no width, no digit, and not a 0.
+        if width > 0 {
+            digits += &format!("{field:0width$b}");
+        }
+    }
+    assert_eq!(digits.len() % 8, 0);
+    let byte = |at: usize| u8::from_str_radix(&digits[at..at + 8], 2).unwrap();
+    let mut bytes: Vec<u8> = (0..digits.len()).step_by(8).map(byte).collect();
+    bytes.push(remainder(&bytes));
+    bytes
+}
+
+fn written(dest: u64, source: u64, queue: u64, length: u64) -> [u8; 10] {
     written_fully(dest, source, queue, length, 0, 0, 0, 0)
 }
 
 #[allow(clippy::too_many_arguments)]
 fn written_fully(
-    dest: u128,
-    source: u128,
-    queue: u128,
-    length: u128,
-    flags: u128,
-    timestamp: u128,
-    offered: u128,
-    transaction: u128,
+    dest: u64,
+    source: u64,
+    queue: u64,
+    length: u64,
+    flags: u64,
+    timestamp: u64,
+    offered: u64,
+    transaction: u64,
 ) -> [u8; 10] {
-    let mut number = 0u128;
-    for (field, width) in [
+    let bytes = digits(&[
         (dest, 2),
         (source, 2),
         (queue, 5),
@@ -32,14 +54,13 @@ fn written_fully(
         (timestamp, 32),
         (offered, 8),
         (transaction, 8),
-    ] {
-        assert!(field < 1 << width);
-        number = number << width | field;
-    }
-    let mut bytes = [0; 10];
-    bytes[..9].copy_from_slice(&number.to_be_bytes()[7..]);
-    bytes[9] = remainder(&bytes[..9]);
-    bytes
+    ]);
+    bytes.try_into().unwrap()
+}
+
+/// The reader of the ten-byte header.
+fn read(bytes: &[u8]) -> Result<Header, u8> {
+    header::read(&Shape::TEN_BYTES, bytes)
 }
 
 /// The checksum by long division of one number, unlike the model's.
@@ -54,19 +75,19 @@ fn remainder(bytes: &[u8]) -> u8 {
     number as u8
 }
 
-const SMALL: Settings = Settings {
-    nodes: 8,
-    beat: 64,
-    slots: 4,
-    credit: 16,
-};
+const SMALL: Settings = Settings::ten_bytes(8, 64, 4, 16);
+
+/// The bytes of a ten-byte state of so many nodes a port.
+fn ten_bytes_size(nodes: u32) -> usize {
+    size(&Settings { nodes, ..SMALL })
+}
 
 /// A model and short words for its calls.
 struct Desk(Model);
 
 impl Desk {
     fn new(settings: Settings) -> Desk {
-        let mut model = Model::new(size(settings.nodes));
+        let mut model = Model::new(size(&settings));
         assert_eq!(model.call(&Call::Setup(settings)), Reply::Done);
         Desk(model)
     }
@@ -126,16 +147,18 @@ impl Desk {
     }
 
     /// What a round tells of each port's turn: the entry id, or none if idle.
-    fn round(&mut self) -> [Option<u16>; 4] {
-        let turns = match self.call(Call::Round { room: vec![9; 16] }) {
+    fn round(&mut self) -> Vec<Option<u16>> {
+        let room = vec![9; 4 * self.ledger().ports.len()];
+        let turns = match self.call(Call::Round { room }) {
             Reply::Turns(turns) => turns,
             other => panic!("{other:?}"),
         };
-        [0, 4, 8, 12].map(|at| match turns[at..at + 4] {
+        let told = |turn: &[u8]| match *turn {
             [0, 1, 0, 0] => None,
             [0, 0, high, low] => Some(u16::from(high) << 8 | u16::from(low)),
             _ => panic!("{turns:?}"),
-        })
+        };
+        turns.chunks(4).map(told).collect()
     }
 
     /// A packet for port 0 from port 0, up to the prefetch list.
@@ -190,41 +213,43 @@ fn checksum_is_the_remainder_of_the_long_division() {
 #[test]
 fn header_fields_are_read_back() {
     let bytes = written_fully(2, 1, 19, 5000, 0b10, 0x01020304, 77, 99);
-    let read = header::read(&bytes);
-    let wanted = header::Header {
+    let wanted = Header {
         destination: 2,
         source: 1,
         queue: 19,
         length: 5000,
-        poisoned: true,
-        reserved: false,
+        poisoned: 1,
         timestamp: 0x01020304,
-        offered: 77,
+        credit: 77,
         transaction: 99,
-        checksum_fits: true,
     };
-    assert_eq!(read, wanted);
+    assert_eq!(read(&bytes), Ok(wanted));
+    assert_eq!(header::write(&Shape::TEN_BYTES, &wanted).unwrap(), bytes);
 }
 
 #[test]
 fn header_widths_hold_over_all_values() {
-    for dest in 0..4 {
-        for source in 0..4 {
-            for queue in 0..32 {
-                for length in [0, 1, 12, 63, 64, 4095, 4096, 8191] {
-                    for flags in 0..4 {
-                        let bytes =
-                            written_fully(dest, source, queue, length, flags, 0xFFFF_FFFF, 0, 0);
-                        let read = header::read(&bytes);
-                        assert_eq!(u128::from(read.destination), dest);
-                        assert_eq!(u128::from(read.source), source);
-                        assert_eq!(u128::from(read.queue), queue);
-                        assert_eq!(u128::from(read.length), length);
-                        assert_eq!(read.poisoned, flags & 2 == 2);
-                        assert_eq!(read.reserved, flags & 1 == 1);
-                        assert_eq!(read.timestamp, u32::MAX);
-                        assert!(read.checksum_fits);
-                    }
+    for (dest, source) in (0..4).flat_map(|dest| (0..4).map(move |source| (dest, source))) {
+        for queue in 0..32 {
+            for length in [0, 1, 11, 12, 63, 64, 4095, 4096, 8191] {
+                for flags in 0..4 {
+                    let bytes =
+                        written_fully(dest, source, queue, length, flags, u32::MAX.into(), 0, 0);
+                    let wanted = match (flags & 1, length, queue) {
+                        (1, ..) => Err(20),
+                        (_, 0..=11, _) => Err(9),
+                        (.., 24..) => Err(19),
+                        _ => Ok(Header {
+                            destination: dest as u32,
+                            source: source as u32,
+                            queue: queue as u32,
+                            length: length as u32,
+                            poisoned: flags as u32 >> 1,
+                            timestamp: u32::MAX,
+                            ..Header::default()
+                        }),
+                    };
+                    assert_eq!(read(&bytes), wanted);
                 }
             }
         }
@@ -289,7 +314,7 @@ fn above_queue_0_nothing_is_free() {
 #[test]
 fn card_ten_zero_bytes() {
     let mut desk = Desk::new(SMALL);
-    assert!(header::read(&[0; 10]).checksum_fits);
+    assert_eq!(read(&[0; 10]), Err(9));
     assert_eq!(desk.arrive(0, &[0; 10]), Reply::Refused(9));
     assert_eq!(desk.arrive(1, &[0; 10]), Reply::Refused(8));
 }
@@ -311,13 +336,17 @@ fn card_shortest_packet_accepted() {
 
 #[test]
 fn card_first_bytes() {
-    assert_eq!(written(1, 2, 23, 8191)[..3], [0x6B, 0xFF, 0xFC]);
-    let read = header::read(&[0x6B, 0xFF, 0xFC, 0, 0, 0, 0, 0, 0, 0]);
-    assert_eq!(
-        (read.destination, read.source, read.queue, read.length),
-        (1, 2, 23, 8191)
-    );
-    assert!(!read.poisoned);
+    let card = Header {
+        destination: 1,
+        source: 2,
+        queue: 23,
+        length: 8191,
+        ..Header::default()
+    };
+    let bytes = header::write(&Shape::TEN_BYTES, &card).unwrap();
+    assert_eq!(bytes[..3], [0x6B, 0xFF, 0xFC]);
+    assert_eq!(bytes, written(1, 2, 23, 8191));
+    assert_eq!(read(&bytes), Ok(card));
 }
 
 #[test]
@@ -384,8 +413,8 @@ fn card_nodes_per_port() {
         (0, Reply::Refused(2)),
         (2049, Reply::Refused(2)),
         // The most that 65,536 bytes are enough for.
-        (1222, Reply::Done),
-        (1223, Reply::Refused(1)),
+        (1143, Reply::Done),
+        (1144, Reply::Refused(1)),
         (2048, Reply::Refused(1)),
     ] {
         assert_eq!(desk.setup(Settings { nodes, ..SMALL }), wanted);
@@ -496,7 +525,7 @@ fn everything_but_setup_is_refused_before_setup() {
 
 #[test]
 fn setup_takes_exactly_the_settings_in_their_rows() {
-    let mut desk = Desk(Model::new(size(2048)));
+    let mut desk = Desk(Model::new(ten_bytes_size(2048)));
     let huge = [70_000, 65_536, 65_537, 4096 + 64, u32::MAX];
     for nodes in (0..=2100).chain(huge) {
         let good = (1..=2048).contains(&nodes);
@@ -529,10 +558,11 @@ fn setup_takes_exactly_the_settings_in_their_rows() {
 fn setup_tests_settings_then_memory() {
     for nodes in [1, 2, 100, 256, 257, 1000, 2048] {
         let more = 64 * (nodes as usize).saturating_sub(256);
-        assert!(size(nodes) <= 65_536 + more);
         let settings = Settings { nodes, ..SMALL };
+        let size = size(&settings);
+        assert!(size <= 65_536 + more);
         let call = Call::Setup(settings);
-        let mut short = Model::new(size(nodes) - 1);
+        let mut short = Model::new(size - 1);
         assert_eq!(short.call(&call), Reply::Refused(1));
         assert_eq!(short.call(&Call::Turn { port: 0 }), Reply::Refused(3));
         let bad = Call::Setup(Settings {
@@ -540,7 +570,7 @@ fn setup_tests_settings_then_memory() {
             ..settings
         });
         assert_eq!(short.call(&bad), Reply::Refused(2));
-        assert_eq!(Model::new(size(nodes)).call(&call), Reply::Done);
+        assert_eq!(Model::new(size).call(&call), Reply::Done);
         assert_eq!(Model::new(0).call(&call), Reply::Refused(1));
     }
     assert_eq!(
@@ -554,7 +584,7 @@ fn setup_tests_settings_then_memory() {
 
 #[test]
 fn setup_starts_anew_but_a_refused_one_leaves_the_older_state() {
-    let mut desk = Desk(Model::new(size(8)));
+    let mut desk = Desk(Model::new(ten_bytes_size(8)));
     desk.setup(SMALL);
     let fresh = desk.0.clone();
     desk.map(2, 3);
@@ -618,7 +648,7 @@ fn the_other_calls_test_in_table_order() {
         assert_eq!(desk.turn(port), Reply::Refused(4));
         assert_eq!(desk.ready(port), Reply::Refused(4));
         assert_eq!(desk.map(3, port), Reply::Refused(4));
-        assert_eq!(desk.map(4, port), Reply::Refused(15));
+        assert_eq!(desk.map(4096, port), Reply::Refused(15));
     }
     assert_eq!(desk.stitch(3), Reply::Refused(12));
     for queue in [24, 31, 32, 256, u32::MAX] {
@@ -629,7 +659,10 @@ fn the_other_calls_test_in_table_order() {
     assert_eq!(desk.prefetch(0, 0), Reply::Refused(12));
     assert_eq!(desk.credit(0, 1, 65_536), Reply::Refused(14));
     assert_eq!(desk.credit(0, 1, 70_000), Reply::Refused(14));
-    for id in [4, 255, 256, 70_000, u32::MAX] {
+    for id in [4, 255, 256, 4095] {
+        assert_eq!(desk.map(id, 0), Reply::Done);
+    }
+    for id in [4096, 65_536, 70_000, u32::MAX] {
         assert_eq!(desk.map(id, 0), Reply::Refused(15));
     }
 }
@@ -819,7 +852,7 @@ fn a_round_tells_turns_in_four_bytes_a_port() {
     let told = [0, 1, 0, 0, 0, 1, 0, 0, 0, 0, 0x18, 5, 0, 1, 0, 0];
     assert_eq!(
         desk.call(Call::Round { room: vec![9; 40] }),
-        Reply::Turns(told)
+        Reply::Turns(told.to_vec())
     );
 }
 
@@ -828,7 +861,7 @@ fn a_round_is_refused_3_then_27() {
     let round = |bytes| Call::Round {
         room: vec![9; bytes],
     };
-    let mut none = Model::new(size(8));
+    let mut none = Model::new(ten_bytes_size(8));
     for bytes in [0, 15, 16, 17] {
         assert_eq!(none.call(&round(bytes)), Reply::Refused(3));
     }
@@ -898,7 +931,7 @@ fn a_round_serves_all_queues_of_all_ports() {
                 desk.credit(port, queue, 1);
             }
             desk.arrive(1, &written(2, 1, queue.into(), 12));
-            let mut turns = [None; 4];
+            let mut turns = vec![None; 4];
             turns[port as usize] = Some(2048);
             assert_eq!(desk.round(), turns);
         }
@@ -941,8 +974,8 @@ fn pick_is_the_first_ready_queue_after_the_last_served() {
 
 #[test]
 fn both_choices_serve_the_same() {
-    let mut whole = Model::with_choice(size(64), Choice::WholeWord);
-    let mut early = Model::with_choice(size(64), Choice::EarlyOut);
+    let mut whole = Model::with_choice(ten_bytes_size(64), Choice::WholeWord);
+    let mut early = Model::with_choice(ten_bytes_size(64), Choice::EarlyOut);
     let mut seed = 3u64;
     let mut both = |call: Call| assert_eq!(whole.call(&call), early.call(&call));
     both(Call::Setup(Settings { nodes: 64, ..SMALL }));
@@ -953,7 +986,7 @@ fn both_choices_serve_the_same() {
         both(match seed >> 40 & 7 {
             0 => Call::Arrive {
                 port: 0,
-                header: written(0, 0, queue.into(), length.into()).to_vec(),
+                header: written(0, 0, queue.into(), length).to_vec(),
             },
             1 => Call::Stitch { port: 0 },
             2..=4 => Call::Prefetch { port: 0, queue },
@@ -1077,7 +1110,10 @@ fn an_audit_tells_what_where_answers() {
 fn an_audit_is_refused_3_then_27() {
     let mut room = [9; 8 * 32];
     for bytes in [0, 8 * 32 - 1, 8 * 32] {
-        assert_eq!(Model::new(size(8)).audit(&mut room[..bytes]), Err(3));
+        assert_eq!(
+            Model::new(ten_bytes_size(8)).audit(&mut room[..bytes]),
+            Err(3)
+        );
     }
     let desk = Desk::new(SMALL);
     for bytes in 0..8 * 32 {
@@ -1089,13 +1125,18 @@ fn an_audit_is_refused_3_then_27() {
 
 #[test]
 fn a_repair_keeps_the_map_alone() {
-    let repaired = crate::Ledger::repaired(SMALL, [3, 4, 1, 255]);
-    assert_eq!(repaired.map, [3, 0, 1, 0]);
+    let mut map = [2; 4096];
+    map[..4].copy_from_slice(&[3, 4, 1, 255]);
+    map[4095] = 5;
+    let repaired = crate::Ledger::repaired(SMALL, &map);
+    assert_eq!(repaired.map[..4], [3, 0, 1, 0]);
+    assert_eq!(repaired.map[4..4095], [2; 4091]);
+    assert_eq!(repaired.map[4095], 0);
     let mut starting = crate::Ledger::starting(SMALL);
     assert_ne!(repaired, starting);
-    starting.map = repaired.map;
+    starting.map = repaired.map.clone();
     assert_eq!(repaired, starting);
-    let model = Model::with_ledger(size(8), repaired);
+    let model = Model::with_ledger(ten_bytes_size(8), repaired);
     assert_eq!(model.check(), Ok(()));
 }
 
@@ -1150,7 +1191,15 @@ fn bench_credit_and_map_answer_no_value() {
         "{SETUP} 06 0004 03 17 FFFF 06 0004 03 17 0001 06 0004 03 00 0001
          07 0002 03 03 07 0002 04 04 07 0002 03 04"
     );
-    assert_eq!(lines(&input), "1 0\n2 0\n3 14\n4 5\n5 0\n6 15\n7 4\n");
+    assert_eq!(lines(&input), "1 0\n2 0\n3 14\n4 5\n5 0\n6 4\n7 4\n");
+}
+
+/// A field's id is one byte, so all of them are among the 4,096.
+#[test]
+fn bench_maps_every_id_that_a_field_can_name() {
+    let fields: String = (0..=255).map(|id| format!("07 0002 {id:02X} 03")).collect();
+    let wanted: String = (1..=257).map(|number| format!("{number} 0\n")).collect();
+    assert_eq!(lines(&format!("{SETUP} {fields}")), wanted);
 }
 
 #[test]
@@ -1176,10 +1225,10 @@ fn bench_refused_setup_leaves_the_older_state() {
     assert_eq!(lines(&input), "1 0\n2 2\n3 0 idle\n");
 }
 
-/// 65,536 bytes are enough for 1,222 nodes a port, and not for 1,223 or 2,048.
+/// 65,536 bytes are enough for 1,143 nodes a port, and not for 1,144 or 2,048.
 #[test]
 fn bench_refuses_what_its_memory_has_no_room_for() {
-    let input = "01 0007 04C6 0040 01 0010 01 0007 04C7 0040 01 0010 01 0007 0800 0040 01 0010";
+    let input = "01 0007 0477 0040 01 0010 01 0007 0478 0040 01 0010 01 0007 0800 0040 01 0010";
     assert_eq!(lines(input), "1 0\n2 1\n3 1\n");
 }
 

@@ -1,6 +1,6 @@
 //! Tagged fields for the bench program.
 
-use model::{bench, Call, Model};
+use model::{bench, Call, Model, Settings};
 
 use crate::random::Random;
 use crate::{Profile, Traffic};
@@ -12,16 +12,26 @@ fn right_length(tag: u8) -> usize {
 
 /// A call's tagged field: tag, length, value. None where no field can say it:
 /// ready, where and a round have no tag, a field has no room for larger numbers,
-/// and an arrival's header is ten bytes.
+/// a setup's is of the ten-byte header, and an arrival's header is ten bytes.
 pub fn field(call: &Call) -> Option<Vec<u8>> {
     let one = |number: u32| u8::try_from(number).ok();
     let two = |number: u32| Some(u16::try_from(number).ok()?.to_be_bytes());
     let (tag, value) = match call {
         Call::Setup(settings) => {
-            let mut value = two(settings.nodes)?.to_vec();
-            value.extend(two(settings.beat)?);
-            value.push(one(settings.slots)?);
-            value.extend(two(settings.credit)?);
+            let Settings {
+                nodes,
+                beat,
+                slots,
+                credit,
+                ..
+            } = *settings;
+            if *settings != Settings::ten_bytes(nodes, beat, slots, credit) {
+                return None;
+            }
+            let mut value = two(nodes)?.to_vec();
+            value.extend(two(beat)?);
+            value.push(one(slots)?);
+            value.extend(two(credit)?);
             (1, value)
         }
         Call::Arrive { port, header } => {

@@ -4,43 +4,23 @@
 #![forbid(unsafe_code)]
 
 mod fields;
+pub mod headers;
 mod random;
 #[cfg(test)]
 mod tests;
 
 pub use fields::{field, stream};
+pub use headers::{header, plain, SHAPES};
 pub use random::Random;
 
-use model::checksum::crc8;
-use model::{
-    size, Call, Ledger, Model, Port, Settings, ENTRIES_PER_PORT, LONGEST, MOST_CREDIT, MOST_NODES,
-    PORTS, QUEUES, ROUND_BYTES, SHORTEST,
+use headers::{
+    any_shape, made_up_queue, no_shape, reserved_bits, right_fields, spelt, spelt_for_another,
 };
-
-/// The ten bytes of a header, with its checksum. Each field must fit its width.
-#[allow(clippy::too_many_arguments)]
-pub fn header(
-    dest: u32,
-    source: u32,
-    queue: u32,
-    length: u32,
-    poisoned: bool,
-    reserved: bool,
-    timestamp: u32,
-    offered: u8,
-    transaction: u8,
-) -> [u8; 10] {
-    assert!(dest < 4 && source < 4 && queue < 32 && length < 8192);
-    let mut bytes = [0; 10];
-    bytes[0] = (dest << 6 | source << 4 | queue >> 1) as u8;
-    bytes[1] = ((queue & 1) << 7 | length >> 6) as u8;
-    bytes[2] = ((length & 0b11_1111) << 2) as u8 | (poisoned as u8) << 1 | reserved as u8;
-    bytes[3..7].copy_from_slice(&timestamp.to_be_bytes());
-    bytes[7] = offered;
-    bytes[8] = transaction;
-    bytes[9] = crc8(&bytes[..9]);
-    bytes
-}
+use model::header::Header;
+use model::{
+    size, Call, Ledger, Model, Port, Settings, Shape, DESTINATIONS, ENTRIES_PER_PORT, LONGEST,
+    MOST_CREDIT, MOST_NODES,
+};
 
 /// What kind of traffic.
 #[derive(Debug, Clone, Copy, PartialEq, Eq)]
@@ -53,7 +33,7 @@ pub enum Profile {
     Tiny,
     /// Fill pools and slots until refused.
     Full,
-    /// Setups in between, also refused ones.
+    /// Setups in between, also refused ones, and ones of any shape.
     Resetup,
     /// One setup with all the nodes that the memory has room for and all the
     /// credit; then every pool to its last node, every node home, and again.
@@ -143,6 +123,7 @@ const WRONG_NODES: [u32; 8] = [0, 2049, 2368, 4160, 65_535, 65_537, 70_000, u32:
 const WRONG_BEATS: [u32; 10] = [0, 1, 32, 63, 65, 96, 192, 1024, 65_600, u32::MAX];
 const WRONG_SLOTS: [u32; 6] = [0, 9, 255, 257, 70_000, u32::MAX];
 const WRONG_CREDITS: [u32; 5] = [65_536, 65_537, 70_000, 1 << 31, u32::MAX];
+const WRONG_PACKETS: [u32; 6] = [1, 2, 255, 256, 65_536, u32::MAX];
 
 // The refusals at which a hostile call aims.
 const AIMS: [u32; 15] = [4, 5, 6, 7, 8, 9, 10, 11, 12, 13, 14, 15, 19, 20, 27];
@@ -165,6 +146,8 @@ impl Phase {
 pub struct Traffic {
     random: Random,
     profile: Profile,
+    /// Of its setups, but for those of any shape.
+    shape: Shape,
     phase: Phase,
     calls_left_in_phase: u32,
     /// Most arrivals go to these queues, so that some lists get long.
@@ -172,10 +155,17 @@ pub struct Traffic {
 }
 
 impl Traffic {
+    /// For a switch with the ten-byte header.
     pub fn new(seed: u64, profile: Profile) -> Traffic {
+        Traffic::of(seed, profile, Shape::TEN_BYTES)
+    }
+
+    /// For a switch of any shape.
+    pub fn of(seed: u64, profile: Profile, shape: Shape) -> Traffic {
         Traffic {
             random: Random::new(seed),
             profile,
+            shape,
             phase: Phase::Fill,
             calls_left_in_phase: 0,
             busy_queues: Vec::new(),
@@ -201,7 +191,7 @@ impl Traffic {
     /// A few calls that are refused 3, then a setup.
     fn before_setup(&mut self, model: &Model) -> Call {
         if self.random.percent(40) {
-            let blind = Ledger::starting(self.settings(16));
+            let blind = Ledger::starting(self.settings(self.shape, 16));
             self.anything(&blind)
         } else {
             self.setup(model)
@@ -222,7 +212,7 @@ impl Traffic {
         };
         // Long enough to fill all the nodes, sometimes.
         self.calls_left_in_phase = self.random.among(10, 50 + 16 * ledger.settings.nodes);
-        self.choose_busy_queues();
+        self.choose_busy_queues(ledger.settings.queues);
     }
 
     /// Flood until no node is free, then ebb until all are.
@@ -241,19 +231,19 @@ impl Traffic {
         };
         if self.phase != next {
             self.phase = next;
-            self.choose_busy_queues();
+            self.choose_busy_queues(ledger.settings.queues);
         }
     }
 
-    fn choose_busy_queues(&mut self) {
-        let busy = self.random.pick(&[1, 2, 4, 24]);
-        self.busy_queues = (0..busy).map(|_| self.random.below(QUEUES)).collect();
+    fn choose_busy_queues(&mut self, queues: u32) {
+        let busy = self.random.pick(&[1, 2, 4, queues]);
+        self.busy_queues = (0..busy).map(|_| self.random.below(queues)).collect();
     }
 
     // Setups.
 
     /// Settings in their rows, to the profile's taste, with most nodes at most.
-    fn settings(&mut self, most: u32) -> Settings {
+    fn settings(&mut self, shape: Shape, most: u32) -> Settings {
         let r = &mut self.random;
         let (nodes, slots, credit) = match self.profile {
             Profile::Tiny => (r.among(1, 2), 1, r.below(4)),
@@ -284,21 +274,21 @@ impl Traffic {
             }
             Profile::Brim => (most, r.among(1, 8), MOST_CREDIT),
         };
-        Settings {
-            nodes: nodes.min(most),
-            beat: r.pick(&[64, 128, 256, 512]),
-            slots,
-            credit,
-        }
+        let beat = r.pick(&[64, 128, 256, 512]);
+        Settings::of(shape, nodes.min(most), beat, slots, credit)
     }
 
     /// A setup; one in three is meant to be refused where the profile is for it.
     fn setup(&mut self, model: &Model) -> Call {
+        let shape = match self.profile {
+            Profile::Resetup if self.random.one_in(4) => any_shape(&mut self.random),
+            _ => self.shape,
+        };
         // The largest N that there is memory for.
         let fits = (1..=MOST_NODES)
             .rev()
-            .find(|&n| size(n) <= model.memory_len());
-        let mut settings = self.settings(fits.unwrap_or(MOST_NODES));
+            .find(|&n| size(&Settings::of(shape, n, 64, 1, 0)) <= model.memory_len());
+        let mut settings = self.settings(shape, fits.unwrap_or(MOST_NODES));
         let wrong =
             matches!(self.profile, Profile::Resetup | Profile::Hostile) && self.random.one_in(3);
         if !wrong {
@@ -307,11 +297,25 @@ impl Traffic {
         let r = &mut self.random;
         // More than one may be wrong.
         for _ in 0..r.among(1, 2) {
-            match r.below(6) {
+            match r.below(8) {
                 0 => settings.nodes = r.pick(&WRONG_NODES),
                 1 => settings.beat = r.pick(&WRONG_BEATS),
                 2 => settings.slots = r.pick(&WRONG_SLOTS),
                 3 => settings.credit = r.pick(&WRONG_CREDITS),
+                4 => settings.packets = r.pick(&WRONG_PACKETS),
+                5 => {
+                    let Shape {
+                        edition,
+                        ports,
+                        queues,
+                    } = no_shape(r);
+                    settings = Settings {
+                        edition,
+                        ports,
+                        queues,
+                        ..settings
+                    };
+                }
                 // Needs more memory than there is, if any N does.
                 _ => {
                     let first = fits.map_or(1, |n| (n + 1).min(MOST_NODES));
@@ -354,60 +358,77 @@ impl Traffic {
             Step::Prefetch => self.prefetch(ledger),
             Step::Credit => Some(self.credit(ledger)),
             Step::Map => Some(Call::Map {
-                id: self.random.below(4),
-                port: self.random.below(PORTS),
+                id: self.id(ledger),
+                port: self.random.below(ledger.settings.ports),
             }),
             Step::Turn => Some(self.turn(ledger)),
             Step::Ready => Some(Call::Ready {
-                port: self.random.below(PORTS),
+                port: self.random.below(ledger.settings.ports),
             }),
             Step::Where => Some(Call::Where {
                 entry: self.node(ledger),
             }),
-            Step::Round => Some(self.round()),
+            Step::Round => Some(self.round(ledger)),
+        }
+    }
+
+    /// A destination id: mostly one that a header can name, now and then one that
+    /// a bench program's field can, or any.
+    fn id(&mut self, ledger: &Ledger) -> u32 {
+        let r = &mut self.random;
+        match r.below(8) {
+            0 => r.below(256),
+            1 => r.below(DESTINATIONS),
+            2 => DESTINATIONS - 1,
+            _ => r.below(1 << ledger.settings.shape().port_bits()),
         }
     }
 
     /// The ports from a random one on.
-    fn ports_from_any(&mut self) -> impl Iterator<Item = u32> {
-        let first = self.random.below(PORTS);
-        (0..PORTS).map(move |step| (first + step) % PORTS)
+    fn ports_from_any(&mut self, ledger: &Ledger) -> impl Iterator<Item = u32> {
+        let ports = ledger.settings.ports;
+        let first = self.random.below(ports);
+        (0..ports).map(move |step| (first + step) % ports)
     }
 
     /// Every queue of every port, from a random one on.
-    fn queues_from_any(&mut self) -> impl Iterator<Item = (u32, u32)> {
-        let first = self.random.below(PORTS * QUEUES);
-        (0..PORTS * QUEUES)
-            .map(move |step| (first + step) % (PORTS * QUEUES))
-            .map(|both| (both / QUEUES, both % QUEUES))
+    fn queues_from_any(&mut self, ledger: &Ledger) -> impl Iterator<Item = (u32, u32)> {
+        let Settings { ports, queues, .. } = ledger.settings;
+        let first = self.random.below(ports * queues);
+        (0..ports * queues)
+            .map(move |step| (first + step) % (ports * queues))
+            .map(move |both| (both / queues, both % queues))
     }
 
     /// Any node's entry id.
     fn node(&mut self, ledger: &Ledger) -> u32 {
-        self.random.below(PORTS) * ENTRIES_PER_PORT + self.random.below(ledger.settings.nodes)
+        let Settings { ports, nodes, .. } = ledger.settings;
+        self.random.below(ports) * ENTRIES_PER_PORT + self.random.below(nodes)
     }
 
-    fn arriving_queue(&mut self) -> u32 {
+    fn arriving_queue(&mut self, shape: &Shape) -> u32 {
         match self.random.below(20) {
             0..=1 => 0,
-            2..=6 => self.random.below(QUEUES),
-            _ if self.busy_queues.is_empty() => self.random.below(QUEUES),
-            _ => self.random.pick(&self.busy_queues),
+            2..=6 => self.random.below(shape.queues),
+            _ if self.busy_queues.is_empty() => self.random.below(shape.queues),
+            // They may have been chosen for another shape.
+            _ => self.random.pick(&self.busy_queues) % shape.queues,
         }
     }
 
-    /// The same, or one in three times a queue that no switch has.
-    fn written_queue(&mut self) -> u32 {
-        if self.random.one_in(3) {
-            self.random.among(QUEUES, 31)
-        } else {
-            self.arriving_queue()
-        }
+    /// The same, or one in three times a queue that no switch has, if the field
+    /// has room for one.
+    fn written_queue(&mut self, shape: &Shape) -> u32 {
+        let made_up = match self.random.one_in(3) {
+            true => made_up_queue(&mut self.random, shape),
+            false => None,
+        };
+        made_up.unwrap_or_else(|| self.arriving_queue(shape))
     }
 
     /// An arriving queue, but queue 0 in place of one that has no credit left at the port.
     fn covered_queue(&mut self, ledger: &Ledger, port: u32) -> u32 {
-        let queue = self.arriving_queue();
+        let queue = self.arriving_queue(&ledger.settings.shape());
         let credit = &ledger.ports[port as usize].arrival_credit;
         if queue > 0 && credit[queue as usize] == 0 {
             0
@@ -417,10 +438,10 @@ impl Traffic {
     }
 
     /// A length up to a most, with the edges of beats often.
-    fn length(&mut self, most: u32, beat: u32) -> u32 {
+    fn length(&mut self, shape: &Shape, most: u32, beat: u32) -> u32 {
         let wanted = match self.random.below(8) {
-            0 => SHORTEST,
-            1 => SHORTEST + 1,
+            0 => shape.shortest(),
+            1 => shape.shortest() + 1,
             2 => most,
             3 => beat * self.random.below(most / beat + 1),
             4 => beat * self.random.below(most / beat + 1) + 1,
@@ -428,46 +449,54 @@ impl Traffic {
             // Mostly small, so that credit lasts for some packets.
             _ => self.random.below(4 * beat),
         };
-        wanted.min(most).max(SHORTEST)
+        wanted.min(most).max(shape.shortest())
     }
 
     /// Any length that a header can say, too short ones often.
-    fn any_length(&mut self) -> u32 {
+    fn any_length(&mut self, shape: &Shape) -> u32 {
         match self.random.below(3) {
-            0 => self.random.below(SHORTEST + 2),
+            0 => self.random.below(shape.shortest() + 2),
             _ => self.random.below(LONGEST + 1),
         }
     }
 
+    /// A source other than the port's, one that is no port too.
+    fn other_source(&mut self, shape: &Shape, port: u32) -> u32 {
+        let sources = 1 << shape.port_bits();
+        (port + self.random.among(1, sources - 1)) % sources
+    }
+
     /// A header with random contents and no fault but those that are asked for.
-    fn header(&mut self, source: u32, queue: u32, length: u32, reserved: bool) -> Vec<u8> {
-        let r = &mut self.random;
-        let timestamp = match r.below(8) {
-            0 => r.pick(&[0, 1, u32::MAX, 1 << 31]),
-            _ => r.word() as u32,
-        };
-        let (offered, transaction) = (r.word() as u8, r.word() as u8);
-        header(
-            r.below(4),
+    fn header(&mut self, shape: &Shape, source: u32, queue: u32, length: u32) -> Vec<u8> {
+        self.header_with(shape, source, queue, length, 0)
+    }
+
+    fn header_with(
+        &mut self,
+        shape: &Shape,
+        source: u32,
+        queue: u32,
+        length: u32,
+        reserved: u32,
+    ) -> Vec<u8> {
+        let header = Header {
             source,
             queue,
             length,
-            r.one_in(4),
-            reserved,
-            timestamp,
-            offered,
-            transaction,
-        )
-        .to_vec()
+            poisoned: u32::from(self.random.one_in(4)),
+            ..right_fields(&mut self.random, shape)
+        };
+        spelt(shape, &header, reserved)
     }
 
     fn arrive(&mut self, ledger: &Ledger) -> Option<Call> {
+        let shape = ledger.settings.shape();
         let careless = self.profile.careless() && !self.random.one_in(4);
         let port = self
-            .ports_from_any()
+            .ports_from_any(ledger)
             .find(|&port| careless || !ledger.ports[port as usize].free.is_empty())?;
         let queue = if careless {
-            self.arriving_queue()
+            self.arriving_queue(&shape)
         } else {
             self.covered_queue(ledger, port)
         };
@@ -476,20 +505,20 @@ impl Traffic {
         if !careless && queue > 0 {
             most = most.min(ledger.ports[port as usize].arrival_credit[queue as usize] * beat);
         }
-        let length = self.length(most, beat);
-        let header = self.header(port, queue, length, false);
+        let length = self.length(&shape, most, beat);
+        let header = self.header(&shape, port, queue, length);
         Some(Call::Arrive { port, header })
     }
 
     fn stitch(&mut self, ledger: &Ledger) -> Option<Call> {
-        self.ports_from_any()
+        self.ports_from_any(ledger)
             .find(|&port| !ledger.ports[port as usize].ingress.is_empty())
             .map(|port| Call::Stitch { port })
     }
 
     fn prefetch(&mut self, ledger: &Ledger) -> Option<Call> {
         let careless = self.profile.careless() && !self.random.one_in(4);
-        self.queues_from_any()
+        self.queues_from_any(ledger)
             .find(|&(port, queue)| {
                 let at = &ledger.ports[port as usize];
                 let taken = at.prefetch[queue as usize].len();
@@ -510,7 +539,7 @@ impl Traffic {
 
     fn credit(&mut self, ledger: &Ledger) -> Call {
         let waiting = self
-            .queues_from_any()
+            .queues_from_any(ledger)
             .find_map(|(port, queue)| Some((port, queue, Self::lacking(ledger, port, queue)?)));
         if let Some((port, queue, lacking)) = waiting {
             // Often one too little or just enough.
@@ -525,7 +554,8 @@ impl Traffic {
                 amount,
             };
         }
-        let (port, queue) = (self.random.below(PORTS), self.random.among(1, QUEUES - 1));
+        let Settings { ports, queues, .. } = ledger.settings;
+        let (port, queue) = (self.random.below(ports), self.random.among(1, queues - 1));
         let room = MOST_CREDIT - ledger.ports[port as usize].outward_credit[queue as usize];
         let amount = match self.random.below(40) {
             0 => room,
@@ -541,11 +571,11 @@ impl Traffic {
 
     /// A port with a ready queue if there is one; now and then any port.
     fn turn(&mut self, ledger: &Ledger) -> Call {
-        let any = self.random.below(PORTS);
+        let any = self.random.below(ledger.settings.ports);
         if self.random.one_in(8) {
             return Call::Turn { port: any };
         }
-        let ready = self.queues_from_any().find(|&(port, queue)| {
+        let ready = self.queues_from_any(ledger).find(|&(port, queue)| {
             let list = &ledger.ports[port as usize].prefetch[queue as usize];
             !list.is_empty() && Self::lacking(ledger, port, queue).is_none()
         });
@@ -555,9 +585,9 @@ impl Traffic {
     }
 
     /// A round with room enough, and often with more.
-    fn round(&mut self) -> Call {
+    fn round(&mut self, ledger: &Ledger) -> Call {
         let more = self.random.pick(&[0, 0, 1, 3, 4, 20]);
-        self.round_with(ROUND_BYTES + more)
+        self.round_with(ledger.settings.shape().round_bytes() + more)
     }
 
     /// A round with so many bytes of room, of any content.
@@ -580,45 +610,51 @@ impl Traffic {
     /// last kinds would pass if a program cut them to a byte or two.
     fn beyond(&mut self, least: u32) -> u32 {
         let r = &mut self.random;
-        match r.below(8) {
+        let number = match r.below(8) {
             0..=2 => least,
-            3 => r.among(least, 255),
+            3 => r.among(least, least.max(255)),
             4 => 256 + r.below(4),
             5 => 65_536 + r.below(4),
             6 => r.pick(&[70_000, 1 << 24, 1 << 31, u32::MAX - 1, u32::MAX]),
             _ => r.among(least, u32::MAX),
-        }
+        };
+        number.max(least)
     }
 
     /// An entry id that is no node.
     fn no_node(&mut self, ledger: &Ledger) -> u32 {
-        let nodes = ledger.settings.nodes;
+        let Settings { nodes, ports, .. } = ledger.settings;
         let node = self.node(ledger);
         let r = &mut self.random;
-        let port = r.below(PORTS);
+        let port = r.below(ports);
         match r.below(6) {
-            0 => port * ENTRIES_PER_PORT + nodes,
-            1 => port * ENTRIES_PER_PORT + r.among(nodes, ENTRIES_PER_PORT - 1),
-            2 => r.among(PORTS, 31) * ENTRIES_PER_PORT + r.below(nodes),
+            // Of 2,048 nodes, the next port's first is no node of the last port's.
+            0 if nodes < ENTRIES_PER_PORT => port * ENTRIES_PER_PORT + nodes,
+            1 if nodes < ENTRIES_PER_PORT => {
+                port * ENTRIES_PER_PORT + r.among(nodes, ENTRIES_PER_PORT - 1)
+            }
+            2 => r.among(ports, 32) * ENTRIES_PER_PORT + r.below(nodes),
             3 => 65_536 * r.among(1, 65_535) + node,
-            4 => r.pick(&[65_535, 65_536, 70_000, u32::MAX]),
-            _ => r.among(PORTS * ENTRIES_PER_PORT, u32::MAX),
+            4 => r.pick(&[65_536, 70_000, u32::MAX]),
+            _ => r.among(ports * ENTRIES_PER_PORT, u32::MAX),
         }
     }
 
     /// A call meant for one refusal. Where the state isn't such that it can
     /// occur, a call that leads there.
     fn aimed(&mut self, refusal: u32, ledger: &Ledger) -> Call {
-        let port = self.random.below(PORTS);
+        let shape = ledger.settings.shape();
+        let Shape { ports, queues, .. } = shape;
+        let port = self.random.below(ports);
         let at = &ledger.ports[port as usize];
         match refusal {
             4 => {
-                let port = self.beyond(PORTS);
-                let queue = self.random.below(QUEUES);
+                let port = self.beyond(ports);
+                let queue = self.random.below(queues);
                 match self.random.below(7) {
                     0 => Call::Arrive {
                         port,
-                        header: self.header(port % 4, queue, SHORTEST, false),
+                        header: self.header(&shape, port % ports, queue, shape.shortest()),
                     },
                     1 => Call::Stitch { port },
                     2 => Call::Prefetch { port, queue },
@@ -628,7 +664,7 @@ impl Traffic {
                         amount: 1,
                     },
                     4 => Call::Map {
-                        id: self.random.below(4),
+                        id: self.id(ledger),
                         port,
                     },
                     5 => Call::Turn { port },
@@ -636,7 +672,7 @@ impl Traffic {
                 }
             }
             5 => {
-                let queue = self.beyond(QUEUES);
+                let queue = self.beyond(queues);
                 match self.random.below(3) {
                     0 => Call::Prefetch { port, queue },
                     1 => Call::Credit {
@@ -651,94 +687,94 @@ impl Traffic {
                     },
                 }
             }
-            6 => {
-                let mut header = self.header(port, 0, SHORTEST, false);
-                let bytes = match self.random.below(20) {
-                    10.. => self.random.among(11, 20),
-                    fewer => fewer,
-                };
-                header.resize(bytes as usize, 0);
-                Call::Arrive { port, header }
-            }
+            6 => Call::Arrive {
+                port,
+                header: self.header_of_another_size(&shape, port),
+            },
             7 => {
-                let queue = self.written_queue();
-                let reserved = self.random.one_in(4);
-                let mut header = self.header(port, queue, SHORTEST, reserved);
-                let byte = self.random.below(10) as usize;
+                let queue = self.written_queue(&shape);
+                let reserved = match self.random.one_in(4) {
+                    true => reserved_bits(&mut self.random, &shape).unwrap_or(0),
+                    false => 0,
+                };
+                let length = shape.shortest();
+                let mut header = self.header_with(&shape, port, queue, length, reserved);
+                let byte = self.random.below(header.len() as u32) as usize;
                 header[byte] ^= 1 << self.random.below(8);
                 Call::Arrive { port, header }
             }
             8 => {
-                let source = (port + self.random.among(1, 3)) % 4;
-                let queue = self.written_queue();
-                let length = self.any_length();
-                let header = self.header(source, queue, length, false);
+                let source = self.other_source(&shape, port);
+                let queue = self.written_queue(&shape);
+                let length = self.any_length(&shape);
+                let header = self.header(&shape, source, queue, length);
                 Call::Arrive { port, header }
             }
             9 => {
-                let queue = self.written_queue();
-                let length = self.random.below(SHORTEST);
-                let header = self.header(port, queue, length, false);
+                let queue = self.written_queue(&shape);
+                let length = self.random.below(shape.shortest());
+                let header = self.header(&shape, port, queue, length);
                 Call::Arrive { port, header }
             }
             19 => {
-                let queue = self.random.among(QUEUES, 31);
-                let length = self.random.among(SHORTEST, LONGEST);
-                let header = self.header(port, queue, length, false);
+                let queue = made_up_queue(&mut self.random, &shape).unwrap_or(queues - 1);
+                let length = self.random.among(shape.shortest(), LONGEST);
+                let header = self.header(&shape, port, queue, length);
                 Call::Arrive { port, header }
             }
             20 => {
                 // Alone, or beside faults that are tested later.
                 let source = if self.random.one_in(3) {
-                    self.random.below(4)
+                    self.random.below(1 << shape.port_bits())
                 } else {
                     port
                 };
-                let queue = self.written_queue();
-                let length = self.any_length();
-                let header = self.header(source, queue, length, true);
+                let queue = self.written_queue(&shape);
+                let length = self.any_length(&shape);
+                let reserved = reserved_bits(&mut self.random, &shape).unwrap_or(0);
+                let header = self.header_with(&shape, source, queue, length, reserved);
                 Call::Arrive { port, header }
             }
             10 => {
                 // The queue with the least credit, and just above it if it can be.
-                let queue = (1..QUEUES)
+                let queue = (1..queues)
                     .min_by_key(|&queue| at.arrival_credit[queue as usize])
                     .unwrap();
                 let queue = if self.random.one_in(4) {
-                    self.random.among(1, QUEUES - 1)
+                    self.random.among(1, queues - 1)
                 } else {
                     queue
                 };
                 let covered = at.arrival_credit[queue as usize] * ledger.settings.beat;
-                let least = (covered + 1).clamp(SHORTEST, LONGEST);
+                let least = (covered + 1).clamp(shape.shortest(), LONGEST);
                 let length = match self.random.below(3) {
                     0 => LONGEST,
                     1 => self.random.among(least, LONGEST),
                     _ => least,
                 };
-                let header = self.header(port, queue, length, false);
+                let header = self.header(&shape, port, queue, length);
                 Call::Arrive { port, header }
             }
             11 => {
                 // The port with the fewest free nodes, at a price that is covered.
-                let port = (0..PORTS)
+                let port = (0..ports)
                     .min_by_key(|&port| ledger.ports[port as usize].free.len())
                     .unwrap();
                 let queue = self.covered_queue(ledger, port);
-                let header = self.header(port, queue, SHORTEST, false);
+                let header = self.header(&shape, port, queue, shape.shortest());
                 Call::Arrive { port, header }
             }
             12 => {
-                let queue = self.random.below(QUEUES);
+                let queue = self.random.below(queues);
                 let empty = self
-                    .ports_from_any()
+                    .ports_from_any(ledger)
                     .find(|&port| ledger.ports[port as usize].ingress.is_empty());
                 match empty {
                     Some(port) if self.random.one_in(2) => Call::Stitch { port },
                     _ => {
                         // With slots in use if there are such: 12 before 13.
                         let (port, queue) = self
-                            .queues_from_any()
+                            .queues_from_any(ledger)
                             .find(|&(port, queue)| {
                                 let at = &ledger.ports[port as usize];
                                 let slots = ledger.settings.slots as usize;
@@ -753,7 +789,7 @@ impl Traffic {
             13 => {
                 // The fullest prefetch list that has something to come.
                 let fullest = self
-                    .queues_from_any()
+                    .queues_from_any(ledger)
                     .filter(|&(port, queue)| {
                         !ledger.ports[port as usize].egress[queue as usize].is_empty()
                     })
@@ -769,7 +805,7 @@ impl Traffic {
                 }
             }
             14 => {
-                let queue = self.random.among(1, QUEUES - 1);
+                let queue = self.random.among(1, queues - 1);
                 let room = MOST_CREDIT - at.outward_credit[queue as usize];
                 let amount = match self.random.below(8) {
                     0..=2 => room + 1,
@@ -787,7 +823,7 @@ impl Traffic {
                 }
             }
             27 => {
-                let most = ROUND_BYTES as u32 - 1;
+                let most = shape.round_bytes() as u32 - 1;
                 let bytes = match self.random.below(3) {
                     0 => most,
                     _ => self.random.below(most + 1),
@@ -798,12 +834,12 @@ impl Traffic {
                 if self.random.one_in(2) {
                     // Half of these with a port that is wrong as well.
                     let port = if self.random.one_in(2) {
-                        self.beyond(PORTS)
+                        self.beyond(ports)
                     } else {
                         port
                     };
                     Call::Map {
-                        id: self.beyond(4),
+                        id: self.beyond(DESTINATIONS),
                         port,
                     }
                 } else {
@@ -815,36 +851,37 @@ impl Traffic {
         }
     }
 
+    /// A header that is right but for its size: cut, made longer, or another
+    /// shape's.
+    fn header_of_another_size(&mut self, shape: &Shape, port: u32) -> Vec<u8> {
+        let size = shape.header_bytes();
+        let mut header = self.header(shape, port, 0, shape.shortest());
+        let other = spelt_for_another(&mut self.random, shape);
+        match self.random.below(4) {
+            0 if other.len() != size => return other,
+            0 | 1 => header.resize(self.random.among(size as u32 + 1, 20) as usize, 0),
+            _ => header.truncate(self.random.below(size as u32) as usize),
+        }
+        header
+    }
+
     /// Any call with any faults, more than one at once too: for the order in
     /// which refusals are tested.
     fn anything(&mut self, ledger: &Ledger) -> Call {
+        let Settings { ports, queues, .. } = ledger.settings;
         let port = if self.random.one_in(3) {
-            self.beyond(PORTS)
+            self.beyond(ports)
         } else {
-            self.random.below(PORTS)
+            self.random.below(ports)
         };
         let queue = if self.random.one_in(3) {
-            self.beyond(QUEUES)
+            self.beyond(queues)
         } else {
-            self.random.below(QUEUES)
+            self.random.below(queues)
         };
         match self.random.below(13) {
             0..=4 => {
-                let source = if self.random.one_in(3) {
-                    self.random.below(4)
-                } else {
-                    port % 4
-                };
-                let queue = self.random.below(32);
-                let length = self.any_length();
-                let reserved = self.random.one_in(4);
-                let mut header = self.header(source, queue, length, reserved);
-                if self.random.one_in(3) {
-                    header[self.random.below(10) as usize] ^= self.random.word() as u8;
-                }
-                if self.random.one_in(4) {
-                    header.resize(self.random.below(21) as usize, 0xA5);
-                }
+                let header = self.any_header(&ledger.settings.shape(), port);
                 Call::Arrive { port, header }
             }
             5 => Call::Stitch { port },
@@ -860,16 +897,17 @@ impl Traffic {
             },
             8 => Call::Map {
                 id: if self.random.one_in(2) {
-                    self.beyond(4)
+                    self.beyond(DESTINATIONS)
                 } else {
-                    self.random.below(4)
+                    self.id(ledger)
                 },
                 port,
             },
             9 => Call::Turn { port },
             10 => Call::Ready { port },
             11 => {
-                let bytes = self.random.below(2 * ROUND_BYTES as u32);
+                let most = 2 * ledger.settings.shape().round_bytes() as u32;
+                let bytes = self.random.below(most);
                 self.round_with(bytes as usize)
             }
             _ => Call::Where {
@@ -880,5 +918,29 @@ impl Traffic {
                 },
             },
         }
+    }
+
+    /// A header with any faults for an arrival at any port.
+    fn any_header(&mut self, shape: &Shape, port: u32) -> Vec<u8> {
+        let source = if self.random.one_in(3) {
+            self.random.below(1 << shape.port_bits())
+        } else {
+            port % shape.ports
+        };
+        let queue = self.random.below(1 << shape.queue_bits());
+        let length = self.any_length(shape);
+        let reserved = match self.random.one_in(4) {
+            true => reserved_bits(&mut self.random, shape).unwrap_or(0),
+            false => 0,
+        };
+        let mut header = self.header_with(shape, source, queue, length, reserved);
+        if self.random.one_in(3) {
+            let at = self.random.below(header.len() as u32) as usize;
+            header[at] ^= self.random.word() as u8;
+        }
+        if self.random.one_in(4) {
+            header.resize(self.random.below(21) as usize, 0xA5);
+        }
+        header
     }
 }

@@ -1,9 +1,13 @@
 use std::collections::BTreeMap;
 
 use model::bench::bench;
-use model::{size, Call, Choice, Model, Reply, REFUSALS};
+use model::header::{read, write, Header};
+use model::{size, Call, Choice, Model, Reply, Settings, Shape, REFUSALS};
 
-use crate::{field, header, stream, Profile, Traffic};
+use crate::headers::{
+    any_bytes, any_shape, made_up_queue, no_shape, reserved_bits, right_fields, spelt, wrong_fields,
+};
+use crate::{field, header, plain, stream, Profile, Random, Traffic, SHAPES};
 
 /// How often each answer came. Refusals by their numbers.
 #[derive(Default, Debug)]
@@ -28,15 +32,20 @@ fn name(call: &Call, reply: &Reply) -> &'static str {
     }
 }
 
-/// 200,000 calls of a profile, over some seeds. Both choices of the turn
-/// answer the same, the check holds, and a refusal changes nothing.
+/// 200,000 calls of a profile, over some seeds, with the ten-byte header.
 fn run(profile: Profile, memory_len: usize) -> Counts {
+    run_shape(profile, Shape::TEN_BYTES, memory_len, 25_000)
+}
+
+/// So many calls eight times over. Both choices of the turn answer the same, the
+/// check holds, and a refusal changes nothing.
+fn run_shape(profile: Profile, shape: Shape, memory_len: usize, calls: usize) -> Counts {
     let mut counts = Counts::default();
     for seed in 0..8 {
-        let mut traffic = Traffic::new(seed, profile);
+        let mut traffic = Traffic::of(seed, profile, shape);
         let mut whole = Model::with_choice(memory_len, Choice::WholeWord);
         let mut early = Model::with_choice(memory_len, Choice::EarlyOut);
-        for number in 0..25_000 {
+        for number in 0..calls {
             let call = traffic.next(&whole);
             let before = (number % 20 == 0).then(|| whole.clone());
             let reply = whole.call(&call);
@@ -52,13 +61,13 @@ fn run(profile: Profile, memory_len: usize) -> Counts {
                 assert_eq!(
                     whole.check(),
                     Ok(()),
-                    "{profile:?}, seed {seed}, call {number}"
+                    "{profile:?} {shape:?}, seed {seed}, call {number}"
                 );
                 assert_eq!(whole.ledger(), early.ledger());
             }
         }
     }
-    println!("{profile:?}: {:?}", counts.accepted);
+    println!("{profile:?} {shape:?}: {:?}", counts.accepted);
     println!("  refused 1 to 27: {:?}", &counts.refused[1..]);
     counts
 }
@@ -68,9 +77,22 @@ fn accepted(counts: &Counts) -> u64 {
 }
 
 fn each_refusal_at_least(counts: &Counts, least: u64) {
+    refusals_of_shape_at_least(&Shape::TEN_BYTES, counts, least);
+}
+
+/// But for those that no arrival of the shape can be given, and the writer's.
+fn refusals_of_shape_at_least(shape: &Shape, counts: &Counts, least: u64) {
+    let random = &mut Random::new(0);
     for refusal in REFUSALS.into_iter().filter(|&refusal| refusal > 3) {
         let times = counts.refused[refusal as usize];
-        assert!(times >= least, "refusal {refusal}: {times} times");
+        let can_be = match refusal {
+            19 => made_up_queue(random, shape).is_some(),
+            20 => reserved_bits(random, shape).is_some(),
+            21 => false,
+            _ => true,
+        };
+        let enough = if can_be { times >= least } else { times == 0 };
+        assert!(enough, "{shape:?}, refusal {refusal}: {times} times");
     }
     assert!(counts.refused[3] > 0);
 }
@@ -111,7 +133,7 @@ fn hostile_traffic() {
 
 #[test]
 fn tiny_traffic() {
-    let counts = run(Profile::Tiny, size(2));
+    let counts = run(Profile::Tiny, size(&Settings::ten_bytes(2, 64, 1, 0)));
     each_call_at_least(&counts, 500);
     each_refusal_at_least(&counts, 500);
 }
@@ -129,11 +151,29 @@ fn full_traffic() {
 
 #[test]
 fn resetup_traffic() {
-    let counts = run(Profile::Resetup, size(200));
+    let counts = run(Profile::Resetup, size(&Settings::ten_bytes(200, 64, 1, 0)));
     each_call_at_least(&counts, 500);
     each_refusal_at_least(&counts, 200);
     assert!(counts.accepted["setup"] > 1000);
     assert!(counts.refused[1] > 100 && counts.refused[2] > 100);
+}
+
+/// Every profile at every shape: all that can be answered is.
+#[test]
+fn traffic_of_every_shape() {
+    for shape in SHAPES {
+        let nodes = if shape.ports > 8 { 2 } else { 8 };
+        let memory_len = size(&Settings::of(shape, nodes, 64, 1, 0));
+        for profile in Profile::ALL {
+            let counts = run_shape(profile, shape, memory_len, 800);
+            each_call_at_least(&counts, 5);
+            // Of setups with other shapes come refusals that this one has not.
+            if profile == Profile::Hostile {
+                refusals_of_shape_at_least(&shape, &counts, 20);
+                assert!(counts.refused[2] > 0);
+            }
+        }
+    }
 }
 
 #[test]
@@ -177,34 +217,85 @@ fn header_cards() {
 
 #[test]
 fn headers_are_read_back() {
-    for dest in 0..4 {
-        for source in 0..4 {
-            for queue in 0..32 {
-                for length in (0..8192).step_by(63) {
-                    let bytes = header(
-                        dest,
+    for (dest, source) in (0..4).flat_map(|dest| (0..4).map(move |source| (dest, source))) {
+        for queue in 0..32 {
+            for length in (0..8192).step_by(63) {
+                let (poisoned, reserved) = (length % 2 == 0, length % 3 == 0);
+                let bytes = header(
+                    dest,
+                    source,
+                    queue,
+                    length,
+                    poisoned,
+                    reserved,
+                    0xFEDC_BA98,
+                    0x76,
+                    0x54,
+                );
+                let wanted = match (reserved, length, queue) {
+                    (true, ..) => Err(20),
+                    (_, 0..=11, _) => Err(9),
+                    (.., 24..) => Err(19),
+                    _ => Ok(Header {
+                        destination: dest,
                         source,
                         queue,
                         length,
-                        length % 2 == 0,
-                        length % 3 == 0,
-                        0xFEDC_BA98,
-                        0x76,
-                        0x54,
-                    );
-                    let read = model::header::read(&bytes);
-                    assert_eq!(u32::from(read.destination), dest);
-                    assert_eq!(u32::from(read.source), source);
-                    assert_eq!(u32::from(read.queue), queue);
-                    assert_eq!(u32::from(read.length), length);
-                    assert_eq!(read.poisoned, length % 2 == 0);
-                    assert_eq!(read.reserved, length % 3 == 0);
-                    assert_eq!(read.timestamp, 0xFEDC_BA98);
-                    assert_eq!((read.offered, read.transaction), (0x76, 0x54));
-                    assert!(read.checksum_fits);
-                }
+                        poisoned: poisoned.into(),
+                        timestamp: 0xFEDC_BA98,
+                        credit: 0x76,
+                        transaction: 0x54,
+                    }),
+                };
+                assert_eq!(read(&Shape::TEN_BYTES, &bytes), wanted);
             }
         }
+    }
+}
+
+#[test]
+fn a_plain_header_of_two_ports_and_two_queues() {
+    let bytes = plain(&Shape::wide(2, 2), 1, 0, 1, 13);
+    assert_eq!(bytes[..3], [0xA0, 0x0D, 0]);
+    assert_eq!(bytes.len(), 11);
+}
+
+/// What is spelt here bit by bit, the model writes and reads as one number; and
+/// fields that are made to be refused are.
+#[test]
+fn fields_of_every_shape_are_right_or_wrong_as_meant() {
+    let mut random = Random::new(21);
+    for _ in 0..50_000 {
+        let shape = any_shape(&mut random);
+        assert!(shape.in_its_rows());
+        let right = right_fields(&mut random, &shape);
+        let bytes = spelt(&shape, &right, 0);
+        assert_eq!(write(&shape, &right).as_ref(), Ok(&bytes));
+        assert_eq!(read(&shape, &bytes), Ok(right));
+        let wrong = wrong_fields(&mut random, &shape);
+        assert_eq!(write(&shape, &wrong), Err(21), "{shape:?} {wrong:?}");
+        let none = no_shape(&mut random);
+        assert!(!none.in_its_rows(), "{none:?}");
+        assert_eq!(
+            (read(&none, &bytes), write(&none, &wrong)),
+            (Err(2), Err(2))
+        );
+    }
+}
+
+/// Bytes for the reader get every answer often.
+#[test]
+fn bytes_of_every_shape_get_every_answer() {
+    let mut random = Random::new(22);
+    let mut counts = [0; 28];
+    for _ in 0..50_000 {
+        let shape = any_shape(&mut random);
+        let bytes = any_bytes(&mut random, &shape);
+        counts[read(&shape, &bytes).err().unwrap_or(0) as usize] += 1;
+    }
+    println!("{counts:?}");
+    for number in [0, 6, 7, 20, 9, 19] {
+        assert!(counts[number] > 1000, "{number}: {counts:?}");
     }
 }
 
@@ -276,6 +367,15 @@ fn fields_have_no_room_for_larger_numbers() {
     assert_eq!(field(&Call::Ready { port: 0 }), None);
     assert_eq!(field(&Call::Where { entry: 0 }), None);
     assert_eq!(field(&Call::Round { room: vec![0; 16] }), None);
+    for settings in [
+        Settings::wide(4, 24, 1, 64, 1, 0),
+        Settings {
+            packets: 1,
+            ..Settings::ten_bytes(1, 64, 1, 0)
+        },
+    ] {
+        assert_eq!(field(&Call::Setup(settings)), None);
+    }
     let nine = Call::Arrive {
         port: 0,
         header: vec![0; 9],

@@ -1,6 +1,6 @@
 //! `soak [CALLS [SEED]]`: so many calls of the library beside the model, and
 //! a damaged memory for each 50 of them, with what the night crew asks of it, on
-//! all processors.
+//! switches of every shape and on all processors.
 
 use std::process::exit;
 use std::time::Instant;
@@ -11,14 +11,28 @@ use checks::workers::{number, on_all_processors};
 use checks::{library, run};
 
 const USAGE: &str = "soak [CALLS [SEED]]";
-const CALLS_A_RUN: u64 = 5000;
-const DAMAGED_A_RUN: u64 = 100;
+/// Of a small switch; of a large one fewer.
+const DAMAGED_A_RUN: usize = 100;
 const CALLS_FOR_A_DAMAGED: u64 = 50;
 /// From so many calls on, each refusal must have come often enough, and each
 /// way of breaking a rule.
 const MANY_CALLS: u64 = 1_000_000;
 /// Of ten million calls and 200,000 damaged memories, ten times as often.
 const CALLS_FOR_A_WAY: u64 = 100_000;
+
+/// The plans of the first numbers, with so many parts in all.
+fn enough<P>(parts: u64, plan: impl Fn(u64) -> (P, usize)) -> Vec<P> {
+    let mut planned = 0;
+    (0..)
+        .map(plan)
+        .take_while(|&(_, more)| {
+            let before = planned;
+            planned += more as u64;
+            before < parts
+        })
+        .map(|(plan, _)| plan)
+        .collect()
+}
 
 fn main() {
     let mut words = std::env::args().skip(1);
@@ -27,14 +41,17 @@ fn main() {
     println!("soak of {calls} calls, seed {seed}");
 
     let start = Instant::now();
+    let plans = enough(calls, |number| {
+        let plan = run::Plan::numbered(seed, number);
+        (plan, plan.calls)
+    });
     let counts = on_all_processors(
         "differential run",
-        (calls + CALLS_A_RUN - 1) / CALLS_A_RUN,
+        plans.len() as u64,
         Counts::default(),
         |run| {
             let mut counts = Counts::default();
-            let plan = run::Plan::numbered(seed, run, CALLS_A_RUN as usize);
-            match run::run(&plan, &library::call, &mut counts) {
+            match run::run(&plans[run as usize], &library::call, &mut counts) {
                 Ok(()) => Ok(counts),
                 Err(failure) => Err(format!("{failure}")),
             }
@@ -49,15 +66,17 @@ fn main() {
     println!("{counts}");
 
     let start = Instant::now();
-    let damaged = calls / CALLS_FOR_A_DAMAGED;
+    let plans = enough(calls / CALLS_FOR_A_DAMAGED, |number| {
+        let plan = damage::Plan::numbered(seed, number, DAMAGED_A_RUN);
+        (plan, plan.damaged)
+    });
     let verdicts = on_all_processors(
         "damage run",
-        (damaged + DAMAGED_A_RUN - 1) / DAMAGED_A_RUN,
+        plans.len() as u64,
         Verdicts::default(),
         |run| {
             let mut verdicts = Verdicts::default();
-            let plan = damage::Plan::numbered(seed, run, DAMAGED_A_RUN as usize);
-            match damage::run(&plan, &library::call, &mut verdicts) {
+            match damage::run(&plans[run as usize], &library::call, &mut verdicts) {
                 Ok(()) => Ok(verdicts),
                 Err(failure) => Err(format!("{failure}")),
             }

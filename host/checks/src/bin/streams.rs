@@ -11,12 +11,7 @@ use model::{Call, Settings};
 
 /// Setups of so many nodes, with nothing else at an edge.
 fn setups(nodes: &[u32]) -> Vec<u8> {
-    let settings = |&nodes| Settings {
-        nodes,
-        beat: 64,
-        slots: 1,
-        credit: 16,
-    };
+    let settings = |&nodes| Settings::ten_bytes(nodes, 64, 1, 16);
     nodes
         .iter()
         .flat_map(|nodes| traffic::field(&Call::Setup(settings(nodes))).expect("a field"))
@@ -55,11 +50,11 @@ fn main() {
     }
     let count: u64 = words[2].parse().expect("a number of streams");
     let first: u64 = words[3].parse().expect("a seed");
-    // 65,536 bytes are enough for 1,222 nodes a port; 2,049 are in no row.
-    let said = run(&words[1], &setups(&[1222, 1223, 2048, 2049]));
+    // 65,536 bytes are enough for 1,143 nodes a port; 2,049 are in no row.
+    let said = run(&words[1], &setups(&[1143, 1144, 2048, 2049]));
     if said != b"1 0\n2 1\n3 1\n4 2\n" {
         let said = String::from_utf8_lossy(&said);
-        eprintln!("streams: setups of 1,222, 1,223, 2,048 and 2,049 nodes: {said}");
+        eprintln!("streams: setups of 1,143, 1,144, 2,048 and 2,049 nodes: {said}");
         exit(1);
     }
     let mut lines = 0;

@@ -4,16 +4,17 @@
 // Not every test uses all of it.
 #![allow(dead_code)]
 
-use checks::{library, Desk};
-use model::{Call, Reply, PORTS, QUEUES};
+use checks::{library, reader, Desk};
+use model::{Call, Reply, Shape};
 
-/// The calls that a round is.
-pub fn calls_of_a_round() -> Vec<Call> {
-    let stitches = (0..PORTS).map(|port| Call::Stitch { port });
-    let queues = |port| (0..QUEUES).map(move |queue| Call::Prefetch { port, queue });
-    let turns = (0..PORTS).map(|port| Call::Turn { port });
+/// The calls that a round of a switch of this shape is.
+pub fn calls_of_a_round(shape: &Shape) -> Vec<Call> {
+    let Shape { ports, queues, .. } = *shape;
+    let stitches = (0..ports).map(|port| Call::Stitch { port });
+    let of_port = |port| (0..queues).map(move |queue| Call::Prefetch { port, queue });
+    let turns = (0..ports).map(|port| Call::Turn { port });
     stitches
-        .chain((0..PORTS).flat_map(queues))
+        .chain((0..ports).flat_map(of_port))
         .chain(turns)
         .collect()
 }
@@ -31,6 +32,20 @@ pub fn told(reply: Reply) -> [u8; 4] {
 pub type Made = Result<Vec<u8>, String>;
 pub type Round = fn(&mut [u8]) -> Made;
 
+/// The ports of the switch in these bytes.
+fn ports(memory: &[u8]) -> std::ops::Range<u32> {
+    0..reader::settings(memory).ports
+}
+
+fn queues(memory: &[u8]) -> u32 {
+    reader::settings(memory).queues
+}
+
+/// All but the last.
+fn but_last(ports: std::ops::Range<u32>) -> std::ops::Range<u32> {
+    0..ports.end - 1
+}
+
 fn stitch_each(memory: &mut [u8], ports: impl Iterator<Item = u32>) -> Result<(), String> {
     for port in ports {
         library::call(memory, &Call::Stitch { port })?;
@@ -39,7 +54,7 @@ fn stitch_each(memory: &mut [u8], ports: impl Iterator<Item = u32>) -> Result<()
 }
 
 fn prefetch_each(memory: &mut [u8], queues: u32, times: u32) -> Result<(), String> {
-    for (port, queue) in (0..PORTS).flat_map(|port| (0..queues).map(move |q| (port, q))) {
+    for (port, queue) in ports(memory).flat_map(|port| (0..queues).map(move |q| (port, q))) {
         for _ in 0..times {
             library::call(memory, &Call::Prefetch { port, queue })?;
         }
@@ -47,8 +62,13 @@ fn prefetch_each(memory: &mut [u8], queues: u32, times: u32) -> Result<(), Strin
     Ok(())
 }
 
+/// What a round tells where no port sends.
+fn idle(memory: &[u8]) -> Vec<u8> {
+    [0, 1, 0, 0].repeat(ports(memory).len())
+}
+
 fn turn_each(memory: &mut [u8], ports: impl Iterator<Item = u32>) -> Made {
-    let mut turns = [0, 1, 0, 0].repeat(PORTS as usize);
+    let mut turns = idle(memory);
     for port in ports {
         let reply = library::call(memory, &Call::Turn { port })?;
         turns[4 * port as usize..][..4].copy_from_slice(&told(reply));
@@ -61,7 +81,7 @@ pub fn with_round(made: Round) -> impl Desk {
     move |memory: &mut [u8], call: &Call| {
         let mut judged = memory.to_vec();
         match library::call(&mut judged, call)? {
-            Reply::Turns(_) => Ok(Reply::Turns(made(memory)?.try_into().unwrap())),
+            Reply::Turns(_) => Ok(Reply::Turns(made(memory)?)),
             _ => library::call(memory, call),
         }
     }
@@ -75,9 +95,9 @@ pub struct Slip {
 }
 
 pub fn right(m: &mut [u8]) -> Made {
-    stitch_each(m, 0..4)?;
-    prefetch_each(m, 24, 1)?;
-    turn_each(m, 0..4)
+    stitch_each(m, ports(m))?;
+    prefetch_each(m, queues(m), 1)?;
+    turn_each(m, ports(m))
 }
 
 pub const SLIPS: [Slip; 9] = [
@@ -85,9 +105,9 @@ pub const SLIPS: [Slip; 9] = [
         name: "turns before prefetches",
         delays: true,
         made: |m| {
-            stitch_each(m, 0..4)?;
-            let turns = turn_each(m, 0..4);
-            prefetch_each(m, 24, 1)?;
+            stitch_each(m, ports(m))?;
+            let turns = turn_each(m, ports(m));
+            prefetch_each(m, queues(m), 1)?;
             turns
         },
     },
@@ -95,75 +115,77 @@ pub const SLIPS: [Slip; 9] = [
         name: "prefetches before stitches",
         delays: true,
         made: |m| {
-            prefetch_each(m, 24, 1)?;
-            stitch_each(m, 0..4)?;
-            turn_each(m, 0..4)
+            prefetch_each(m, queues(m), 1)?;
+            stitch_each(m, ports(m))?;
+            turn_each(m, ports(m))
         },
     },
     Slip {
         name: "the first refusal ends it",
         delays: true,
         made: |m| {
-            for call in calls_of_a_round().iter().take(100) {
+            let calls = calls_of_a_round(&reader::settings(m).shape());
+            let before_turns = |call: &&Call| !matches!(call, Call::Turn { .. });
+            for call in calls.iter().take_while(before_turns) {
                 if let Reply::Refused(_) = library::call(m, call)? {
-                    return Ok([0, 1, 0, 0].repeat(4));
+                    return Ok(idle(m));
                 }
             }
-            turn_each(m, 0..4)
+            turn_each(m, ports(m))
         },
     },
     Slip {
         name: "no prefetch for the last queue",
         delays: true,
         made: |m| {
-            stitch_each(m, 0..4)?;
-            prefetch_each(m, 23, 1)?;
-            turn_each(m, 0..4)
+            stitch_each(m, ports(m))?;
+            prefetch_each(m, queues(m) - 1, 1)?;
+            turn_each(m, ports(m))
         },
     },
     Slip {
         name: "two prefetches for each queue",
         delays: false,
         made: |m| {
-            stitch_each(m, 0..4)?;
-            prefetch_each(m, 24, 2)?;
-            turn_each(m, 0..4)
+            stitch_each(m, ports(m))?;
+            prefetch_each(m, queues(m), 2)?;
+            turn_each(m, ports(m))
         },
     },
     Slip {
         name: "no stitch at the last port",
         delays: true,
         made: |m| {
-            stitch_each(m, 0..3)?;
-            prefetch_each(m, 24, 1)?;
-            turn_each(m, 0..4)
+            stitch_each(m, but_last(ports(m)))?;
+            prefetch_each(m, queues(m), 1)?;
+            turn_each(m, ports(m))
         },
     },
     Slip {
         name: "no turn at the last port",
         delays: true,
         made: |m| {
-            stitch_each(m, 0..4)?;
-            prefetch_each(m, 24, 1)?;
-            turn_each(m, 0..3)
+            stitch_each(m, ports(m))?;
+            prefetch_each(m, queues(m), 1)?;
+            turn_each(m, but_last(ports(m)))
         },
     },
     Slip {
         name: "stitches from the last port on",
         delays: false,
         made: |m| {
-            stitch_each(m, (0..4).rev())?;
-            prefetch_each(m, 24, 1)?;
-            turn_each(m, 0..4)
+            stitch_each(m, ports(m).rev())?;
+            prefetch_each(m, queues(m), 1)?;
+            turn_each(m, ports(m))
         },
     },
     Slip {
         name: "turns from the last port on",
         delays: false,
         made: |m| {
-            stitch_each(m, 0..4)?;
-            prefetch_each(m, 24, 1)?;
-            turn_each(m, (0..4).rev())
+            stitch_each(m, ports(m))?;
+            prefetch_each(m, queues(m), 1)?;
+            turn_each(m, ports(m).rev())
         },
     },
 ];
