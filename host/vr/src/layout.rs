@@ -214,14 +214,9 @@ mod tests {
         let page = include_str!("../../../docs/FINDINGS.md");
         let rule = page.lines().find(|line| line.starts_with("| (a) | "));
         let rule = rule.unwrap().replace(',', "");
-        for Row { name, row, .. } in &ROWS {
+        for Row { name, row, .. } in ROWS.iter().chain(&TEN_BYTES_ROWS) {
             let told = in_brackets(&rule, name);
             assert!(told.contains(&row.replace(',', "")), "{name}: {told}");
-        }
-        for Row { name, row, .. } in &TEN_BYTES_ROWS {
-            let told = in_brackets(&rule, name);
-            let number = row.split(' ').next();
-            assert!(told.split(' ').any(|word| Some(word) == number), "{told}");
         }
     }
 

@@ -338,7 +338,10 @@ fn maps_in_few_lines() {
     let by_turns = lines(&map(|id| (id % 4) as u8));
     assert!(by_turns.iter().all(|line| line.len() < 120));
     assert_eq!(by_turns[1][..16], *"   0  0, 4, 8, 1");
-    assert_eq!(by_turns.last().unwrap().split(' ').last(), Some("4095"));
+    assert_eq!(
+        by_turns.last().unwrap().split(' ').next_back(),
+        Some("4095")
+    );
     // Cut off behind id 1.
     let cut = lines(&small()[..at::MAPPED + 2]);
     assert_eq!(cut, [heading, "   0  0", "   1  1", "   -  2 to 4095"]);

@@ -326,7 +326,7 @@ fn a_wide_image() {
         (4116, 3, 4, "(b) port 4: last served queue 3 is none of 3".to_string()),
         (16 + 4095, 5, 5 + 4095, "(b) destination id 4095: mapped port 5 is none of 5".into()),
         (4317 + 4 * 39 + 3, 2, 5 + 4096 + 14, "(b) port 4, queue 2: the prefetch list has 2 nodes, its slots are 1".into()),
-        (4157 + 2 * 1, 40, 1, "(c) ingress list of port 0: entry id 10240 at position 0 is no node: port 5 is none of 5".into()),
+        (4157 + 2, 40, 1, "(c) ingress list of port 0: entry id 10240 at position 0 is no node: port 5 is none of 5".into()),
         (4487 + 1, 12, 0, format!("{ingress}length 12 is under 13")),
         (4517, 3, 0, format!("{ingress}queue 3 is none of 3")),
         (4522, 8, 0, format!("{ingress}destination id 8 is above 7")),

@@ -86,7 +86,7 @@ fn shown_as_a_table() {
     let numbers: Vec<&str> = ten
         .lines()
         .skip(3)
-        .filter_map(|line| line.split(' ').last())
+        .filter_map(|line| line.split(' ').next_back())
         .collect();
     let wanted = ["1", "2", "23", "8191", "1", "3735928559", "255", "127"];
     assert_eq!(numbers, wanted);
