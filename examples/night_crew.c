@@ -5,7 +5,10 @@
 
 #include "ventorupo.h"
 
-enum { NODES = 2, BEAT = 64, SLOTS = 1, CREDIT = 16, SIZE = 2092, MAP = 12, LAST_SERVED = 16 }; /* vr_size(NODES); docs/LAYOUT.md */
+static const struct vr_settings settings = {
+    .nodes = 2, .beat = 64, .slots = 1, .credit = 16, .ports = 4, .queues = 24, .edition = VR_TEN_BYTES};
+
+enum { SIZE = 6188, NODES_IN_ALL = 8, MAP = 16, LAST_SERVED = 4112 }; /* vr_size(&settings); docs/LAYOUT.md */
 
 static uint8_t image[SIZE];
 
@@ -13,7 +16,7 @@ static uint8_t image[SIZE];
 static void audit(void)
 {
     static const char *kinds[] = {"free", "ingress", "egress", "prefetch"};
-    uint8_t places[8 * 4 * NODES];
+    uint8_t places[8 * NODES_IN_ALL];
     unsigned count[4] = {0};
     uint32_t answer = vr_audit(image, sizeof image, places, sizeof places);
     if (answer != VR_DONE) {
@@ -56,7 +59,7 @@ int main(void)
     uint16_t entry;
     find(); /* zero bytes: rule (a), the number of ports */
     repair();
-    if (vr_setup(image, sizeof image, NODES, BEAT, SLOTS, CREDIT) != VR_DONE) return 1;
+    if (vr_setup(image, sizeof image, &settings) != VR_DONE) return 1;
     if (vr_map(image, sizeof image, 0, 3) != VR_DONE) return 1;
     for (int packet = 0; packet < 2; packet++)
         if (vr_arrive(image, sizeof image, 0, header, sizeof header, &entry) != VR_DONE) return 1;

@@ -3,15 +3,13 @@
 #include <inttypes.h>
 #include <stdio.h>
 #include <stdlib.h>
-#include <string.h>
 
 #include "ventorupo.h"
 
-enum { NODES = 4, BEAT = 64, SLOTS = 2, CREDIT = 16, OUT = 3 };
+enum { PORTS = 4, QUEUES = 24, OUT = 3 };
 
-struct packet {
-    uint32_t destination, source, queue, length, timestamp, transaction;
-};
+static const struct vr_settings settings = {
+    .nodes = 4, .beat = 64, .slots = 2, .credit = 16, .ports = PORTS, .queues = QUEUES, .edition = VR_TEN_BYTES};
 
 static uint8_t *mem;
 static size_t len;
@@ -23,27 +21,6 @@ static uint32_t be(const uint8_t *at, int n)
     return x;
 }
 
-/* CRC-8 of polynomial x^8 + x^2 + x + 1, from 0 on. */
-static uint8_t checksum(const uint8_t *at, size_t n)
-{
-    uint8_t c = 0;
-    while (n-- > 0) {
-        c ^= *at++;
-        for (int i = 0; i < 8; i++) c = (uint8_t)(c & 0x80 ? c << 1 ^ 0x07 : c << 1);
-    }
-    return c;
-}
-
-static void make_header(struct packet p, uint8_t h[10])
-{
-    uint32_t first = p.destination << 22 | p.source << 20 | p.queue << 15 | p.length << 2;
-    memset(h, 0, 10);
-    for (int i = 0; i < 3; i++) h[i] = (uint8_t)(first >> (16 - 8 * i));
-    for (int i = 0; i < 4; i++) h[3 + i] = (uint8_t)(p.timestamp >> (24 - 8 * i));
-    h[8] = (uint8_t)p.transaction;
-    h[9] = checksum(h, 9);
-}
-
 /* Whether a call was done; a refusal is printed. */
 static int done(const char *step, uint32_t answer)
 {
@@ -52,13 +29,14 @@ static int done(const char *step, uint32_t answer)
     return 0;
 }
 
-static void arrive(struct packet p)
+static void arrive(struct vr_header h)
 {
-    uint8_t header[10];
+    uint8_t header[12];
+    uint32_t size;
     uint16_t entry;
-    make_header(p, header);
-    if (done("arrive", vr_arrive(mem, len, p.source, header, sizeof header, &entry)))
-        printf("arrive: port %" PRIu32 ", queue %" PRIu32 ", length %" PRIu32 ": entry %u\n", p.source, p.queue, p.length, (unsigned)entry);
+    if (!done("header", vr_write_header(VR_TEN_BYTES, PORTS, QUEUES, &h, header, &size))) return;
+    if (done("arrive", vr_arrive(mem, len, h.source, header, size, &entry)))
+        printf("arrive: port %" PRIu32 ", queue %" PRIu32 ", length %" PRIu32 ": entry %u\n", h.source, h.queue, h.length, (unsigned)entry);
 }
 
 /* The oldest packet of the port where it arrived goes to the port that the map names. */
@@ -80,10 +58,10 @@ static void fetch(uint32_t queue)
 /* All ports at once: a stitch at each, a prefetch for each queue, a turn at each. */
 static void run_round(void)
 {
-    uint8_t turns[16];
+    uint8_t turns[4 * PORTS];
     if (!done("round", vr_round(mem, len, turns, sizeof turns))) return;
     printf("round:");
-    for (int port = 0; port < 4; port++) {
+    for (int port = 0; port < PORTS; port++) {
         const uint8_t *t = turns + 4 * port;
         if (t[0] != VR_DONE)
             printf(" port %d is refused %u", port, t[0]); /* not on a switch state */
@@ -91,7 +69,7 @@ static void run_round(void)
             printf(" port %d is idle", port);
         else
             printf(" port %d sends entry %" PRIu32, port, be(t + 2, 2));
-        putchar(port < 3 ? ',' : '\n');
+        putchar(port < PORTS - 1 ? ',' : '\n');
     }
 }
 
@@ -125,17 +103,17 @@ static void turn(void)
 
 int main(void)
 {
-    len = (size_t)vr_size(NODES);
+    len = (size_t)vr_size(&settings);
     mem = calloc(len, 1);
     if (mem == NULL) return 1;
     printf("size: %zu bytes\n", len);
     run_round(); /* zero bytes are no switch state */
-    if (!done("setup", vr_setup(mem, len, NODES, BEAT, SLOTS, CREDIT))) return 1;
+    if (!done("setup", vr_setup(mem, len, &settings))) return 1;
     if (!done("map", vr_map(mem, len, 1, OUT))) return 1;
-    arrive((struct packet){1, 0, 5, 77, 1000, 1});
-    arrive((struct packet){1, 0, 0, 12, 1001, 2});
-    arrive((struct packet){1, 2, 5, 140, 1002, 3});
-    arrive((struct packet){1, 2, 5, 8191, 1003, 4}); /* costs more than the arrival credit */
+    arrive((struct vr_header){.destination = 1, .source = 0, .queue = 5, .length = 77, .timestamp = 1000, .transaction = 1});
+    arrive((struct vr_header){.destination = 1, .source = 0, .queue = 0, .length = 12, .timestamp = 1001, .transaction = 2});
+    arrive((struct vr_header){.destination = 1, .source = 2, .queue = 5, .length = 140, .timestamp = 1002, .transaction = 3});
+    arrive((struct vr_header){.destination = 1, .source = 2, .queue = 5, .length = 8191}); /* costs more than the arrival credit */
     stitch(0);
     fetch(5);
     turn(); /* queue 5 has no outward credit yet */

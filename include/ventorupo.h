@@ -1,22 +1,55 @@
-/* The queue manager of the packet switch: four ports, 24 queues a port, in memory that the caller lends.
+/* The queue manager of the packet switch: 2 to 32 ports, 2 to 64 queues a port, in memory that the caller lends.
+ *
+ *     struct vr_settings s = {.nodes = 256, .beat = 64, .slots = 8, .credit = 5000, .ports = 8, .queues = 16, .edition = VR_WIDE};
+ *     size_t len = (size_t)vr_size(&s);                    the bytes that the state takes; 0 if a setting is not in its row
+ *     uint8_t *mem = malloc(len);
+ *     if (vr_setup(mem, len, &s) != VR_DONE) ...           then vr_map and vr_credit; headers come in by vr_arrive, packets leave by vr_round
  *
  * Every call but vr_size and vr_find answers VR_DONE, which is 0, or a refusal's number (enum vr_answer); a refused call changes no byte
  * that was lent, the room for its answer included. Nothing has to be checked beforehand: any memory and any numbers are taken. Where a call
  * is refused 3, vr_find tells why, and vr_repair makes a state again of every memory that keeps rule (a), whose packets are lost then.
  *
+ * The settings, and the row of each; a number that is not in its row is refused 2:
+ *
+ *     nodes    nodes a port               1 to 2,048
+ *     beat     bytes                      64, 128, 256 or 512
+ *     slots    of a prefetch list         1 to 8
+ *     credit   arrival credit, in beats,  0 to 65,535
+ *              of each port and queue
+ *     ports                               2 to 32; with ten-byte headers 4
+ *     queues   queues a port              2 to 64; with ten-byte headers 24
+ *     edition  of the header              0, VR_TEN_BYTES, or 1, VR_WIDE
+ *     packets                             0
+ *
+ * A header's fields, in this order, each from its most significant bit on:
+ *
+ *     destination  as wide as ports - 1 needs   the destination id, which the map takes to a port
+ *     source       the same                     the port where the packet arrives
+ *     queue        as wide as queues - 1 needs
+ *     length       13 bits                      header, data and footer, in bytes: from the header's size plus 2 to 8,191
+ *     poisoned     1 bit
+ *     reserved     zeros up to a byte's end
+ *     timestamp    32 bits
+ *     credit       16 bits; of ten bytes 8      on offer (not used yet)
+ *     transaction  8 bits
+ *     checksum     8 bits                       CRC-8 of all bytes before it: polynomial x^8 + x^2 + x + 1, start 0, no reflection
+ *
+ * That is ten bytes in edition 0. A wide header has 11 or 12: 11, 11, 12 and 12 for 4 ports and 24 queues, 8 and 16, 16 and 32, 32 and 64.
+ * vr_write_header makes headers of both editions, and vr_read_header reads them.
+ *
  * A packet's price is its length divided by the beat, rounded up; packets of queue 0 are free.
  *
- * Setup tests 2, then 1. The others test 3 first, then in the order of their numbers, but map tests 15 before 4, and arrive's order is
- * 3, 4, 6, 7, 20, 8, 9, 19, 10, 11.
+ * Setup tests 2, then 1; vr_read_header 2, 6, 7, 20, 9, 19; vr_write_header 2, then 21. The others test 3 first, then in the order of
+ * their numbers, but map tests 15 before 4, and arrive's order is 3, 4, 6, 7, 20, 8, 9, 19, 10, 11.
  *
  * What C asks remains the caller's: each pointer is valid, and not null, for the length given (a room for its whole size); pointers to
- * uint16_t, uint32_t and uint64_t are aligned; the memories lent to one call do not overlap; and no two calls run at once on a memory
- * that one of them may change.
+ * uint16_t, uint32_t, uint64_t and the structs are aligned; the memories lent to one call do not overlap; and no two calls run at once on a
+ * memory that one of them may change.
  *
- * A call takes up to 10,190 bytes of stack, whatever the nodes (measured on x86-64, not proved): the test for a state keeps a mark for
- * each of up to 8,192 nodes there, and a sum for each port and queue but 0.
+ * A call takes up to N bytes of stack (N: TO BE MEASURED), whatever the settings (measured on x86-64, not proved): the test for a state
+ * keeps a mark for each of up to 65,536 nodes there, and a sum for each port and queue but 0.
  *
- * Numbers that are lent for an answer (uint16_t *, uint32_t *, uint64_t *) are the machine's own; the rooms of bytes are big-endian.
+ * Numbers, and structs of numbers, are the machine's own; the rooms of bytes are big-endian.
  *
  * Numbers are wide on purpose: port 70,000 is refused 4, an amount above 65,535 is a sum above 65,535, an entry above 65,535 is no node.
  */
@@ -33,34 +66,65 @@ extern "C" {
 /* What a call answers. Beside each refusal: the calls that give it, and its meaning. */
 enum vr_answer {
     VR_DONE = 0,
-    VR_SHORT_MEMORY = 1,     /* setup: memory shorter than the nodes need */
-    VR_BAD_SETTING = 2,      /* setup: a setting not in its row */
-    VR_NO_STATE = 3,         /* all but setup and the finding: memory is no switch state; for repair, breaks rule (a) */
-    VR_NO_PORT = 4,          /* all with a port: port above 3 */
-    VR_NO_QUEUE = 5,         /* prefetch, credit: queue above 23; for credit also 0 */
-    VR_HEADER_SIZE = 6,      /* arrive: header not ten bytes */
-    VR_CHECKSUM = 7,         /* arrive: checksum differs */
+    VR_SHORT_MEMORY = 1,     /* setup: memory shorter than its settings need */
+    VR_BAD_SETTING = 2,      /* setup, read_header, write_header: a setting not in its row */
+    VR_NO_STATE = 3,         /* all but setup, find, read_header, write_header: memory is no switch state; for repair, breaks rule (a) */
+    VR_NO_PORT = 4,          /* all with a port: port above the last */
+    VR_NO_QUEUE = 5,         /* prefetch, credit: queue above the last; for credit also 0 */
+    VR_HEADER_SIZE = 6,      /* arrive, read_header: header not of its edition's size */
+    VR_CHECKSUM = 7,         /* arrive, read_header: checksum differs */
     VR_SOURCE = 8,           /* arrive: header's source isn't the arriving port */
-    VR_TOO_SHORT = 9,        /* arrive: length under 12 */
+    VR_TOO_SHORT = 9,        /* arrive, read_header: length under the header's size plus 2 */
     VR_NO_CREDIT = 10,       /* arrive: price above arrival credit */
     VR_NO_FREE_NODE = 11,    /* arrive: free list empty */
     VR_NOTHING_THERE = 12,   /* stitch, prefetch: list to take from is empty */
     VR_SLOTS_IN_USE = 13,    /* prefetch: all slots in use */
     VR_TOO_MUCH_CREDIT = 14, /* credit: sum above 65,535 */
-    VR_NO_SUCH_ID = 15,      /* map, where: id above 3; no such node */
-    VR_HEADER_QUEUE = 19,    /* arrive: header's queue above 23 */
-    VR_RESERVED_BIT = 20,    /* arrive: header's reserved bit is 1 */
+    VR_NO_SUCH_ID = 15,      /* map, where: id above 4,095; no such node */
+    VR_HEADER_QUEUE = 19,    /* arrive, read_header: header's queue above the last */
+    VR_RESERVED_BIT = 20,    /* arrive, read_header: a reserved bit of the header is 1 */
+    VR_NO_FIT = 21,          /* write_header: a value doesn't fit its field, length under the header's size plus 2, or queue above the last */
     VR_SHORT_ROOM = 27,      /* round, audit: room of less than four bytes a port; for audit, eight a node */
 };
 
-/* The bytes that a state of so many nodes a port takes; 0 if nodes is not in its row. */
-uint64_t vr_size(uint32_t nodes);
+/* The header's editions. */
+enum vr_edition {
+    VR_TEN_BYTES = 0, /* 4 ports, 24 queues */
+    VR_WIDE = 1,      /* 2 to 32 ports, 2 to 64 queues */
+};
 
-/* Writes the starting ledger, also over an older one: nodes a port 1 to 2,048; beat 64, 128, 256 or 512; slots of a prefetch list 1 to 8;
- * credit, the arrival credit of each port and queue, 0 to 65,535. Bytes past vr_size(nodes) are never changed, by this call or another. */
-uint32_t vr_setup(uint8_t *mem, size_t len, uint32_t nodes, uint32_t beat, uint32_t slots, uint32_t credit);
+/* What a switch is set up with; any numbers may stand here. */
+struct vr_settings {
+    uint32_t nodes;   /* nodes a port: 1 to 2,048 */
+    uint32_t beat;    /* bytes: 64, 128, 256 or 512 */
+    uint32_t slots;   /* of a prefetch list: 1 to 8 */
+    uint32_t credit;  /* the arrival credit of each port and queue, in beats: 0 to 65,535 */
+    uint32_t ports;   /* 2 to 32; in edition 0 it is 4 */
+    uint32_t queues;  /* queues a port: 2 to 64; in edition 0 it is 24 */
+    uint32_t edition; /* enum vr_edition */
+    uint32_t packets; /* 0 */
+};
 
-/* Takes the front of the port's free list, records the ten-byte header and appends the node to ingress. Writes the entry id. */
+/* What a header says; any numbers may stand here. */
+struct vr_header {
+    uint32_t destination; /* the destination id */
+    uint32_t source;      /* the port where the packet arrives */
+    uint32_t queue;
+    uint32_t length;      /* header, data and footer, in bytes */
+    uint32_t poisoned;    /* 1 for a poisoned packet, else 0 */
+    uint32_t timestamp;
+    uint32_t credit;      /* on offer */
+    uint32_t transaction; /* the transaction id */
+};
+
+/* The bytes that a state of these settings takes; 0 if one of them is not in its row. */
+uint64_t vr_size(const struct vr_settings *settings);
+
+/* Writes the starting ledger for these settings, also over an older one. Bytes past vr_size(settings) are never changed, by this call or
+ * another. */
+uint32_t vr_setup(uint8_t *mem, size_t len, const struct vr_settings *settings);
+
+/* Takes the front of the port's free list, records the header and appends the node to ingress. Writes the entry id. */
 uint32_t vr_arrive(uint8_t *mem, size_t len, uint32_t port, const uint8_t *header, size_t header_len, uint16_t *entry);
 
 /* Takes the oldest ingress node to the egress list of the port that the map names now. Writes ten bytes, big-endian:
@@ -73,7 +137,7 @@ uint32_t vr_prefetch(uint8_t *mem, size_t len, uint32_t port, uint32_t queue, ui
 /* Adds the amount to the queue's outward credit. */
 uint32_t vr_credit(uint8_t *mem, size_t len, uint32_t port, uint32_t queue, uint32_t amount);
 
-/* Sets the port of one destination id, 0 to 3. */
+/* Sets the port of one destination id, 0 to 4,095. */
 uint32_t vr_map(uint8_t *mem, size_t len, uint32_t id, uint32_t port);
 
 /* Lets one packet leave the port, or none if nothing is ready. Writes sixteen bytes, big-endian: kind (1: 0 idle, 1 inside, 2 outside),
@@ -84,9 +148,10 @@ uint32_t vr_turn(uint8_t *mem, size_t len, uint32_t port, uint8_t sent[16]);
 /* A round: one stitch at each port, from 0 on; then one prefetch for each port and queue, port by port and queue by queue from 0; then one
  * turn at each port, from 0 on. Memory and turns are as of the same calls one by one, but the memory is tested once. A refusal inside
  * (12, 13) changes nothing and is passed over.
- * Writes four bytes for each port's turn, port by port: refusal number (1), 1 if idle (1), entry id (2, big-endian) or 0. Four ports have
- * sixteen; what is lent past them stays. Refused 3, then 27 if less is lent; then neither the memory nor the room changes. So look at the
- * answer first: in a room that was lent as zeros a refused round reads as four turns that sent node 0, whose bytes are 0 0 0 0. */
+ * Writes four bytes for each port's turn, port by port: refusal number (1), 1 if idle (1), entry id (2, big-endian) or 0. So 32 ports have
+ * 128, and these are always enough; what is lent past the last port's stays. Refused 3, then 27 if less is lent; then neither the memory nor
+ * the room changes. So look at the answer first: in a room that was lent as zeros a refused round reads as turns that sent node 0, whose
+ * bytes are 0 0 0 0. */
 uint32_t vr_round(uint8_t *mem, size_t len, uint8_t *turns, size_t turns_len);
 
 /* Writes the port's ready word, bit q for queue q, and the number of ones in it. */
@@ -96,8 +161,8 @@ uint32_t vr_ready(const uint8_t *mem, size_t len, uint32_t port, uint64_t *word,
  * queue or 0 (1), zero (1), position in the list from 0 (2). */
 uint32_t vr_where(const uint8_t *mem, size_t len, uint32_t entry, uint8_t place[8]);
 
-/* Writes where every node stands, port by port and index by index, eight bytes each as vr_where's: 32 bytes for each of the nodes a port, so
- * 65,536 are always enough; what is lent past them stays. Refused 3, then 27 if less is lent. */
+/* Writes where every node stands, port by port and index by index, eight bytes each as vr_where's: 8 * ports * nodes in all, so 524,288 are
+ * always enough; what is lent past them stays. Refused 3, then 27 if less is lent. */
 uint32_t vr_audit(const uint8_t *mem, size_t len, uint8_t *places, size_t places_len);
 
 /* What is wrong with a memory, whatever it holds; never refused. Writes the first rule of soundness that it breaks, 1 to 7 for (a) to (g),
@@ -109,6 +174,17 @@ void vr_find(const uint8_t *mem, size_t len, uint32_t *rule, uint64_t *item);
  * also over a sound ledger, whose packets are lost. Refused 3 exactly where rule (a) is broken: a setting not in its row, or memory too
  * short for its settings. */
 uint32_t vr_repair(uint8_t *mem, size_t len);
+
+/* Reads a header of a switch of this edition and so many ports and queues, and writes what it says. Source and destination are judged by
+ * their fields' width alone: with 5 ports a source of 7 is read, which vr_arrive refuses 8. */
+uint32_t vr_read_header(uint32_t edition, uint32_t ports, uint32_t queues, const uint8_t *header, size_t header_len,
+                        struct vr_header *fields);
+
+/* Writes the header that says this, its checksum made, and its size in bytes, 10 to 12; the room past the size stays. Refused 21 exactly if
+ * a value doesn't fit its field, the length is under the size plus 2, or the queue is above the last. vr_read_header reads of it what was
+ * written; and of what vr_read_header has read, this call makes the same bytes again. */
+uint32_t vr_write_header(uint32_t edition, uint32_t ports, uint32_t queues, const struct vr_header *fields, uint8_t header[12],
+                         uint32_t *size);
 
 #ifdef __cplusplus
 }

@@ -1,21 +1,24 @@
 //! How fast the proved library is on this machine, told as Markdown: beside a
 //! bare walk over the same links, and beside the model.
 //!
-//! Every public call but setup, the finding and the repair first tests whether
-//! the memory is a state. That test by itself, the acts without it, and the
-//! checksum are timed too, from archives of their own.
+//! Every public call but setup, the finding, the repair and those on headers
+//! first tests whether the memory is a state. That test by itself, the acts
+//! without it, and the checksum are timed too, from archives of their own. All
+//! but the checksum is timed on switches with ten-byte headers, and then on the
+//! largest, with 32 ports and 64 queues.
 
 mod acts;
+mod headers;
 mod night;
 mod rounds;
 mod sums;
 
 use std::time::Instant;
 
-use checks::library;
-use checks::reader::{Tables, LISTS};
-use model::{size, Call, Choice, Model, Reply, Settings, PORTS, QUEUES, ROUND_BYTES};
-use traffic::{header, Profile, Traffic};
+use checks::tables::Tables;
+use checks::{library, writer};
+use model::{size, Call, Choice, Model, Reply, Settings, Shape};
+use traffic::{plain, Profile, Traffic};
 use ventorupo::calls;
 
 /// How often each thing is timed. The best counts: other work on the machine
@@ -29,21 +32,47 @@ fn timed(work: impl FnOnce()) -> f64 {
     start.elapsed().as_nanos() as f64
 }
 
-fn settings(nodes: u32) -> Settings {
-    Settings {
-        nodes,
-        beat: 64,
-        slots: 8,
-        credit: 5000,
+/// The switches that are timed.
+const SWITCHES: [Shape; 2] = [Shape::TEN_BYTES, Shape::wide(32, 64)];
+
+/// How many nodes a port they have.
+fn pools(shape: Shape) -> &'static [u32] {
+    match shape {
+        Shape::TEN_BYTES => &[1, 16, 64, 256, 2048],
+        _ => &[1, 16, 256, 2048],
     }
 }
 
-/// A setup, then valid traffic of the wanted kinds.
-fn valid_traffic(seed: u64, nodes: u32, calls: usize, wanted: fn(&Call) -> bool) -> Vec<Call> {
-    let mut model = Model::new(size(nodes));
-    let mut list = vec![Call::Setup(settings(nodes))];
+/// What a part is about, and which switch it is if it isn't that of ten bytes.
+fn heading(what: &str, shape: Shape) {
+    match shape {
+        Shape::TEN_BYTES => println!("### {what}\n"),
+        Shape { ports, queues, .. } => println!("### {what}; {ports} ports, {queues} queues\n"),
+    }
+}
+
+fn settings(shape: Shape, nodes: u32) -> Settings {
+    Settings::of(shape, nodes, 64, 8, 5000)
+}
+
+/// As the C interface has them.
+fn numbers(s: &Settings) -> [u32; 8] {
+    [
+        s.nodes, s.beat, s.slots, s.credit, s.ports, s.queues, s.edition, s.packets,
+    ]
+}
+
+/// A setup, then valid traffic of the wanted kinds; and the model behind it.
+fn valid_traffic(
+    seed: u64,
+    settings: Settings,
+    calls: usize,
+    wanted: fn(&Call) -> bool,
+) -> (Vec<Call>, Model) {
+    let mut model = Model::new(size(&settings));
+    let mut list = vec![Call::Setup(settings)];
     model.call(&list[0]);
-    let mut traffic = Traffic::new(seed, Profile::Valid);
+    let mut traffic = Traffic::of(seed, Profile::Valid, settings.shape());
     while list.len() <= calls {
         let call = traffic.next(&model);
         if wanted(&call) {
@@ -51,7 +80,7 @@ fn valid_traffic(seed: u64, nodes: u32, calls: usize, wanted: fn(&Call) -> bool)
             list.push(call);
         }
     }
-    list
+    (list, model)
 }
 
 /// All but setup, and but the round, which is timed by itself.
@@ -60,26 +89,20 @@ fn single(call: &Call) -> bool {
 }
 
 /// Memory after traffic: nodes in many lists, in no particular order.
-fn used_memory(seed: u64, nodes: u32) -> Vec<u8> {
-    let mut memory = vec![0; size(nodes)];
-    for call in valid_traffic(seed, nodes, 3000 + 20 * nodes as usize, single) {
-        match call {
-            // These change nothing.
-            Call::Ready { .. } | Call::Where { .. } => continue,
-            _ if acts::has_act(&call) => bare_act(&mut memory, &call),
-            _ => quick(&mut memory, &call),
-        };
-    }
-    memory
+fn used_memory(seed: u64, settings: Settings) -> Vec<u8> {
+    let nodes = (settings.ports * settings.nodes) as usize;
+    let (_, model) = valid_traffic(seed, settings, 3000 + 5 * nodes, single);
+    writer::image(model.ledger().expect("a switch that is set up"))
 }
 
 /// The bare walk: every list from its head along the links, as many nodes as
 /// its count says. Nothing is tested but the slice's end. It goes on from a sum
 /// and isn't inlined, so that no compiler can make many walks one.
 #[inline(never)]
-fn walk(memory: &[u8], tables: &Tables, nodes: usize, mut sum: u64) -> u64 {
+fn walk(memory: &[u8], tables: &Tables, mut sum: u64) -> u64 {
     let two = |at: usize| usize::from(u16::from_be_bytes([memory[at], memory[at + 1]]));
-    for list in 0..LISTS {
+    let (nodes, lists) = (tables.nodes, tables.lists());
+    for list in 0..lists {
         let at = tables.count.start + 4 * list;
         let count = [memory[at], memory[at + 1], memory[at + 2], memory[at + 3]];
         let mut entry = two(tables.head.start + 2 * list);
@@ -92,10 +115,10 @@ fn walk(memory: &[u8], tables: &Tables, nodes: usize, mut sum: u64) -> u64 {
     sum
 }
 
-/// Nanoseconds for each of some works on a memory of so many nodes, at its
-/// best. They take turns, so that all meet the same weather.
-fn in_turns<const K: usize>(nodes: u32, mut works: [&mut dyn FnMut(); K]) -> [f64; K] {
-    let times = 8_000 / (40 + nodes as usize);
+/// Nanoseconds for each of some works on a memory of these tables, at its best.
+/// They take turns, so that all meet the same weather.
+fn in_turns<const K: usize>(tables: &Tables, mut works: [&mut dyn FnMut(); K]) -> [f64; K] {
+    let times = (32_000 / (tables.ports * (40 + tables.nodes))).max(1);
     let mut least = [f64::INFINITY; K];
     for _ in 0..SAMPLES {
         for (least, work) in least.iter_mut().zip(&mut works) {
@@ -126,14 +149,13 @@ fn mean<const K: usize>(spent: &[[f64; K]], which: usize) -> f64 {
 }
 
 /// Nanoseconds for the bare walk, the test and ready on a memory.
-fn walks_of(memory: &[u8], nodes: u32) -> [f64; 3] {
-    let tables = Tables::of(nodes as usize);
+fn walks_of(memory: &[u8], tables: &Tables) -> [f64; 3] {
     let (mut sum, mut walks) = (0, 0);
     let spent = in_turns(
-        nodes,
+        tables,
         [
             &mut || {
-                sum = walk(memory, &tables, nodes as usize, sum);
+                sum = walk(memory, tables, sum);
                 walks += 1;
             },
             &mut || assert!(rules::is_state(memory)),
@@ -141,22 +163,25 @@ fn walks_of(memory: &[u8], nodes: u32) -> [f64; 3] {
         ],
     );
     // Each walk met each node once.
-    let once: u32 = (0..PORTS)
-        .flat_map(|port| (0..nodes).map(move |index| port * 2048 + index))
+    let once: usize = (0..tables.ports)
+        .flat_map(|port| (0..tables.nodes).map(move |index| port * 2048 + index))
         .sum();
-    assert_eq!(sum, u64::from(once) * walks);
+    assert_eq!(sum, once as u64 * walks);
     spent
 }
 
-fn the_test_for_a_state() {
-    println!("### The test for a state, beside a bare walk of the same links\n");
+fn the_test_for_a_state(shape: Shape) {
+    let what = "The test for a state, beside a bare walk of the same links";
+    heading(what, shape);
     println!("| N | nodes in all | bare walk, ns | test, ns | ns a node | ratio | in one memory | ready, ns | ratio | in one memory |");
     println!("|---|---|---|---|---|---|---|---|---|---|");
-    for nodes in [1, 16, 64, 256, 2048] {
+    for &nodes in pools(shape) {
+        let settings = settings(shape, nodes);
+        let tables = Tables::of(&settings);
         let spent: Vec<[f64; 3]> = (1..=MEMORIES)
-            .map(|seed| walks_of(&used_memory(seed, nodes), nodes))
+            .map(|seed| walks_of(&used_memory(seed, settings), &tables))
             .collect();
-        let all = f64::from(PORTS * nodes);
+        let all = tables.all_nodes() as f64;
         println!(
             "| {nodes} | {all} | {:.0} | {:.0} | {:.1} | {} | {:.0} | {} |",
             mean(&spent, 0),
@@ -184,21 +209,20 @@ const NAMES: [&str; 10] = [
 ];
 
 /// Nanoseconds a call of each kind, on a switch that is filled and emptied.
-fn each_call(nodes: u32) -> Vec<(&'static str, f64)> {
-    // As many at a port as nodes and slots allow: seven a queue.
-    let packets = nodes.min(7 * (QUEUES - 1));
-    let mut memory = vec![0; size(nodes)];
-    let s = settings(nodes);
-    let rounds = (5000 / nodes).clamp(5, 2000);
+fn each_call(shape: Shape, nodes: u32) -> Vec<(&'static str, f64)> {
+    let Shape { ports, queues, .. } = shape;
+    // As many at a port as nodes and slots allow, seven a queue; and not so many
+    // in all that it takes long.
+    let packets = nodes.min(7 * (queues - 1)).min(644 / ports);
+    let s = settings(shape, nodes);
+    let mut memory = vec![0; size(&s)];
+    let rounds = (20_000 / (ports * nodes)).clamp(5, 2000);
     let mut least = [f64::INFINITY; NAMES.len()];
-    let queue_of = |packet: u32| 1 + packet % (QUEUES - 1);
-    let headers: Vec<(u32, u32, [u8; 10])> = (0..packets)
-        .flat_map(|packet| (0..PORTS).map(move |port| (port, queue_of(packet))))
+    let queue_of = |packet: u32| 1 + packet % (queues - 1);
+    let headers: Vec<(u32, u32, Vec<u8>)> = (0..packets)
+        .flat_map(|packet| (0..ports).map(move |port| (port, queue_of(packet))))
         // Destination id p is mapped to port p: 112 bytes, two beats.
-        .map(|(port, queue)| {
-            let bytes = header(port, port, queue, 112, false, false, 7, 0, 0);
-            (port, queue, bytes)
-        })
+        .map(|(port, queue)| (port, queue, plain(&shape, port, port, queue, 112)))
         .collect();
     // The kinds come in phases of one round; a phase is timed as a whole.
     for _ in 0..rounds {
@@ -207,10 +231,10 @@ fn each_call(nodes: u32) -> Vec<(&'static str, f64)> {
             least[kind] = least[kind].min(spent / times as f64);
         };
         phase(0, 1, &mut |m| {
-            assert_eq!(calls::setup(m, s.nodes, s.beat, s.slots, s.credit), 0);
+            assert_eq!(calls::setup(m, &numbers(&s)), 0);
         });
-        phase(9, PORTS as usize, &mut |m| {
-            for port in 0..PORTS {
+        phase(9, ports as usize, &mut |m| {
+            for port in 0..ports {
                 assert_eq!(calls::map(m, port, port), 0);
             }
         });
@@ -232,9 +256,9 @@ fn each_call(nodes: u32) -> Vec<(&'static str, f64)> {
                 assert_eq!(calls::prefetch(m, *port, *queue, &mut entry), 0);
             }
         });
-        phase(6, PORTS as usize, &mut |m| {
+        phase(6, ports as usize, &mut |m| {
             let mut sent = [0; 16];
-            for port in 0..PORTS {
+            for port in 0..ports {
                 assert_eq!((calls::turn(m, port, &mut sent), sent[0]), (0, 0));
             }
         });
@@ -243,15 +267,15 @@ fn each_call(nodes: u32) -> Vec<(&'static str, f64)> {
                 assert_eq!(calls::credit(m, *port, *queue, 2), 0);
             }
         });
-        phase(7, PORTS as usize, &mut |m| {
-            for port in 0..PORTS {
+        phase(7, ports as usize, &mut |m| {
+            for port in 0..ports {
                 let (mut word, mut count) = (0, 0);
                 assert_eq!(calls::ready(m, port, &mut word, &mut count), 0);
             }
         });
-        phase(8, PORTS as usize, &mut |m| {
+        phase(8, ports as usize, &mut |m| {
             let mut place = [0; 8];
-            for port in 0..PORTS {
+            for port in 0..ports {
                 assert_eq!(calls::place_of(m, port * 2048 + nodes / 2, &mut place), 0);
             }
         });
@@ -265,11 +289,11 @@ fn each_call(nodes: u32) -> Vec<(&'static str, f64)> {
     NAMES.into_iter().zip(least).collect()
 }
 
-fn each_call_through_c() {
-    println!("### Each call through the C interface, ns\n");
+fn each_call_through_c(shape: Shape) {
+    heading("Each call through the C interface, ns", shape);
     println!("| call | N = 1 | N = 256 | N = 2,048 |");
     println!("|---|---|---|---|");
-    let [one, few, many] = [1, 256, 2048].map(each_call);
+    let [one, few, many] = [1, 256, 2048].map(|nodes| each_call(shape, nodes));
     for ((one, few), many) in one.into_iter().zip(few).zip(many) {
         println!(
             "| {} | {:.0} | {:.0} | {:.0} |",
@@ -282,13 +306,13 @@ fn each_call_through_c() {
 /// Nanoseconds for the whole list: library, and model with either choice. Some
 /// passes are made over it, each part of it counts at its best, and the three
 /// take turns, so that all meet the same weather.
-fn whole_list(nodes: u32, list: &[Call], library: fn(&mut [u8], &Call) -> u32) -> [f64; 3] {
+fn whole_list(size: usize, list: &[Call], library: fn(&mut [u8], &Call) -> u32) -> [f64; 3] {
     const PART: usize = 50;
     let mut least = vec![[f64::INFINITY; 3]; (list.len() + PART - 1) / PART];
     for _ in 0..15 {
-        let mut memory = vec![0; size(nodes)];
-        let mut whole = Model::with_choice(size(nodes), Choice::WholeWord);
-        let mut early = Model::with_choice(size(nodes), Choice::EarlyOut);
+        let mut memory = vec![0; size];
+        let mut whole = Model::with_choice(size, Choice::WholeWord);
+        let mut early = Model::with_choice(size, Choice::EarlyOut);
         for (part, least) in list.chunks(PART).zip(&mut least) {
             let mut refused = [0; 3];
             let refuses = |reply: Reply| matches!(reply, Reply::Refused(_));
@@ -317,17 +341,14 @@ fn whole_list(nodes: u32, list: &[Call], library: fn(&mut [u8], &Call) -> u32) -
 }
 
 /// A table of the list's times beside both models.
-fn beside_the_model(wanted: fn(&Call) -> bool, library: fn(&mut [u8], &Call) -> u32) {
+fn beside_the_model(shape: Shape, wanted: fn(&Call) -> bool, library: fn(&mut [u8], &Call) -> u32) {
     println!("| N | library | model, whole word | ratio | model, early out | ratio |");
     println!("|---|---|---|---|---|---|");
-    for nodes in [1, 16, 64, 256, 2048] {
-        let list = valid_traffic(
-            1,
-            nodes,
-            (500_000 / (20 + nodes as usize)).max(2000),
-            wanted,
-        );
-        let [ours, whole, early] = whole_list(nodes, &list, library);
+    for &nodes in pools(shape) {
+        let settings = settings(shape, nodes);
+        let calls = (500_000 / (20 + nodes as usize)).max(2000);
+        let (list, _) = valid_traffic(1, settings, calls, wanted);
+        let [ours, whole, early] = whole_list(size(&settings), &list, library);
         let a_call = |all: f64| all / list.len() as f64;
         println!(
             "| {nodes} | {:.0} | {:.0} | {:.2} | {:.0} | {:.2} |",
@@ -350,11 +371,14 @@ fn bare_act(memory: &mut [u8], call: &Call) -> u32 {
     }
 }
 
+/// The bytes of a round of the most ports.
+const MOST_TURNS: usize = 4 * 32;
+
 /// A call with no check of its rooms: its number and nothing else.
 fn quick(memory: &mut [u8], call: &Call) -> u32 {
     let mut entry = 0;
     match call {
-        Call::Setup(s) => calls::setup(memory, s.nodes, s.beat, s.slots, s.credit),
+        Call::Setup(s) => calls::setup(memory, &numbers(s)),
         Call::Arrive { port, header } => calls::arrive(memory, *port, header, &mut entry),
         Call::Stitch { port } => calls::stitch(memory, *port, &mut [0; 10]),
         Call::Prefetch { port, queue } => calls::prefetch(memory, *port, *queue, &mut entry),
@@ -367,7 +391,7 @@ fn quick(memory: &mut [u8], call: &Call) -> u32 {
         Call::Turn { port } => calls::turn(memory, *port, &mut [0; 16]),
         Call::Ready { port } => calls::ready(memory, *port, &mut 0, &mut 0),
         Call::Where { entry } => calls::place_of(memory, *entry, &mut [0; 8]),
-        Call::Round { .. } => calls::round(memory, &mut [0; ROUND_BYTES]),
+        Call::Round { .. } => calls::round(memory, &mut [0; MOST_TURNS]),
     }
 }
 
@@ -429,29 +453,41 @@ fn main() {
         eprintln!("perf: build it optimised, with --release");
         std::process::exit(2);
     }
-    // The list is as long as it says: the same work on both sides.
-    let mut memory = vec![0; size(4)];
-    let mut model = Model::new(size(4));
-    for call in valid_traffic(1, 4, 2000, single) {
+    SWITCHES.into_iter().for_each(same_work);
+    println!("On {}, in one process.\n", processor());
+    the_checksum();
+    headers::each_form();
+    for shape in SWITCHES {
+        the_test_for_a_state(shape);
+        night::on_sound_images(shape);
+        night::on_images_broken_late(shape);
+        each_call_through_c(shape);
+        heading(
+            "Whole public calls on the same valid traffic, ns a call",
+            shape,
+        );
+        beside_the_model(shape, single, quick);
+        let what = "The acts without the test on the same valid traffic, ns a call";
+        heading(what, shape);
+        beside_the_model(shape, acts::has_act, bare_act);
+        rounds::a_round(shape);
+    }
+}
+
+/// Both sides have the same work.
+fn same_work(shape: Shape) {
+    let settings = settings(shape, 4);
+    let mut memory = vec![0; size(&settings)];
+    let mut model = Model::new(size(&settings));
+    for call in valid_traffic(1, settings, 2000, single).0 {
         let wanted = model.call(&call);
-        assert_eq!(library::call(&mut memory, &call), Ok(wanted));
         assert_ne!(wanted, Reply::Refused(3));
+        assert_eq!(library::call(&mut memory, &call), Ok(wanted));
     }
     // And an act leaves what the call leaves.
     let mut other = memory.clone();
-    for call in valid_traffic(1, 4, 2000, acts::has_act) {
+    for call in valid_traffic(1, settings, 2000, acts::has_act).0 {
         assert_eq!(bare_act(&mut other, &call), quick(&mut memory, &call));
         assert_eq!(memory, other);
     }
-    println!("On {}, in one process.\n", processor());
-    the_checksum();
-    the_test_for_a_state();
-    night::on_sound_images();
-    night::on_images_broken_late();
-    each_call_through_c();
-    println!("### Whole public calls on the same valid traffic, ns a call\n");
-    beside_the_model(single, quick);
-    println!("### The acts without the test on the same valid traffic, ns a call\n");
-    beside_the_model(acts::has_act, bare_act);
-    rounds::a_round();
 }

@@ -1,6 +1,9 @@
 //! What the calls answer, and how it stands in the C interface's rooms.
 
-use crate::Refusal;
+use std::fmt;
+use std::ops::Deref;
+
+use crate::{Refusal, MOST_PORTS, TURN_BYTES};
 
 /// A node's entry id: port × 2048 + index.
 #[derive(Debug, Clone, Copy, PartialEq, Eq, Hash, PartialOrd, Ord)]
@@ -18,7 +21,7 @@ impl EntryId {
     }
 }
 
-fn two(bytes: &[u8], at: usize) -> u16 {
+pub(crate) fn two(bytes: &[u8], at: usize) -> u16 {
     u16::from_be_bytes([bytes[at], bytes[at + 1]])
 }
 
@@ -126,6 +129,41 @@ impl RoundTurn {
             (number, 0, 0) => Refusal::from_number(number.into()).map(RoundTurn::Refused),
             _ => None,
         }
+    }
+}
+
+/// A round's answer, each port's turn: a slice in all but name.
+#[derive(Clone, Copy, PartialEq, Eq)]
+pub struct Turns {
+    /// Past the ports: idle.
+    turns: [RoundTurn; MOST_PORTS],
+    ports: usize,
+}
+
+impl Turns {
+    /// The first so many ports' turns in a round's room; none if one of them
+    /// tells of none, or there are more than a switch has.
+    pub(crate) fn from_room(room: &[u8], ports: usize) -> Option<Turns> {
+        let mut turns = [RoundTurn::Idle; MOST_PORTS];
+        let told = room.chunks_exact(TURN_BYTES);
+        for (turn, told) in turns.get_mut(..ports)?.iter_mut().zip(told) {
+            *turn = RoundTurn::from_bytes(told.try_into().ok()?)?;
+        }
+        Some(Turns { turns, ports })
+    }
+}
+
+impl Deref for Turns {
+    type Target = [RoundTurn];
+
+    fn deref(&self) -> &[RoundTurn] {
+        &self.turns[..self.ports]
+    }
+}
+
+impl fmt::Debug for Turns {
+    fn fmt(&self, f: &mut fmt::Formatter<'_>) -> fmt::Result {
+        self[..].fmt(f)
     }
 }
 

@@ -10,15 +10,8 @@
 
 mod c {
     extern "C" {
-        pub fn vr_size(nodes: u32) -> u64;
-        pub fn vr_setup(
-            mem: *mut u8,
-            len: usize,
-            nodes: u32,
-            beat: u32,
-            slots: u32,
-            credit: u32,
-        ) -> u32;
+        pub fn vr_size(settings: *const u32) -> u64;
+        pub fn vr_setup(mem: *mut u8, len: usize, settings: *const u32) -> u32;
         pub fn vr_arrive(
             mem: *mut u8,
             len: usize,
@@ -45,27 +38,36 @@ mod c {
         pub fn vr_audit(mem: *const u8, len: usize, places: *mut u8, places_len: usize) -> u32;
         pub fn vr_find(mem: *const u8, len: usize, rule: *mut u32, item: *mut u64);
         pub fn vr_repair(mem: *mut u8, len: usize) -> u32;
+        pub fn vr_read_header(
+            edition: u32,
+            ports: u32,
+            queues: u32,
+            header: *const u8,
+            header_len: usize,
+            fields: *mut u32,
+        ) -> u32;
+        pub fn vr_write_header(
+            edition: u32,
+            ports: u32,
+            queues: u32,
+            fields: *const u32,
+            header: *mut u8,
+            size: *mut u32,
+        ) -> u32;
     }
 }
 
-/// The bytes that a state of so many nodes a port takes; 0 if there is none.
-pub fn size(nodes: u32) -> u64 {
-    // Sound: no pointer is handed over.
-    unsafe { c::vr_size(nodes) }
+/// The bytes that a state of these settings takes; 0 if there is none. The
+/// settings are nodes, beat, slots, credit, ports, queues, edition, packets.
+pub fn size(settings: &[u32; 8]) -> u64 {
+    // Sound: the eight aligned numbers that C reads.
+    unsafe { c::vr_size(settings.as_ptr()) }
 }
 
-pub fn setup(memory: &mut [u8], nodes: u32, beat: u32, slots: u32, credit: u32) -> u32 {
-    // Sound: the slice's own pointer and length.
-    unsafe {
-        c::vr_setup(
-            memory.as_mut_ptr(),
-            memory.len(),
-            nodes,
-            beat,
-            slots,
-            credit,
-        )
-    }
+/// The settings are in the order of [`size`].
+pub fn setup(memory: &mut [u8], settings: &[u32; 8]) -> u32 {
+    // Sound: the slice with its length, and eight aligned numbers apart from it.
+    unsafe { c::vr_setup(memory.as_mut_ptr(), memory.len(), settings.as_ptr()) }
 }
 
 pub fn arrive(memory: &mut [u8], port: u32, header: &[u8], entry: &mut u16) -> u32 {
@@ -150,4 +152,49 @@ pub fn find(memory: &[u8], rule: &mut u32, item: &mut u64) {
 pub fn repair(memory: &mut [u8]) -> u32 {
     // Sound: the slice's own pointer and length.
     unsafe { c::vr_repair(memory.as_mut_ptr(), memory.len()) }
+}
+
+/// The fields are destination, source, queue, length, poisoned, timestamp,
+/// credit, transaction.
+pub fn read_header(
+    edition: u32,
+    ports: u32,
+    queues: u32,
+    header: &[u8],
+    fields: &mut [u32; 8],
+) -> u32 {
+    // Sound: the slice with its length, and eight aligned numbers apart from it.
+    unsafe {
+        c::vr_read_header(
+            edition,
+            ports,
+            queues,
+            header.as_ptr(),
+            header.len(),
+            fields.as_mut_ptr(),
+        )
+    }
+}
+
+/// The fields are in the order of [`read_header`]; the header's own bytes are
+/// written, as many as the size says then.
+pub fn write_header(
+    edition: u32,
+    ports: u32,
+    queues: u32,
+    fields: &[u32; 8],
+    header: &mut [u8; 12],
+    size: &mut u32,
+) -> u32 {
+    // Sound: eight aligned numbers, the twelve bytes C asks for and an aligned u32, all apart.
+    unsafe {
+        c::vr_write_header(
+            edition,
+            ports,
+            queues,
+            fields.as_ptr(),
+            header.as_mut_ptr(),
+            size,
+        )
+    }
 }

@@ -1,28 +1,55 @@
 //! A safe wrapper over the proved queue manager's C interface.
 //!
-//! A switch has four ports with 24 queues each. Its whole state lives in bytes
-//! that you lend or hand over. A call answers a value or a [`Refusal`], and
-//! after a refusal no byte differs. Nothing has to be checked beforehand, not
-//! even that the bytes are a state.
+//! A switch has 2 to 32 ports with 2 to 64 queues each ([`Settings`]). Its
+//! whole state lives in bytes that you lend or hand over. A call answers a
+//! value or a [`Refusal`], and after a refusal no byte differs. Nothing has to
+//! be checked beforehand, not even that the bytes are a state.
 //!
 //! ```
-//! use ventorupo::{EntryId, Refusal, Settings, Side, Switch, Turn};
+//! use ventorupo::{EntryId, Header, Refusal, Settings, Side, Switch, Turn};
 //!
-//! let settings = Settings { nodes: 1, beat: 64, slots: 1, credit: 16 };
-//! let memory = vec![0; ventorupo::size(settings.nodes).unwrap()];
+//! // Eight ports, 16 queues; a node a port, beat 64, one slot, credit 16.
+//! let settings = Settings::wide(8, 16, 1, 64, 1, 16);
+//! let memory = vec![0; ventorupo::size(&settings).unwrap()];
 //! let mut switch = Switch::setup(memory, settings).map_err(|(why, _)| why)?;
 //!
-//! // Destination 0, source 0, queue 0, length 12.
-//! let header = [0, 0, 0x30, 0, 0, 0, 0, 0, 0, 0x72];
-//! assert_eq!(switch.arrive(0, &header)?, EntryId(0));
-//! assert_eq!(switch.arrive(0, &header), Err(Refusal::NoFreeNode));
-//! assert_eq!(switch.stitch(0)?.length, 12);
-//! switch.prefetch(0, 0)?;
-//! match switch.turn(0)? {
-//!     Turn::Sent(packet) => assert_eq!(packet.side, Side::Inside),
+//! // To destination 5, which is mapped to port 2; from port 1 in queue 0.
+//! switch.map(5, 2)?;
+//! let header = Header {
+//!     destination: 5,
+//!     source: 1,
+//!     length: 100,
+//!     ..Header::default()
+//! };
+//! let bytes = settings.form().write(&header)?;
+//! let entry = switch.arrive(1, &bytes)?;
+//! assert_eq!(entry, EntryId(2048));
+//! assert_eq!(switch.arrive(1, &bytes), Err(Refusal::NoFreeNode));
+//! assert_eq!(switch.stitch(1)?.port, 2);
+//! switch.prefetch(2, 0)?;
+//! match switch.turn(2)? {
+//!     Turn::Sent(packet) => {
+//!         assert_eq!((packet.entry, packet.length), (entry, 100));
+//!         assert_eq!(packet.side, Side::Inside);
+//!     }
 //!     Turn::Idle => unreachable!(),
 //! }
-//! assert_eq!(switch.turn(0)?, Turn::Idle);
+//! assert_eq!(switch.turn(2)?, Turn::Idle);
+//! # Ok::<(), Refusal>(())
+//! ```
+//!
+//! Switches of four ports and 24 queues may have the older headers of ten bytes
+//! ([`Settings::ten_bytes`]); all else is the same.
+//!
+//! ```
+//! use ventorupo::{EntryId, Refusal, Settings, Switch};
+//!
+//! let settings = Settings::ten_bytes(1, 64, 1, 16);
+//! let mut switch = Switch::setup([0; 6136], settings).map_err(|(why, _)| why)?;
+//! // Destination 0, source 0, queue 0, length 12.
+//! let header = [0, 0, 0x30, 0, 0, 0, 0, 0, 0, 0x72];
+//! assert_eq!(settings.form().read(&header)?.length, 12);
+//! assert_eq!(switch.arrive(0, &header), Ok(EntryId(0)));
 //! # Ok::<(), Refusal>(())
 //! ```
 
@@ -31,47 +58,22 @@
 mod answers;
 #[allow(unsafe_code)]
 pub mod calls;
+mod header;
 mod night;
 mod refusal;
+mod settings;
 
-pub use answers::{EntryId, ListKind, Place, Ready, Record, RoundTurn, Sent, Side, Turn};
+pub use answers::{EntryId, ListKind, Place, Ready, Record, RoundTurn, Sent, Side, Turn, Turns};
+pub use header::{Form, Header, HeaderBytes};
 pub use night::{audit, find, repair, Finding, Rule};
 pub use refusal::Refusal;
+pub use settings::{size, Settings, MOST_PORTS, TEN_BYTES, WIDE};
 
-/// The bytes that a round writes: four for each port's turn.
-pub const ROUND_BYTES: usize = 16;
+/// The bytes that a round writes for each port's turn.
+pub const TURN_BYTES: usize = 4;
 
 /// The bytes that an audit writes for each node.
 pub const PLACE_BYTES: usize = 8;
-
-/// The settings, fixed at setup. Any numbers may stand here; setup refuses
-/// those that are not in their rows.
-#[derive(Debug, Clone, Copy, PartialEq, Eq)]
-pub struct Settings {
-    /// N, nodes per port: 1 to 2,048.
-    pub nodes: u32,
-    /// Beat in bytes: 64, 128, 256 or 512.
-    pub beat: u32,
-    /// D, prefetch slots per queue: 1 to 8.
-    pub slots: u32,
-    /// K, arrival credit per port and queue, in beats: 0 to 65,535.
-    pub credit: u32,
-}
-
-/// The bytes that a state of so many nodes a port takes; none if no state has
-/// so many.
-///
-/// ```
-/// assert_eq!(ventorupo::size(256), Some(15_300));
-/// assert_eq!(ventorupo::size(2048), Some(108_484));
-/// assert_eq!(ventorupo::size(2049), None);
-/// ```
-pub fn size(nodes: u32) -> Option<usize> {
-    match calls::size(nodes) {
-        0 => None,
-        bytes => usize::try_from(bytes).ok(),
-    }
-}
 
 /// 0 is done, any other number a refusal.
 fn done(number: u32) -> Result<(), Refusal> {
@@ -89,8 +91,8 @@ fn done(number: u32) -> Result<(), Refusal> {
 /// ```
 /// use ventorupo::{Settings, Switch};
 ///
-/// let settings = Settings { nodes: 2, beat: 128, slots: 8, credit: 0 };
-/// let mut memory = [0; 2092];
+/// let settings = Settings::ten_bytes(2, 128, 8, 0);
+/// let mut memory = [0; 6188];
 /// Switch::setup(&mut memory[..], settings).unwrap();
 /// // The state stays in the bytes.
 /// let mut switch = Switch::over(memory);
@@ -121,22 +123,11 @@ impl<M: AsRef<[u8]> + AsMut<[u8]>> Switch<M> {
 
     /// Write the starting ledger over what is there. A refusal leaves it.
     pub fn setup_again(&mut self, settings: Settings) -> Result<(), Refusal> {
-        let Settings {
-            nodes,
-            beat,
-            slots,
-            credit,
-        } = settings;
-        done(calls::setup(
-            self.memory.as_mut(),
-            nodes,
-            beat,
-            slots,
-            credit,
-        ))
+        done(calls::setup(self.memory.as_mut(), &settings.numbers()))
     }
 
-    /// A packet's header arrives at a port: takes a free node for it.
+    /// A packet's header, of the switch's form, arrives at a port: takes a free
+    /// node for it.
     pub fn arrive(&mut self, port: u32, header: &[u8]) -> Result<EntryId, Refusal> {
         let mut entry = 0;
         done(calls::arrive(
@@ -172,7 +163,7 @@ impl<M: AsRef<[u8]> + AsMut<[u8]>> Switch<M> {
         done(calls::credit(self.memory.as_mut(), port, queue, amount))
     }
 
-    /// Maps a destination id to a port.
+    /// Maps a destination id, 0 to 4,095, to a port.
     pub fn map(&mut self, id: u32, port: u32) -> Result<(), Refusal> {
         done(calls::map(self.memory.as_mut(), id, port))
     }
@@ -191,31 +182,30 @@ impl<M: AsRef<[u8]> + AsMut<[u8]>> Switch<M> {
     /// ```
     /// use ventorupo::{Refusal, RoundTurn, Settings, Switch};
     ///
-    /// let settings = Settings { nodes: 1, beat: 64, slots: 1, credit: 16 };
-    /// let mut switch = Switch::setup([0; 2040], settings).map_err(|(why, _)| why)?;
+    /// let settings = Settings::ten_bytes(1, 64, 1, 16);
+    /// let mut switch = Switch::setup([0; 6136], settings).map_err(|(why, _)| why)?;
     /// // Destination 0, which is mapped to port 0, source 0, queue 0, length 12.
     /// let entry = switch.arrive(0, &[0, 0, 0x30, 0, 0, 0, 0, 0, 0, 0x72])?;
-    /// let mut turns = [RoundTurn::Idle; 4];
-    /// turns[0] = RoundTurn::Sent(entry);
-    /// assert_eq!(switch.round()?, turns);
-    /// assert_eq!(switch.round()?, [RoundTurn::Idle; 4]);
+    /// let turns = switch.round()?;
+    /// assert_eq!(turns.len(), 4);
+    /// assert_eq!(turns[0], RoundTurn::Sent(entry));
+    /// assert_eq!(turns[1..], [RoundTurn::Idle; 3]);
+    /// assert_eq!(switch.round()?[..], [RoundTurn::Idle; 4]);
     /// # Ok::<(), Refusal>(())
     /// ```
-    pub fn round(&mut self) -> Result<[RoundTurn; 4], Refusal> {
-        let mut room = [0; ROUND_BYTES];
+    pub fn round(&mut self) -> Result<Turns, Refusal> {
+        let mut room = [0; TURN_BYTES * MOST_PORTS];
         self.round_into(&mut room)?;
-        let turn = |port: usize| {
-            let at = 4 * port;
-            RoundTurn::from_bytes(&[room[at], room[at + 1], room[at + 2], room[at + 3]])
-                .expect("the library writes a refusal, idle or an entry id")
-        };
-        Ok([0, 1, 2, 3].map(turn))
+        // It was done, so the memory is a state, and its first setting in its row.
+        let ports = answers::two(self.memory(), 0).into();
+        let turns = Turns::from_room(&room, ports);
+        Ok(turns.expect("the library writes a refusal, idle or an entry id for each port"))
     }
 
-    /// A round that writes its turns into lent room, four bytes a port:
-    /// refusal number, 1 if idle, entry id (2, big-endian) or 0. Four zero
-    /// bytes are node 0 that left. Refused 27 if there is less room; what is
-    /// past them stays.
+    /// A round that writes its turns into lent room, four bytes a port and so
+    /// at most 128: refusal number, 1 if idle, entry id (2, big-endian) or 0.
+    /// Four zero bytes are node 0 that left. Refused 27 if there is less room;
+    /// what is past them stays.
     pub fn round_into(&mut self, room: &mut [u8]) -> Result<(), Refusal> {
         done(calls::round(self.memory.as_mut(), room))
     }
@@ -254,8 +244,8 @@ impl<M: AsRef<[u8]> + AsMut<[u8]>> Switch<M> {
     /// ```
     /// use ventorupo::{EntryId, ListKind, Refusal, Settings, Switch};
     ///
-    /// let settings = Settings { nodes: 2, beat: 64, slots: 1, credit: 16 };
-    /// let mut switch = Switch::setup([0; 2092], settings).map_err(|(why, _)| why)?;
+    /// let settings = Settings::ten_bytes(2, 64, 1, 16);
+    /// let mut switch = Switch::setup([0; 6188], settings).map_err(|(why, _)| why)?;
     /// switch.arrive(0, &[0, 0, 0x30, 0, 0, 0, 0, 0, 0, 0x72])?;
     /// let places = switch.audit()?;
     /// assert_eq!(places.len(), 8);

@@ -3,7 +3,9 @@
 
 use std::fmt;
 
-use crate::{calls, done, Place, Refusal, PLACE_BYTES};
+use crate::answers::two;
+use crate::settings::{MOST_NODES, SETTINGS_BYTES};
+use crate::{calls, done, Place, Refusal, MOST_PORTS, PLACE_BYTES};
 
 /// A rule of soundness. docs/FINDINGS.md says what each item is.
 #[derive(Debug, Clone, Copy, PartialEq, Eq, Hash, PartialOrd, Ord)]
@@ -73,11 +75,11 @@ impl fmt::Display for Finding {
 /// ```
 /// use ventorupo::{find, Rule, Settings, Switch};
 ///
-/// let settings = Settings { nodes: 2, beat: 64, slots: 1, credit: 16 };
-/// let mut image = Switch::setup([0; 2092], settings).unwrap().into_memory();
+/// let settings = Settings::ten_bytes(2, 64, 1, 16);
+/// let mut image = Switch::setup([0; 6188], settings).unwrap().into_memory();
 /// assert_eq!(find(&image), None);
 /// // Port 1 has served queue 200.
-/// image[17] = 200;
+/// image[4113] = 200;
 /// let found = find(&image).unwrap();
 /// assert_eq!((found.rule, found.item), (Rule::B, 1));
 /// assert_eq!(found.to_string(), "rule (b), item 1");
@@ -102,14 +104,14 @@ pub fn find(memory: &[u8]) -> Option<Finding> {
 /// ```
 /// use ventorupo::{audit, Refusal, Settings, Switch};
 ///
-/// let settings = Settings { nodes: 2, beat: 64, slots: 1, credit: 16 };
-/// let image = Switch::setup([0; 2092], settings).unwrap().into_memory();
+/// let settings = Settings::ten_bytes(2, 64, 1, 16);
+/// let image = Switch::setup([0; 6188], settings).unwrap().into_memory();
 /// let mut room = [9; 4 * 2 * 8 + 1];
 /// assert_eq!(audit(&image, &mut room[..63]), Err(Refusal::ShortRoom));
 /// assert_eq!(audit(&image, &mut room), Ok(()));
 /// // Port 3, node 1: second of its free list.
 /// assert_eq!(room[56..], [24, 1, 0, 3, 0, 0, 0, 1, 9]);
-/// assert_eq!(audit(&[0; 2092], &mut []), Err(Refusal::NoState));
+/// assert_eq!(audit(&[0; 6188], &mut []), Err(Refusal::NoState));
 /// ```
 pub fn audit(memory: &[u8], room: &mut [u8]) -> Result<(), Refusal> {
     done(calls::audit(memory, room))
@@ -123,29 +125,37 @@ pub fn audit(memory: &[u8], room: &mut [u8]) -> Result<(), Refusal> {
 /// ```
 /// use ventorupo::{find, repair, Refusal, Settings, Switch};
 ///
-/// let settings = Settings { nodes: 2, beat: 64, slots: 1, credit: 16 };
-/// let mut image = Switch::setup([9; 2092 + 1], settings).unwrap().into_memory();
-/// image[12] = 3; // Destination 0 goes to port 3.
-/// image[17] = 200;
+/// let settings = Settings::ten_bytes(2, 64, 1, 16);
+/// let mut image = Switch::setup([9; 6188 + 1], settings).unwrap().into_memory();
+/// image[16] = 3; // Destination 0 goes to port 3.
+/// image[4113] = 200;
 /// repair(&mut image)?;
 /// assert_eq!(find(&image), None);
-/// assert_eq!(image[12], 3);
-/// assert_eq!(image[2092], 9);
-/// assert_eq!(repair(&mut [0; 2092]), Err(Refusal::NoState));
+/// assert_eq!(image[16], 3);
+/// assert_eq!(image[6188], 9);
+/// assert_eq!(repair(&mut [0; 6188]), Err(Refusal::NoState));
 /// # Ok::<(), Refusal>(())
 /// ```
 pub fn repair(memory: &mut [u8]) -> Result<(), Refusal> {
     done(calls::repair(memory))
 }
 
-/// The bytes of an audit of the most nodes: 2,048 at each of four ports.
-const MOST_PLACES: usize = PLACE_BYTES * 4 * 2048;
+/// How many nodes a state has, read off its settings; of other bytes a number
+/// that is not too large.
+fn nodes(memory: &[u8]) -> usize {
+    if memory.len() < SETTINGS_BYTES {
+        return 0;
+    }
+    let [ports, nodes] = [0, 4].map(|at| usize::from(two(memory, at)));
+    ports.min(MOST_PORTS) * nodes.min(MOST_NODES)
+}
 
 /// Every node's place, read.
 pub(crate) fn places(memory: &[u8]) -> Result<Vec<Place>, Refusal> {
-    // No kind of list: so a block that isn't written reads as none.
-    let mut room = vec![0xFF; MOST_PLACES];
+    let mut room = vec![0; PLACE_BYTES * nodes(memory)];
     audit(memory, &mut room)?;
     let place = |block: &[u8]| Place::from_bytes(block.try_into().ok()?);
-    Ok(room.chunks_exact(PLACE_BYTES).map_while(place).collect())
+    let places = room.chunks_exact(PLACE_BYTES).map(place);
+    let places: Option<Vec<Place>> = places.collect();
+    Ok(places.expect("the library writes list kinds 0 to 3"))
 }

@@ -10,7 +10,7 @@ macro_rules! refusals {
         /// changes nothing.
         #[derive(Debug, Clone, Copy, PartialEq, Eq, Hash, PartialOrd, Ord)]
         pub enum Refusal {
-            $(#[doc = concat!($number, ", ", $calls, ": ", $meaning, ".")] $name = $number,)*
+            $(#[doc = concat!($number, " (", $calls, "): ", $meaning, ".")] $name = $number,)*
         }
 
         impl Refusal {
@@ -27,24 +27,25 @@ macro_rules! refusals {
 }
 
 refusals! {
-    ShortMemory = 1, "setup", "memory shorter than N needs";
-    BadSetting = 2, "setup", "a setting not in its row";
-    NoState = 3, "all but setup and the finding", "memory is no switch state; for repair, breaks rule (a)";
-    NoPort = 4, "all with a port", "port above 3";
-    NoQueue = 5, "prefetch and credit", "queue above 23; for credit also 0";
-    HeaderSize = 6, "arrive", "header not ten bytes";
-    Checksum = 7, "arrive", "checksum differs";
+    ShortMemory = 1, "setup", "memory shorter than its settings need";
+    BadSetting = 2, "setup, read_header, write_header", "a setting not in its row";
+    NoState = 3, "all but setup, find, read_header, write_header", "memory is no switch state; for repair, breaks rule (a)";
+    NoPort = 4, "all with a port", "port above the last";
+    NoQueue = 5, "prefetch, credit", "queue above the last; for credit also 0";
+    HeaderSize = 6, "arrive, read_header", "header not of its edition's size";
+    Checksum = 7, "arrive, read_header", "checksum differs";
     Source = 8, "arrive", "header's source isn't the arriving port";
-    TooShort = 9, "arrive", "length under 12";
+    TooShort = 9, "arrive, read_header", "length under the header's size plus 2";
     NoCredit = 10, "arrive", "price above arrival credit";
     NoFreeNode = 11, "arrive", "free list empty";
-    NothingThere = 12, "stitch and prefetch", "list to take from is empty";
-    SlotsInUse = 13, "prefetch", "D slots in use";
+    NothingThere = 12, "stitch, prefetch", "list to take from is empty";
+    SlotsInUse = 13, "prefetch", "all slots in use";
     TooMuchCredit = 14, "credit", "sum above 65,535";
-    NoSuchId = 15, "map and where", "id above 3; no such node";
-    HeaderQueue = 19, "arrive", "header's queue above 23";
-    ReservedBit = 20, "arrive", "header's reserved bit is 1";
-    ShortRoom = 27, "round and audit", "room of less than four bytes a port; for audit, eight a node";
+    NoSuchId = 15, "map, where", "id above 4,095; no such node";
+    HeaderQueue = 19, "arrive, read_header", "header's queue above the last";
+    ReservedBit = 20, "arrive, read_header", "a reserved bit of the header is 1";
+    NoFit = 21, "write_header", "a value doesn't fit its field, length under the header's size plus 2, or queue above the last";
+    ShortRoom = 27, "round, audit", "room of less than four bytes a port; for audit, eight a node";
 }
 
 impl Refusal {

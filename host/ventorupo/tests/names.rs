@@ -1,11 +1,13 @@
 //! A refusal has one number and one name: in the wrapper, the ledger, the C
-//! header and the README; and these speak of the same calls.
+//! header and the README; and these speak of the same calls and structs.
 
-use ventorupo::Refusal;
+use ventorupo::{Refusal, TEN_BYTES, WIDE};
 
 const LEDGER: &str = include_str!("../../../crates/ledger/src/lib.rt");
 const CALLS: &str = include_str!("../src/calls.rs");
 const REFUSALS: &str = include_str!("../src/refusal.rs");
+const SETTINGS: &str = include_str!("../src/settings.rs");
+const HEADERS: &str = include_str!("../src/header.rs");
 const CAPI: &str = include_str!("../../../crates/capi/src/lib.rt");
 const HEADER: &str = include_str!("../../../include/ventorupo.h");
 const README: &str = include_str!("../../../README.md");
@@ -73,23 +75,46 @@ fn given_by() -> Vec<(Refusal, &'static str)> {
     given
 }
 
-/// Two calls as the wrapper joins them, where others have a comma.
-fn joined(calls: &str) -> String {
-    calls.replace(", ", " and ")
-}
-
 /// The calls that give a refusal, and its meaning, as the C header tells them
-/// behind its number; where N and D are meant, it has words of its own.
+/// behind its number.
 #[test]
 fn the_c_header_has_the_same_calls_and_meanings() {
     let lines = between(HEADER, "enum vr_answer {", "};").lines().skip(1);
     for (line, (refusal, given)) in lines.zip(given_by()) {
         let (calls, told) = between(line, "/* ", " */").split_once(": ").expect(line);
-        assert_eq!(joined(calls), given, "{line}");
-        let wanted = refusal.to_string();
-        let wanted = wanted.replace("N needs", "the nodes need");
-        assert_eq!(told, wanted.replace("D slots", "all slots"), "{line}");
+        assert_eq!((calls, told), (given, refusal.to_string().as_str()));
     }
+}
+
+#[test]
+fn the_c_header_has_the_same_editions() {
+    let lines = between(HEADER, "enum vr_edition {", "};");
+    let editions = [(TEN_BYTES, "TEN_BYTES"), (WIDE, "WIDE")];
+    let editions = editions.map(|(number, name)| (number, name.to_string()));
+    assert_eq!(listed(lines, "VR_", " = "), editions);
+}
+
+/// The fields of a struct of the C header, all of them numbers.
+fn fields(name: &str) -> Vec<&'static str> {
+    let lines = between(HEADER, &format!("\nstruct {name} {{"), "};").lines();
+    lines.map(|line| between(line, "uint32_t ", ";")).collect()
+}
+
+/// The fields in the order in which the wrapper hands them over.
+fn handed(source: &'static str) -> Vec<&'static str> {
+    let numbers = between(source, "pub const fn numbers(&self) -> [u32; 8] {", "}");
+    let lines = between(numbers, "[", "]").lines();
+    let field = |line: &'static str| line.trim().trim_start_matches("self.").trim_matches(',');
+    lines.map(field).collect()
+}
+
+#[test]
+fn the_c_structs_have_the_wrappers_fields() {
+    let mut settings = handed(SETTINGS);
+    assert_eq!(settings.pop(), Some("0"));
+    settings.push("packets");
+    assert_eq!(fields("vr_settings"), settings);
+    assert_eq!(fields("vr_header"), handed(HEADERS));
 }
 
 /// The calls of the C interface that a text names where it declares them.
@@ -103,15 +128,21 @@ fn calls_in(text: &str, before: &str) -> Vec<String> {
     names
 }
 
+/// What stands before the arguments of each call that the C header declares.
+fn declared() -> String {
+    let declares = |line: &&str| line.starts_with("uint") || line.starts_with("void");
+    let lines = HEADER.lines().filter(declares);
+    let starts = lines.map(|line| line.split_inclusive('(').next().expect(line));
+    starts.collect()
+}
+
 /// The proved archive, the C header and the wrapper; each once.
 #[test]
 fn all_speak_of_the_same_calls() {
     let wrapped = calls_in(CALLS, "pub fn vr_");
-    let declared = |line: &&str| line.starts_with("uint") || line.starts_with("void");
-    let header: Vec<&str> = HEADER.lines().filter(declared).collect();
-    assert_eq!(calls_in(&header.join("\n"), " vr_"), wrapped);
+    assert_eq!(calls_in(&declared(), " vr_"), wrapped);
     assert_eq!(calls_in(CAPI, "pub extern \"C\" fn vr_"), wrapped);
-    for call in ["vr_audit", "vr_find", "vr_repair", "vr_where"] {
+    for call in ["vr_audit", "vr_find", "vr_size", "vr_write_header"] {
         assert!(wrapped.iter().any(|name| name == call), "{call}");
     }
 }
@@ -124,7 +155,7 @@ fn the_readme_has_the_same_names_meanings_and_calls() {
         let start = format!("| {number} | {name} | {refusal} | ");
         let calls = row.strip_prefix(&start);
         let calls = calls.unwrap_or_else(|| panic!("{row}: not {start}"));
-        assert_eq!(joined(calls), format!("{given} |"), "{row}");
+        assert_eq!(calls, format!("{given} |"), "{row}");
     }
     assert_eq!(rows.count(), Refusal::ALL.len());
 }

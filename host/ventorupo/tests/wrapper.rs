@@ -1,37 +1,118 @@
 //! The wrapper's own promises: memories of every kind, and the refusals.
 
 use ventorupo::{
-    audit, find, repair, size, EntryId, Finding, ListKind, Refusal, RoundTurn, Rule, Settings,
-    Switch, PLACE_BYTES, ROUND_BYTES,
+    audit, find, repair, size, EntryId, Finding, Form, Header, ListKind, Refusal, RoundTurn, Rule,
+    Settings, Switch, Turn, MOST_PORTS, PLACE_BYTES, TEN_BYTES, TURN_BYTES, WIDE,
 };
 
-const SETTINGS: Settings = Settings {
-    nodes: 1,
-    beat: 512,
-    slots: 8,
-    credit: 3,
-};
+const SETTINGS: Settings = Settings::ten_bytes(1, 512, 8, 3);
+
+/// The bytes of its state.
+const SIZE: usize = 6136;
+
+/// Where its map and its last served queues start (docs/LAYOUT.md).
+const MAP: usize = 16;
+const LAST: usize = 4112;
+
+/// Switches of every edition and of the least and the most ports and queues.
+const SHAPES: [(u32, u32, u32); 7] = [
+    (TEN_BYTES, 4, 24),
+    (WIDE, 4, 24),
+    (WIDE, 2, 2),
+    (WIDE, 2, 64),
+    (WIDE, 32, 2),
+    (WIDE, 5, 33),
+    (WIDE, 32, 64),
+];
+
+/// Of each shape, with so many nodes.
+fn settings(nodes: u32) -> [Settings; SHAPES.len()] {
+    SHAPES.map(|(edition, ports, queues)| Settings {
+        edition,
+        ports,
+        queues,
+        nodes,
+        ..SETTINGS
+    })
+}
+
+fn switch(settings: Settings) -> Switch<Vec<u8>> {
+    Switch::setup(vec![0; size(&settings).unwrap()], settings).unwrap()
+}
 
 #[test]
 fn memory_of_every_kind() {
-    let bytes = size(1).unwrap();
-    assert!(Switch::setup(vec![0; bytes], SETTINGS).is_ok());
-    assert!(Switch::setup(vec![0; bytes].into_boxed_slice(), SETTINGS).is_ok());
-    assert!(Switch::setup([0; 2040], SETTINGS).is_ok());
-    let mut lent = [0; 2041];
-    lent[2040] = 9;
+    assert_eq!(size(&SETTINGS), Some(SIZE));
+    assert!(Switch::setup(vec![0; SIZE], SETTINGS).is_ok());
+    assert!(Switch::setup(vec![0; SIZE].into_boxed_slice(), SETTINGS).is_ok());
+    assert!(Switch::setup([0; SIZE], SETTINGS).is_ok());
+    let mut lent = [0; SIZE + 1];
+    lent[SIZE] = 9;
     let switch = Switch::setup(&mut lent[..], SETTINGS).unwrap();
-    assert_eq!(switch.into_memory()[2040], 9);
+    assert_eq!(switch.into_memory()[SIZE], 9);
     let again = Switch::over(lent);
     assert_eq!(again.ready(0).unwrap().word, 0);
-    assert_eq!(again.memory().len(), 2041);
+    assert_eq!(again.memory().len(), SIZE + 1);
+}
+
+/// As docs/LAYOUT.md has it.
+fn bytes(s: &Settings) -> usize {
+    let [ports, queues, nodes] = [s.ports, s.queues, s.nodes].map(|n| n as usize);
+    let (credits, lists) = (ports * (queues - 1), ports * (2 + 2 * queues));
+    16 + 4096 + ports + 4 * credits + 8 * lists + 13 * ports * nodes
+}
+
+#[test]
+fn sizes_are_the_published_ones() {
+    for nodes in [1, 2, 256, 2048] {
+        for settings in settings(nodes) {
+            assert_eq!(size(&settings), Some(bytes(&settings)), "{settings:?}");
+        }
+    }
+}
+
+#[test]
+fn settings_out_of_their_rows() {
+    let [ten, .., wide] = settings(1);
+    let wrong = [
+        Settings { nodes: 0, ..ten },
+        Settings { nodes: 2049, ..ten },
+        Settings { beat: 65, ..ten },
+        Settings { slots: 0, ..wide },
+        Settings { slots: 9, ..wide },
+        Settings {
+            credit: 65_536,
+            ..wide
+        },
+        // Ten bytes need just four ports and 24 queues.
+        Settings { ports: 3, ..ten },
+        Settings { ports: 5, ..ten },
+        Settings { queues: 23, ..ten },
+        Settings { queues: 25, ..ten },
+        Settings { ports: 1, ..wide },
+        Settings { ports: 33, ..wide },
+        Settings { queues: 1, ..wide },
+        Settings { queues: 65, ..wide },
+        Settings { edition: 2, ..wide },
+        Settings { edition: 2, ..ten },
+        Settings {
+            ports: u32::MAX,
+            ..wide
+        },
+    ];
+    for settings in wrong {
+        assert_eq!(size(&settings), None, "{settings:?}");
+        // 2 comes before 1.
+        let answer = Switch::setup(vec![7; 3], settings).map(|_| ());
+        assert_eq!(answer, Err((Refusal::BadSetting, vec![7; 3])));
+    }
 }
 
 #[test]
 fn a_refused_setup_hands_the_memory_back() {
-    let (refusal, memory) = Switch::setup(vec![7; 2039], SETTINGS).unwrap_err();
+    let (refusal, memory) = Switch::setup(vec![7; SIZE - 1], SETTINGS).unwrap_err();
     assert_eq!(refusal, Refusal::ShortMemory);
-    assert_eq!(memory, vec![7; 2039]);
+    assert_eq!(memory, vec![7; SIZE - 1]);
     let mut switch = Switch::over(memory);
     assert_eq!(switch.turn(9), Err(Refusal::NoState));
     assert_eq!(switch.ready(0), Err(Refusal::NoState));
@@ -46,13 +127,13 @@ fn no_memory_at_all() {
 
 #[test]
 fn refusals_and_their_numbers() {
-    assert_eq!(Refusal::ALL.len(), 18);
-    for (number, &refusal) in (1..=15).chain([19, 20, 27]).zip(Refusal::ALL) {
+    assert_eq!(Refusal::ALL.len(), 19);
+    for (number, &refusal) in (1..=15).chain([19, 20, 21, 27]).zip(Refusal::ALL) {
         assert_eq!(refusal.number(), number);
         assert_eq!(Refusal::from_number(number), Some(refusal));
         assert!(!refusal.to_string().is_empty());
     }
-    for number in [0, 16, 17, 18, 21, 26, 28, 256 + 3, u32::MAX] {
+    for number in [0, 16, 17, 18, 22, 26, 28, 256 + 3, u32::MAX] {
         assert_eq!(Refusal::from_number(number), None);
     }
     assert_eq!(Refusal::Checksum.to_string(), "checksum differs");
@@ -64,44 +145,266 @@ const SHORTEST: [u8; 10] = [0, 0, 0x30, 0, 0, 0, 0, 0, 0, 0x72];
 
 #[test]
 fn a_round_answers_each_ports_turn() {
-    let mut switch = Switch::setup(vec![0; size(1).unwrap()], SETTINGS).unwrap();
-    assert_eq!(switch.round(), Ok([RoundTurn::Idle; 4]));
+    let mut switch = switch(SETTINGS);
+    assert_eq!(*switch.round().unwrap(), [RoundTurn::Idle; 4]);
     assert_eq!(switch.arrive(0, &SHORTEST), Ok(EntryId(0)));
     let mut sent = [RoundTurn::Idle; 4];
     sent[0] = RoundTurn::Sent(EntryId(0));
-    assert_eq!(switch.round(), Ok(sent));
-    assert_eq!(switch.round(), Ok([RoundTurn::Idle; 4]));
+    let turns = switch.round().unwrap();
+    assert_eq!(turns[..], sent);
+    assert_eq!(format!("{turns:?}"), format!("{sent:?}"));
+    assert_eq!(*switch.round().unwrap(), [RoundTurn::Idle; 4]);
+}
+
+/// A packet from each port to itself.
+#[test]
+fn a_round_answers_as_many_turns_as_there_are_ports() {
+    for settings in settings(1) {
+        let mut switch = switch(settings);
+        for port in 0..settings.ports {
+            switch.map(port, port).unwrap();
+            let header = Header {
+                destination: port,
+                source: port,
+                length: 20,
+                ..Header::default()
+            };
+            let bytes = settings.form().write(&header).unwrap();
+            switch.arrive(port, &bytes).unwrap();
+        }
+        let sent = |port| RoundTurn::Sent(EntryId(port * 2048));
+        let sent: Vec<RoundTurn> = (0..settings.ports as u16).map(sent).collect();
+        assert_eq!(*switch.round().unwrap(), sent);
+        let idle = vec![RoundTurn::Idle; settings.ports as usize];
+        assert_eq!(*switch.round().unwrap(), idle);
+    }
 }
 
 #[test]
 fn a_round_writes_into_lent_room() {
-    let mut switch = Switch::setup(vec![0; size(1).unwrap()], SETTINGS).unwrap();
-    switch.arrive(0, &SHORTEST).unwrap();
-    let before = switch.memory().to_vec();
-    for bytes in 0..ROUND_BYTES {
-        let mut room = vec![9; bytes];
-        assert_eq!(switch.round_into(&mut room), Err(Refusal::ShortRoom));
-        assert_eq!(room, vec![9; bytes]);
+    for settings in settings(1) {
+        let mut switch = switch(settings);
+        let before = switch.memory().to_vec();
+        let needed = TURN_BYTES * settings.ports as usize;
+        for bytes in [0, 1, needed / 2, needed - 1] {
+            let mut room = vec![9; bytes];
+            assert_eq!(switch.round_into(&mut room), Err(Refusal::ShortRoom));
+            assert_eq!(room, vec![9; bytes]);
+        }
+        assert_eq!(switch.memory(), before);
+        let mut room = vec![9; needed + 3];
+        assert_eq!(switch.round_into(&mut room), Ok(()));
+        assert_eq!(room[..needed], [0, 1, 0, 0].repeat(settings.ports as usize));
+        assert_eq!(room[needed..], [9; 3]);
     }
-    assert_eq!(switch.memory(), before);
-    let mut room = [9; ROUND_BYTES + 3];
+    let mut switch = switch(SETTINGS);
+    switch.arrive(0, &SHORTEST).unwrap();
+    let mut room = [9; 16];
     assert_eq!(switch.round_into(&mut room), Ok(()));
-    let told = [0, 0, 0, 0, 0, 1, 0, 0, 0, 1, 0, 0, 0, 1, 0, 0, 9, 9, 9];
+    let told = [0, 0, 0, 0, 0, 1, 0, 0, 0, 1, 0, 0, 0, 1, 0, 0];
     assert_eq!(room, told);
 }
 
 #[test]
 fn a_round_on_no_state_is_refused_3_whatever_the_room() {
-    for bytes in [0, ROUND_BYTES - 1, ROUND_BYTES, 100] {
-        let mut switch = Switch::over(vec![7; 2040]);
+    for bytes in [0, TURN_BYTES, TURN_BYTES * MOST_PORTS] {
+        let mut switch = Switch::over(vec![7; SIZE]);
         let mut room = vec![9; bytes];
         assert_eq!(switch.round_into(&mut room), Err(Refusal::NoState));
         assert_eq!(switch.round(), Err(Refusal::NoState));
         assert_eq!(
             (room, switch.into_memory()),
-            (vec![9; bytes], vec![7; 2040])
+            (vec![9; bytes], vec![7; SIZE])
         );
     }
+    assert_eq!(Switch::over([]).round(), Err(Refusal::NoState));
+}
+
+/// From the last port to itself, in the last queue: every number is its largest.
+#[test]
+fn the_last_queue_of_the_last_port() {
+    for settings in settings(2048) {
+        let mut switch = switch(settings);
+        let (port, queue) = (settings.ports - 1, settings.queues - 1);
+        switch.map(4095, 0).unwrap();
+        assert_eq!(switch.map(4096, port + 1), Err(Refusal::NoSuchId));
+        assert_eq!(switch.map(4095, port + 1), Err(Refusal::NoPort));
+        switch.map(port, port).unwrap();
+        let header = Header {
+            destination: port,
+            source: port,
+            queue,
+            length: 512,
+            timestamp: u32::MAX,
+            ..Header::default()
+        };
+        let bytes = settings.form().write(&header).unwrap();
+        let entry = switch.arrive(port, &bytes).unwrap();
+        assert_eq!((u32::from(entry.port()), entry.index()), (port, 0));
+        assert_eq!(u32::from(switch.stitch(port).unwrap().queue), queue);
+        assert_eq!(switch.prefetch(port, queue + 1), Err(Refusal::NoQueue));
+        assert_eq!(switch.prefetch(port, queue), Ok(entry));
+        assert_eq!(switch.ready(port).unwrap().word, 0);
+        switch.credit(port, queue, 1).unwrap();
+        assert_eq!(switch.ready(port).unwrap().word, 1 << queue);
+        let list = ListKind::Prefetch {
+            port: port as u8,
+            queue: queue as u8,
+        };
+        assert_eq!(switch.place_of(entry).unwrap().list, list);
+        match switch.turn(port).unwrap() {
+            Turn::Sent(sent) => {
+                assert_eq!((sent.entry, u32::from(sent.queue)), (entry, queue));
+                assert_eq!((sent.price, sent.timestamp), (1, u32::MAX));
+            }
+            Turn::Idle => panic!("idle"),
+        }
+        assert_eq!(switch.turn(port + 1), Err(Refusal::NoPort));
+        let last = EntryId(port as u16 * 2048 + 2047);
+        assert_eq!(switch.place_of(last).unwrap().position, 2046);
+    }
+}
+
+/// The largest number of each field, in the order of the fields.
+fn largest(form: Form) -> [u32; 8] {
+    let wide = form.edition == WIDE;
+    let port = form.ports.next_power_of_two() - 1;
+    let credit = if wide { 65_535 } else { 255 };
+    [port, port, form.queues - 1, 8191, 1, u32::MAX, credit, 255]
+}
+
+#[test]
+fn headers_are_written_and_read_back() {
+    for form in settings(1).map(|settings| settings.form()) {
+        let size = form.size().unwrap();
+        let least = Header {
+            length: size as u32 + 2,
+            ..Header::default()
+        };
+        let most = Header::from_numbers(largest(form));
+        assert_eq!(most.numbers(), largest(form));
+        for header in [least, most] {
+            let bytes = form.write(&header).unwrap();
+            assert_eq!(bytes.len(), size);
+            assert_eq!(form.read(&bytes), Ok(header));
+            assert_eq!(form.read(&bytes[1..]), Err(Refusal::HeaderSize));
+            assert_eq!(format!("{bytes:?}"), format!("{:?}", &bytes[..]));
+            // Any change of a bit is seen.
+            for bit in 0..8 * size {
+                let mut wrong = bytes.to_vec();
+                wrong[bit / 8] ^= 1 << (bit % 8);
+                assert_eq!(form.read(&wrong), Err(Refusal::Checksum));
+            }
+        }
+    }
+}
+
+#[test]
+fn values_that_do_not_fit() {
+    for form in settings(1).map(|settings| settings.form()) {
+        let short = form.size().unwrap() as u32 + 1;
+        let most = largest(form);
+        for (field, &value) in most.iter().enumerate() {
+            for value in [value.checked_add(1), Some(u32::MAX)] {
+                let mut fields = most;
+                fields[field] = match value {
+                    Some(value) if value != fields[field] => value,
+                    _ => continue,
+                };
+                let header = Header::from_numbers(fields);
+                assert_eq!(form.write(&header), Err(Refusal::NoFit), "{header:?}");
+            }
+        }
+        let header = Header {
+            length: short,
+            ..Header::from_numbers(most)
+        };
+        assert_eq!(form.write(&header), Err(Refusal::NoFit));
+    }
+}
+
+#[test]
+fn forms_that_no_switch_has() {
+    for (edition, ports, queues) in [
+        (TEN_BYTES, 4, 23),
+        (TEN_BYTES, 5, 24),
+        (WIDE, 1, 2),
+        (WIDE, 33, 2),
+        (WIDE, 2, 1),
+        (WIDE, 2, 65),
+        (2, 4, 24),
+        (u32::MAX, u32::MAX, u32::MAX),
+    ] {
+        let form = Form {
+            edition,
+            ports,
+            queues,
+        };
+        assert_eq!(form.size(), None);
+        // 2 comes before all else.
+        assert_eq!(form.read(&[]), Err(Refusal::BadSetting));
+        assert_eq!(form.write(&Header::default()), Err(Refusal::BadSetting));
+    }
+}
+
+/// The bytes with their checksum in the last one.
+fn summed(mut bytes: Vec<u8>) -> Vec<u8> {
+    let step = |sum: u8| sum << 1 ^ if sum & 0x80 == 0 { 0 } else { 7 };
+    let last = bytes.len() - 1;
+    let byte = |sum: u8, &byte: &u8| (0..8).fold(sum ^ byte, |sum, _| step(sum));
+    bytes[last] = bytes[..last].iter().fold(0, byte);
+    bytes
+}
+
+/// In the reader's order: 7, 20, 9, 19.
+#[test]
+fn headers_that_are_not_read() {
+    let ten = Form::TEN_BYTES;
+    // Queue 31, length 11, a reserved bit of 1; and one after another is put right.
+    let mut bytes = vec![0x0F, 0x80, 0x2D, 0, 0, 0, 0, 0, 0, 0];
+    assert_eq!(ten.read(&bytes), Err(Refusal::Checksum));
+    assert_eq!(ten.read(&summed(bytes.clone())), Err(Refusal::ReservedBit));
+    bytes[2] = 0x2C;
+    assert_eq!(ten.read(&summed(bytes.clone())), Err(Refusal::TooShort));
+    bytes[2] = 0x30;
+    assert_eq!(ten.read(&summed(bytes.clone())), Err(Refusal::HeaderQueue));
+    bytes[..2].fill(0);
+    assert_eq!(ten.read(&summed(bytes)).unwrap().length, 12);
+    assert_eq!(ten.read(&SHORTEST).unwrap().length, 12);
+}
+
+/// Five ports and 33 queues have fields for eight and 64, and six reserved bits.
+#[test]
+fn fields_wider_than_the_counts() {
+    let form = Form::wide(5, 33);
+    let header = Header {
+        destination: 7,
+        source: 7,
+        queue: 32,
+        length: 14,
+        ..Header::default()
+    };
+    let bytes = form.write(&header).unwrap();
+    assert_eq!(form.read(&bytes), Ok(header));
+    for bit in 0..6 {
+        let mut bytes = bytes.to_vec();
+        bytes[3] |= 1 << bit;
+        assert_eq!(form.read(&summed(bytes)), Err(Refusal::ReservedBit));
+    }
+    // Both have six bits for the queue.
+    let more = Form::wide(5, 34);
+    let bytes = more
+        .write(&Header {
+            queue: 33,
+            ..header
+        })
+        .unwrap();
+    assert_eq!(form.read(&bytes), Err(Refusal::HeaderQueue));
+    assert_eq!(more.read(&bytes).unwrap().queue, 33);
+    // Read, but not let in: there is no port 7.
+    let settings = Settings::wide(5, 33, 1, 64, 1, 16);
+    let bytes = form.write(&header).unwrap();
+    assert_eq!(switch(settings).arrive(4, &bytes), Err(Refusal::Source));
 }
 
 #[test]
@@ -143,27 +446,28 @@ fn rules_and_their_numbers() {
 fn a_finding_is_never_refused() {
     let too_short = Some(Finding {
         rule: Rule::A,
-        item: 6,
+        item: 8,
     });
     assert_eq!(find(&[]), too_short);
-    assert_eq!(find(&[0; 11]), too_short);
+    assert_eq!(find(&[0; 15]), too_short);
     let no_ports = Some(Finding {
         rule: Rule::A,
         item: 0,
     });
-    assert_eq!(find(&[0; 12]), no_ports);
+    assert_eq!(find(&[0; 16]), no_ports);
     assert_eq!(Switch::over(vec![0; 65_536]).find(), no_ports);
-    let switch = Switch::setup(vec![0; size(1).unwrap()], SETTINGS).unwrap();
-    assert_eq!(switch.find(), None);
-    let short = size(1).unwrap() - 1;
-    assert_eq!(find(&switch.memory()[..short]), too_short);
+    for settings in settings(1) {
+        let switch = switch(settings);
+        assert_eq!(switch.find(), None);
+        let short = size(&settings).unwrap() - 1;
+        assert_eq!(find(&switch.memory()[..short]), too_short);
+    }
 }
 
 #[test]
 fn an_audit_tells_every_place() {
     for nodes in [1, 2, 16, 256, 2048] {
-        let settings = Settings { nodes, ..SETTINGS };
-        let mut switch = Switch::setup(vec![0; size(nodes).unwrap()], settings).unwrap();
+        let mut switch = switch(Settings { nodes, ..SETTINGS });
         switch.arrive(0, &SHORTEST).unwrap();
         let places = switch.audit().unwrap();
         assert_eq!(places.len(), 4 * nodes as usize);
@@ -177,8 +481,23 @@ fn an_audit_tells_every_place() {
 }
 
 #[test]
+fn an_audit_of_every_shape() {
+    for settings in settings(3).into_iter().chain(settings(2048)) {
+        let switch = switch(settings);
+        let places = switch.audit().unwrap();
+        assert_eq!(places.len() as u32, settings.ports * settings.nodes);
+        for (at, place) in (0..).zip(places) {
+            let (port, index) = (at / settings.nodes, at % settings.nodes);
+            let own = ListKind::Free { port: port as u8 };
+            assert_eq!(u32::from(place.entry.0), port * 2048 + index);
+            assert_eq!((place.list, u32::from(place.position)), (own, index));
+        }
+    }
+}
+
+#[test]
 fn an_audit_writes_into_lent_room() {
-    let switch = Switch::setup(vec![0; size(1).unwrap()], SETTINGS).unwrap();
+    let switch = switch(SETTINGS);
     for bytes in 0..4 * PLACE_BYTES {
         let mut room = vec![9; bytes];
         let answer = audit(switch.memory(), &mut room);
@@ -200,15 +519,16 @@ fn an_audit_writes_into_lent_room() {
 
 #[test]
 fn a_repair_keeps_settings_map_and_what_is_past_the_size() {
-    let mut memory = vec![0; size(1).unwrap() + 3];
-    memory[2040..].fill(9);
+    let mut memory = vec![0; SIZE + 3];
+    memory[SIZE..].fill(9);
     let mut switch = Switch::setup(memory, SETTINGS).unwrap();
     switch.map(2, 3).unwrap();
+    switch.map(4095, 1).unwrap();
     let mended = switch.memory().to_vec();
     switch.arrive(0, &SHORTEST).unwrap();
     let mut memory = switch.into_memory();
-    memory[12] = 4;
-    memory[19] = 24;
+    memory[MAP] = 4;
+    memory[LAST + 3] = 24;
     assert!(find(&memory).is_some());
     let mut switch = Switch::over(memory);
     assert_eq!(switch.turn(0), Err(Refusal::NoState));
@@ -222,13 +542,13 @@ fn a_repair_keeps_settings_map_and_what_is_past_the_size() {
 
 #[test]
 fn a_repair_is_refused_where_the_settings_are_wrong() {
-    let mut memory = Switch::setup(vec![0; size(1).unwrap()], SETTINGS)
-        .unwrap()
-        .into_memory();
-    for setting in 0..5 {
+    let mut memory = switch(SETTINGS).into_memory();
+    // Any two bytes are a credit.
+    for setting in (0..8).filter(|&setting| setting != 5) {
         let kept = [memory[2 * setting], memory[2 * setting + 1]];
         memory[2 * setting..2 * setting + 2].fill(0xFF);
         let before = memory.clone();
+        // Where the edition is none, four ports and 24 queues are in their rows still.
         let item = setting as u64;
         let rule = Rule::A;
         assert_eq!(find(&memory), Some(Finding { rule, item }));
@@ -236,7 +556,7 @@ fn a_repair_is_refused_where_the_settings_are_wrong() {
         assert_eq!(memory, before);
         memory[2 * setting..2 * setting + 2].copy_from_slice(&kept);
     }
-    assert_eq!(repair(&mut memory[..2039]), Err(Refusal::NoState));
+    assert_eq!(repair(&mut memory[..SIZE - 1]), Err(Refusal::NoState));
     assert_eq!(repair(&mut memory), Ok(()));
     assert_eq!(repair(&mut []), Err(Refusal::NoState));
 }

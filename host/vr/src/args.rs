@@ -1,16 +1,25 @@
 //! The command line.
 
+mod header;
+
 use std::ffi::{OsStr, OsString};
 use std::path::PathBuf;
+
+use ventorupo::{Form, Header};
 
 use crate::trouble::Trouble;
 
 pub const USAGE: &str = "\
-vr: images of a switch's state, explained, shown and repaired
+vr: images of a switch's state, explained, shown and repaired; headers made and shown
 
     vr explain IMAGE         says that it is a sound state, or the first rule broken and what shows it
     vr dump IMAGE [--json]   shows settings, map, credits and every list with its packets
     vr repair IMAGE -o NEW   writes NEW: IMAGE with the starting state of its settings, the map kept
+    vr header make [FORM] --destination N --source N --queue N --length N [--poisoned N]
+                   [--timestamp N] [--credit N] [--transaction N] [-o NEW]
+                             says the header's bytes in hexadecimal, and writes them to NEW
+    vr header show [FORM] HEADER [--json]
+                             shows the fields of a header, or why it is none
     vr help                  says this; so does --help behind a command
 
 IMAGE is a file of a state's bytes (docs/LAYOUT.md), and is never written. NEW must not be there yet:
@@ -18,17 +27,47 @@ vr overwrites nothing. A name that starts with - is written ./-name. Bytes of IM
 NEW as they are. A repair drops every packet and all outward credit, also of a sound state; it is refused
 where a setting is not in its row or the image is too short, and then NEW is not made.
 
-Exit status: 0 a sound state, or repaired; 1 a broken state, or repair refused; 2 it could not be done
-(a wrong command, a file that cannot be read or written), with the reason on standard error.
+HEADER is hexadecimal digits, in one word or several, or a file of a header's bytes; one whose name is
+such digits is written ./name. FORM is --ports N --queues N of a switch with wide headers; without it
+headers have ten bytes, for 4 ports and 24 queues. (--edition ten or --edition wide says it outright.)
+A number N is decimal or, behind 0x, hexadecimal; fields that are not named are 0.
+
+Exit status: 0 a sound state, repaired, made or shown; 1 a broken state, or refused; 2 it could not be
+done (a wrong command, a file that cannot be read or written), with the reason on standard error.
 ";
 
 /// What is to be done.
 #[derive(Debug, PartialEq, Eq)]
 pub enum Command {
     Help,
-    Explain { image: PathBuf },
-    Dump { image: PathBuf, json: bool },
-    Repair { image: PathBuf, new: PathBuf },
+    Explain {
+        image: PathBuf,
+    },
+    Dump {
+        image: PathBuf,
+        json: bool,
+    },
+    Repair {
+        image: PathBuf,
+        new: PathBuf,
+    },
+    Make {
+        form: Form,
+        header: Header,
+        new: Option<PathBuf>,
+    },
+    Show {
+        form: Form,
+        given: Given,
+        json: bool,
+    },
+}
+
+/// A header that is to be shown.
+#[derive(Debug, PartialEq, Eq)]
+pub enum Given {
+    Bytes(Vec<u8>),
+    File(PathBuf),
 }
 
 /// The words behind a command.
@@ -47,7 +86,9 @@ pub fn command(words: impl Iterator<Item = OsString>) -> Result<Command, Trouble
     let helps = |word: &OsString| word == "--help" || word == "-h";
     match name.to_str() {
         Some("help" | "--help" | "-h") => Ok(Command::Help),
-        Some("explain" | "dump" | "repair") if words.iter().any(helps) => Ok(Command::Help),
+        Some("explain" | "dump" | "repair" | "header") if words.iter().any(helps) => {
+            Ok(Command::Help)
+        }
         Some("explain") => {
             let image = named(rest(words, &[])?.image)?;
             Ok(Command::Explain { image })
@@ -63,6 +104,7 @@ pub fn command(words: impl Iterator<Item = OsString>) -> Result<Command, Trouble
             let new = rest.new.ok_or_else(|| bad("repair needs -o NEW".into()))?;
             Ok(Command::Repair { image, new })
         }
+        Some("header") => header::command(words),
         _ => Err(bad(format!("{} is no command", quoted(&name)))),
     }
 }
@@ -84,26 +126,15 @@ fn rest(words: Vec<OsString>, options: &[&str]) -> Result<Rest, Trouble> {
 
 impl Rest {
     fn put_new(&mut self, name: Option<OsString>) -> Result<(), Trouble> {
-        let name = name.filter(|name| !name.is_empty());
-        let name = name.ok_or_else(|| bad("-o needs a name behind it".into()))?;
-        if is_dashed(&name) {
-            let (word, file) = (quoted(&name), file_named(&name));
-            return Err(bad(format!(
-                "-o needs a name behind it, not {word}; {file}"
-            )));
-        }
-        match self.new.replace(name.into()) {
-            Some(_) => Err(bad("-o is there twice".into())),
+        match self.new.replace(name_behind_o(name)?) {
+            Some(_) => Err(twice("-o")),
             None => Ok(()),
         }
     }
 
     fn put_image(&mut self, word: OsString) -> Result<(), Trouble> {
         match &self.image {
-            _ if is_dashed(&word) => {
-                let (word, file) = (quoted(&word), file_named(&word));
-                Err(bad(format!("{word} is no option here; {file}")))
-            }
+            _ if is_dashed(&word) => Err(no_option(&word)),
             Some(_) => Err(bad(format!("{} is one name too many", quoted(&word)))),
             None => {
                 self.image = Some(word.into());
@@ -111,6 +142,28 @@ impl Rest {
             }
         }
     }
+}
+
+/// The name of a new file, which stands behind -o.
+fn name_behind_o(name: Option<OsString>) -> Result<PathBuf, Trouble> {
+    let name = name.filter(|name| !name.is_empty());
+    let name = name.ok_or_else(|| bad("-o needs a name behind it".into()))?;
+    if is_dashed(&name) {
+        let (word, file) = (quoted(&name), file_named(&name));
+        return Err(bad(format!(
+            "-o needs a name behind it, not {word}; {file}"
+        )));
+    }
+    Ok(name.into())
+}
+
+fn twice(option: &str) -> Trouble {
+    bad(format!("{option} is there twice"))
+}
+
+fn no_option(word: &OsStr) -> Trouble {
+    let (word, file) = (quoted(word), file_named(word));
+    bad(format!("{word} is no option here; {file}"))
 }
 
 fn named(image: Option<PathBuf>) -> Result<PathBuf, Trouble> {
@@ -174,6 +227,9 @@ mod tests {
             "dump i --json --help",
             "repair --help",
             "repair i -o --help",
+            "header --help",
+            "header make -h",
+            "header show 00 --help",
         ] {
             assert_eq!(told(line), Ok(Command::Help));
         }
@@ -185,9 +241,20 @@ mod tests {
     }
 
     #[test]
+    fn headers_are_read_behind_their_name() {
+        let show = Command::Show {
+            form: Form::TEN_BYTES,
+            given: Given::Bytes(vec![0xAB]),
+            json: false,
+        };
+        assert_eq!(told("header show ab"), Ok(show));
+    }
+
+    #[test]
     fn wrong_lines_are_told_apart() {
         for (line, what) in [
             ("", "no command"),
+            ("header", "header needs make or show behind it"),
             ("mend i", "`mend` is no command"),
             ("mend --help", "`mend` is no command"),
             ("explain", "no image is named"),

@@ -1,12 +1,15 @@
-//! Files: an image read, and a new one written.
+//! Files: an image or a header read, and a new one written.
 
-use std::fs::{self, File, OpenOptions, Permissions};
+use std::fs::{self, File, Metadata, OpenOptions, Permissions};
 use std::io::{self, ErrorKind, Read, Write};
 use std::os::unix::fs::{OpenOptionsExt, PermissionsExt};
 use std::path::Path;
 
 use crate::layout::Shape;
 use crate::trouble::Trouble;
+
+/// The most bytes that a header has.
+const LONGEST_HEADER: usize = 12;
 
 /// A file's start, as much as the largest state takes; whatever the file, no
 /// rule and no repair looks further.
@@ -20,23 +23,10 @@ pub struct Start {
     rest: File,
 }
 
-/// Read an image. Only a file of bytes is one: a pipe may never answer.
+/// Read an image.
 pub fn read(path: &Path) -> Result<Start, Trouble> {
-    let trouble = |why: io::Error| Trouble::with(path, why);
-    let about = fs::metadata(path).map_err(trouble)?;
-    if about.is_dir() {
-        return Err(Trouble::with(path, "is a directory, not an image"));
-    }
-    if !about.is_file() {
-        return Err(Trouble::with(path, "is not a regular file"));
-    }
-    let rest = File::open(path).map_err(trouble)?;
-    let mut bytes = Vec::new();
-    let most = Shape::MOST.size() as u64;
-    (&rest)
-        .take(most)
-        .read_to_end(&mut bytes)
-        .map_err(trouble)?;
+    let (rest, about) = open(path, "an image")?;
+    let bytes = start(&rest, path, Shape::MOST.size())?;
     Ok(Start {
         there: about.len().max(bytes.len() as u64),
         bytes,
@@ -45,25 +35,70 @@ pub fn read(path: &Path) -> Result<Start, Trouble> {
     })
 }
 
+/// Read a header, of which no more bytes than the longest has and one past it
+/// are looked at; answers also how many there are.
+pub fn read_header(path: &Path) -> Result<(Vec<u8>, u64), Trouble> {
+    let (file, about) = open(path, "a header")?;
+    let bytes = start(&file, path, LONGEST_HEADER + 1)?;
+    let there = about.len().max(bytes.len() as u64);
+    Ok((bytes, there))
+}
+
+/// Only a file of bytes is taken: a pipe may never answer.
+fn open(path: &Path, what: &str) -> Result<(File, Metadata), Trouble> {
+    let trouble = |why: io::Error| Trouble::with(path, why);
+    let about = fs::metadata(path).map_err(trouble)?;
+    if about.is_dir() {
+        return Err(Trouble::with(path, format!("is a directory, not {what}")));
+    }
+    if !about.is_file() {
+        return Err(Trouble::with(path, "is not a regular file"));
+    }
+    let file = File::open(path).map_err(trouble)?;
+    Ok((file, about))
+}
+
+/// At most so many bytes.
+fn start(file: &File, path: &Path, most: usize) -> Result<Vec<u8>, Trouble> {
+    let mut bytes = Vec::new();
+    let read = file.take(most as u64).read_to_end(&mut bytes);
+    read.map_err(|why| Trouble::with(path, why))?;
+    Ok(bytes)
+}
+
+/// Write bytes to a new file.
+pub fn write_new(path: &Path, bytes: &[u8]) -> Result<(), Trouble> {
+    let mut new = create(path, 0o666)?;
+    let written = new.write_all(bytes).and_then(|()| new.sync_all());
+    whole(path, written)
+}
+
+/// A new file, with these permissions so far as a umask allows.
+fn create(path: &Path, mode: u32) -> Result<File, Trouble> {
+    let mut options = OpenOptions::new();
+    let options = options.write(true).create_new(true).mode(mode);
+    options.open(path).map_err(|why| not_made(path, why))
+}
+
+/// A new file that could not be written whole is taken away again.
+fn whole(path: &Path, written: io::Result<()>) -> Result<(), Trouble> {
+    if written.is_err() {
+        // What fails here is told by the error that led here.
+        let _ = fs::remove_file(path);
+    }
+    written.map_err(|why| Trouble::with(path, why))
+}
+
 impl Start {
     /// Write the start as it is now, and the rest as it was, to a new file of the
-    /// same permissions. One that cannot be written whole is taken away again.
+    /// same permissions.
     pub fn write(mut self, path: &Path) -> Result<(), Trouble> {
-        let mut new = OpenOptions::new()
-            .write(true)
-            .create_new(true)
-            .mode(self.mode)
-            .open(path)
-            .map_err(|why| not_made(path, why))?;
+        let mut new = create(path, self.mode)?;
         // A umask may have left some out. Where this fails, the file has fewer, or
         // those that its file system gives to all.
         let _ = new.set_permissions(Permissions::from_mode(self.mode));
         let written = self.fill(&mut new);
-        if written.is_err() {
-            // What fails here is told by the error that led here.
-            let _ = fs::remove_file(path);
-        }
-        written.map_err(|why| Trouble::with(path, why))
+        whole(path, written)
     }
 
     fn fill(&mut self, new: &mut File) -> io::Result<()> {

@@ -3,7 +3,7 @@
 use std::fmt;
 
 use crate::layout::Table::{self, *};
-use crate::layout::{Shape, NODES, PORTS, QUEUES, ROWS, TABLES};
+use crate::layout::{row, Shape, EDITION, NODES, PORTS, QUEUES, TABLES};
 
 /// The step between the entry ids of two ports.
 const IDS_PER_PORT: usize = 2048;
@@ -104,7 +104,7 @@ pub struct Image<'m> {
 
 impl<'m> Image<'m> {
     /// Where the tables stand follows from ports, queues and nodes, so far as
-    /// these are in their rows.
+    /// these are in their rows, which follow from the edition.
     pub fn new(bytes: &'m [u8]) -> Image<'m> {
         let plain = Image::shaped(bytes, Shape::default());
         let known = |i| plain.setting_in_row(i).map_or(0, |n| n as usize);
@@ -143,9 +143,10 @@ impl<'m> Image<'m> {
         self.get(Setting, i)
     }
 
-    /// A setting that is in its row.
+    /// A setting that is in its row; none where the edition can't be read.
     pub fn setting_in_row(&self, i: usize) -> Option<u32> {
-        self.setting(i).filter(|&n| (ROWS[i].has)(n))
+        let row = row(i, self.setting(EDITION)?);
+        self.setting(i).filter(|&n| (row.has)(n))
     }
 
     /// The bytes that a state of these settings takes; none where ports, queues
@@ -204,8 +205,9 @@ mod tests {
     #[test]
     fn lists_are_numbered_port_by_port() {
         let shape = Shape {
+            ports: 4,
+            queues: 24,
             nodes: 1,
-            ..Shape::MOST
         };
         let said = |number| List::numbered(shape, number).to_string();
         assert_eq!(said(0), "free list of port 0");
@@ -214,6 +216,8 @@ mod tests {
         assert_eq!(said(2 + 24), "prefetch list of port 0, queue 0");
         assert_eq!(said(199), "prefetch list of port 3, queue 23");
         assert_eq!(shape.lists(), 200);
+        let last = List::numbered(Shape::MOST, Shape::MOST.lists() - 1);
+        assert_eq!(last.to_string(), "prefetch list of port 31, queue 63");
     }
 
     #[test]
@@ -226,31 +230,67 @@ mod tests {
 
     #[test]
     fn any_bytes_are_read_as_far_as_they_go() {
-        let bytes = [0, 4, 0, 24, 0, 2, 0, 64, 0, 1, 0, 16, 3, 2, 1];
+        let bytes = [0, 8, 0, 16, 0, 2, 0, 64, 0, 1, 0, 16, 0, 1, 0, 0, 3, 2, 1];
         for end in 0..=bytes.len() {
             let image = Image::new(&bytes[..end]);
-            let settings: Vec<Option<u32>> = (0..6).map(|i| image.setting(i)).collect();
-            let there = [4, 24, 2, 64, 1, 16].iter().enumerate();
+            let there = [8, 16, 2, 64, 1, 16, 1, 0].iter().enumerate();
             for (i, &number) in there {
-                assert_eq!(settings[i], (2 * i + 2 <= end).then_some(number));
+                assert_eq!(image.setting(i), (2 * i + 2 <= end).then_some(number));
             }
-            assert_eq!(image.get(Mapped, 2), (end == 15).then_some(1));
+            assert_eq!(image.get(Mapped, 2), (end == 19).then_some(1));
             assert_eq!(image.get(Mapped, 3), None);
-            assert_eq!(image.needed(), (end >= 6).then_some(2092));
+            // The edition says what the rows are.
+            assert_eq!(image.needed(), (end >= 14).then_some(6984));
             assert_eq!(image.get(Price, 7), None);
         }
     }
 
+    /// Ports, queues, nodes and edition, the others as they should be.
+    fn image(settings: [u8; 4]) -> Vec<u8> {
+        let [ports, queues, nodes, edition] = settings;
+        let mut memory = vec![0; 7000];
+        let bytes = [
+            0, ports, 0, queues, 0, nodes, 0, 64, 0, 1, 0, 16, 0, edition,
+        ];
+        memory[..bytes.len()].copy_from_slice(&bytes);
+        memory
+    }
+
     #[test]
     fn without_ports_or_queues_nothing_but_the_map_has_a_place() {
-        for bytes in [[0, 5, 0, 24, 0, 2], [0, 4, 0, 23, 0, 2]] {
-            let mut memory = vec![0; 4000];
-            memory[..6].copy_from_slice(&bytes);
+        for settings in [
+            [5, 24, 2, 0],
+            [4, 23, 2, 0],
+            [1, 24, 2, 1],
+            [33, 24, 2, 1],
+            [4, 1, 2, 1],
+            [4, 65, 2, 1],
+        ] {
+            let memory = image(settings);
             let image = Image::new(&memory);
-            assert_eq!(image.get(Mapped, 0), Some(0));
+            assert_eq!(image.get(Mapped, 4095), Some(0));
             assert_eq!(image.get(Last, 0), None);
             assert_eq!(image.shape.lists(), 0);
             assert_eq!(image.needed(), None);
+        }
+    }
+
+    #[test]
+    fn counts_are_the_images_own() {
+        for (settings, needed) in [
+            ([4, 24, 2, 0], 6188),
+            ([4, 24, 2, 1], 6188),
+            ([2, 2, 1, 1], 4244),
+            ([8, 16, 2, 1], 6984),
+            ([32, 64, 1, 1], 45_904),
+            // An edition that is none has the wide rows.
+            ([8, 16, 2, 2], 6984),
+        ] {
+            let memory = image(settings);
+            let image = Image::new(&memory);
+            assert_eq!(image.needed(), Some(needed));
+            assert_eq!(image.shape.ports, settings[0].into());
+            assert_eq!(image.shape.queues, settings[1].into());
         }
     }
 }

@@ -1,5 +1,8 @@
 //! An image as JSON: a program may listen. What could not be read is null.
 
+use ventorupo::{Form, Header, Refusal};
+
+use crate::header::told;
 use crate::image::{Entry, Image, Kind};
 use crate::layout::{Table, IDS, ROWS};
 use crate::lists::Walk;
@@ -23,7 +26,7 @@ pub fn json(view: &View) -> String {
             needed.map_or_else(null, |needed| needed.to_string()),
         ),
         ("settings", settings(image)),
-        ("map", row(mapped)),
+        ("map", block(mapped)),
         ("last_served", row(last)),
         ("credits", lines(credits(image))),
         ("lists", lines(walks)),
@@ -32,6 +35,41 @@ pub fn json(view: &View) -> String {
             row(nowhere.iter().map(|entry| entry.0.to_string())),
         ),
     ];
+    members_of(&members)
+}
+
+/// A header of so many bytes: its fields, or its refusal with the words for it.
+pub fn header(form: Form, bytes: u64, read: &Result<Header, (Refusal, String)>) -> String {
+    let (fields, refused, words) = match read {
+        Ok(header) => (fields(form, header), null(), null()),
+        Err((refusal, words)) => (
+            null(),
+            refusal.number().to_string(),
+            text(Some(words.into())),
+        ),
+    };
+    let members = [
+        ("edition", form.edition.to_string()),
+        ("ports", form.ports.to_string()),
+        ("queues", form.queues.to_string()),
+        ("bytes", bytes.to_string()),
+        ("refused", refused),
+        ("words", words),
+        ("fields", fields),
+    ];
+    members_of(&members)
+}
+
+fn fields(form: Form, header: &Header) -> String {
+    let numbers = told(form).zip(header.numbers());
+    let members: Vec<(&str, String)> = numbers
+        .map(|((_, name, _), number)| (name, number.to_string()))
+        .collect();
+    object(&members)
+}
+
+/// An object of a line for each member: a whole text.
+fn members_of(members: &[(&str, String)]) -> String {
     let member = |(name, value): &(&str, String)| format!("  \"{name}\": {value}");
     let members: Vec<String> = members.iter().map(member).collect();
     format!("{{\n{}\n}}\n", members.join(",\n"))
@@ -59,6 +97,12 @@ fn text(said: Option<String>) -> String {
 /// An array in one line.
 fn row(elements: impl Iterator<Item = String>) -> String {
     format!("[{}]", elements.collect::<Vec<String>>().join(", "))
+}
+
+/// A long array of numbers, some of them in each line.
+fn block(elements: impl Iterator<Item = String>) -> String {
+    let elements: Vec<String> = elements.collect();
+    lines(elements.chunks(64).map(|some| some.join(", ")))
 }
 
 /// An array of a line each.

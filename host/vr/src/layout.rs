@@ -2,9 +2,9 @@
 //! docs/FINDINGS.md and docs/LAYOUT.md alone.
 
 /// The bytes of the settings.
-pub const SETTINGS_BYTES: usize = 12;
+pub const SETTINGS_BYTES: usize = 16;
 /// Entries of the map, one for each destination id.
-pub const IDS: usize = 4;
+pub const IDS: usize = 4096;
 
 /// A setting's name and row, in words and as a test.
 pub struct Row {
@@ -13,17 +13,18 @@ pub struct Row {
     pub has: fn(u32) -> bool,
 }
 
-/// The settings in the memory's order.
-pub const ROWS: [Row; 6] = [
+/// The settings in the memory's order, with the rows that they have in every
+/// edition but that of ten-byte headers.
+pub const ROWS: [Row; 8] = [
     Row {
         name: "ports",
-        row: "4",
-        has: |n| n == 4,
+        row: "2 to 32",
+        has: |n| (2..=32).contains(&n),
     },
     Row {
         name: "queues",
-        row: "24",
-        has: |n| n == 24,
+        row: "2 to 64",
+        has: |n| (2..=64).contains(&n),
     },
     Row {
         name: "nodes",
@@ -45,7 +46,39 @@ pub const ROWS: [Row; 6] = [
         row: "0 to 65535",
         has: |n| n <= 65_535,
     },
+    Row {
+        name: "edition",
+        row: "0 or 1",
+        has: |n| n <= 1,
+    },
+    Row {
+        name: "packets",
+        row: "0",
+        has: |n| n == 0,
+    },
 ];
+
+/// Ports and queues, with the rows that they have with ten-byte headers.
+const TEN_BYTES_ROWS: [Row; 2] = [
+    Row {
+        name: "ports",
+        row: "4 in edition 0",
+        has: |n| n == 4,
+    },
+    Row {
+        name: "queues",
+        row: "24 in edition 0",
+        has: |n| n == 24,
+    },
+];
+
+/// The row of a setting in an edition.
+pub fn row(setting: usize, edition: u32) -> &'static Row {
+    match edition {
+        TEN_BYTES if setting < TEN_BYTES_ROWS.len() => &TEN_BYTES_ROWS[setting],
+        _ => &ROWS[setting],
+    }
+}
 
 pub const PORTS: usize = 0;
 pub const QUEUES: usize = 1;
@@ -53,6 +86,10 @@ pub const NODES: usize = 2;
 pub const BEAT: usize = 3;
 pub const SLOTS: usize = 4;
 pub const CREDIT: usize = 5;
+pub const EDITION: usize = 6;
+
+/// The edition of ten-byte headers.
+pub const TEN_BYTES: u32 = 0;
 
 /// The tables, in the memory's order.
 #[derive(Debug, Clone, Copy, PartialEq, Eq)]
@@ -118,8 +155,8 @@ pub struct Shape {
 impl Shape {
     /// The largest that a state can have.
     pub const MOST: Shape = Shape {
-        ports: 4,
-        queues: 24,
+        ports: 32,
+        queues: 64,
         nodes: 2048,
     };
 
@@ -170,16 +207,45 @@ impl Shape {
 mod tests {
     use super::*;
 
-    /// As rule (a) has them in docs/FINDINGS.md: `nodes (1 to 2,048)`.
+    /// As rule (a) has them in docs/FINDINGS.md: `nodes (1 to 2,048)`. Behind
+    /// ports and queues the row of ten-byte headers is told too.
     #[test]
     fn rows_are_the_published_ones() {
         let page = include_str!("../../../docs/FINDINGS.md");
         let rule = page.lines().find(|line| line.starts_with("| (a) | "));
-        let plain = |text: &str| text.replace(',', "");
-        let rule = plain(rule.unwrap());
-        for Row { name, row, .. } in &ROWS {
-            let told = plain(&format!("{name} ({row}"));
-            assert!(rule.contains(&told), "{told}");
+        let rule = rule.unwrap().replace(',', "");
+        for Row { name, row, .. } in ROWS.iter().chain(&TEN_BYTES_ROWS) {
+            let told = in_brackets(&rule, name);
+            assert!(told.contains(&row.replace(',', "")), "{name}: {told}");
+        }
+    }
+
+    /// What stands in brackets behind a name.
+    fn in_brackets<'t>(text: &'t str, name: &str) -> &'t str {
+        let (_, rest) = text.split_once(&format!("{name} (")).expect(name);
+        rest.split_once(')').expect(name).0
+    }
+
+    #[test]
+    fn rows_hold_what_they_say() {
+        let last = |setting, edition| {
+            let has = |&n: &u32| (row(setting, edition).has)(n);
+            ((0..70_000).find(has), (0..70_000).rev().find(has))
+        };
+        assert_eq!(last(PORTS, TEN_BYTES), (Some(4), Some(4)));
+        assert_eq!(last(QUEUES, TEN_BYTES), (Some(24), Some(24)));
+        // Also where the edition itself is none.
+        for edition in [1, 2, 65_535] {
+            assert_eq!(last(PORTS, edition), (Some(2), Some(32)));
+            assert_eq!(last(QUEUES, edition), (Some(2), Some(64)));
+        }
+        for edition in [0, 1] {
+            assert_eq!(last(NODES, edition), (Some(1), Some(2048)));
+            assert_eq!(last(BEAT, edition), (Some(64), Some(512)));
+            assert_eq!(last(SLOTS, edition), (Some(1), Some(8)));
+            assert_eq!(last(CREDIT, edition), (Some(0), Some(65_535)));
+            assert_eq!(last(EDITION, edition), (Some(0), Some(1)));
+            assert_eq!(last(EDITION + 1, edition), (Some(0), Some(0)));
         }
     }
 
@@ -198,18 +264,47 @@ mod tests {
             .collect()
     }
 
+    /// A row begins with ports, queues and N, or with N alone if there are four
+    /// ports and 24 queues; then come the starts, and the size.
     #[test]
     fn starts_are_the_published_ones() {
         let rows = published();
-        assert_eq!(rows.len(), 7);
+        assert!(rows.len() >= 7);
         for row in rows {
-            let shape = Shape {
-                nodes: row[0],
-                ..Shape::MOST
+            let (counts, starts) = row.split_at(row.len() - TABLES.len() - 1);
+            let (ports, queues, nodes) = match *counts {
+                [nodes] => (4, 24, nodes),
+                [ports, queues, nodes] => (ports, queues, nodes),
+                _ => panic!("{row:?}"),
             };
-            let starts: Vec<usize> = TABLES.iter().map(|&t| shape.start(t)).collect();
-            assert_eq!(starts, row[1..17]);
-            assert_eq!(shape.size(), row[17]);
+            let shape = Shape {
+                ports,
+                queues,
+                nodes,
+            };
+            let mut wanted: Vec<usize> = TABLES.iter().map(|&t| shape.start(t)).collect();
+            wanted.push(shape.size());
+            assert_eq!(starts, wanted);
         }
+    }
+
+    #[test]
+    fn sizes_are_the_formulas() {
+        for ports in 2..=32 {
+            for queues in [2, 3, 24, 63, 64] {
+                for nodes in [1, 2, 2048] {
+                    let shape = Shape {
+                        ports,
+                        queues,
+                        nodes,
+                    };
+                    let ends = 4 * ports * (queues - 1) + 8 * ports * (2 + 2 * queues);
+                    let size = 16 + 4096 + ports + ends + 13 * ports * nodes;
+                    assert_eq!(shape.size(), size);
+                    assert!(size <= Shape::MOST.size());
+                }
+            }
+        }
+        assert_eq!(Shape::MOST.size(), 897_456);
     }
 }

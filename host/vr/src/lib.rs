@@ -1,11 +1,14 @@
-//! `vr`, the night crew's tool over images of a switch's state. What an image
-//! is worth is said by the proved library; what it holds, in words, tables and
-//! JSON, by a reader of this crate's own, written from docs/LAYOUT.md.
+//! `vr`, the night crew's tool over images of a switch's state, and over headers.
+//! What an image or a header is worth is said by the proved library; what an
+//! image holds, in words, tables and JSON, and why a header is none, by readers
+//! of this crate's own, written from docs/LAYOUT.md and include/ventorupo.h.
 
 #![forbid(unsafe_code)]
 
 pub mod args;
+mod fields;
 mod files;
+mod header;
 pub mod image;
 pub mod json;
 pub mod layout;
@@ -55,6 +58,8 @@ pub fn answer(words: impl Iterator<Item = OsString>) -> Result<Answer, Trouble> 
         Command::Explain { image } => Ok(explain(&view(&files::read(&image)?))),
         Command::Dump { image, json } => Ok(dump(&view(&files::read(&image)?), json)),
         Command::Repair { image, new } => repair(&image, &new),
+        Command::Make { form, header, new } => header::make(form, &header, new.as_deref()),
+        Command::Show { form, given, json } => header::show(form, given, json),
     }
 }
 

@@ -3,7 +3,7 @@
 use crate::image::{Image, Kind};
 use crate::layout::{Table, IDS};
 use crate::lists::Walk;
-use crate::view::{counted, number, View};
+use crate::view::{counted, map_by_port, number, View};
 
 /// What is told of a repair: the image as it was, and as it is now.
 pub fn told(before: &View, after: &Image) -> String {
@@ -12,8 +12,8 @@ pub fn told(before: &View, after: &Image) -> String {
         None => "was: a sound state; a repair empties that too".into(),
     };
     let mut lines = vec![was, format!("kept: {}", before.settings())];
-    lines.push(format!("kept: map {}", map(after)));
-    lines.extend((0..IDS).filter_map(|id| map_entry(&before.image, after, id)));
+    lines.push(format!("kept: map, {}", map(after)));
+    lines.extend(map_entries(&before.image, after));
     let past = before.there.saturating_sub(after.shape.size() as u64);
     if past > 0 {
         lines.push(format!("kept: {} past the state", counted(past, "byte")));
@@ -25,20 +25,28 @@ pub fn told(before: &View, after: &Image) -> String {
 }
 
 fn map(image: &Image) -> String {
-    let entry = |id| format!("{id} to port {}", number(image.get(Table::Mapped, id)));
-    let entries: Vec<String> = (0..IDS).map(entry).collect();
-    entries.join(", ")
+    let ids = |(port, ids): (Option<u32>, Vec<u32>)| {
+        let many = counted(ids.len() as u64, "id");
+        format!("{many} to port {}", number(port))
+    };
+    let ports: Vec<String> = map_by_port(image).into_iter().map(ids).collect();
+    ports.join(", ")
 }
 
-/// A map entry that could not be kept.
-fn map_entry(before: &Image, after: &Image, id: usize) -> Option<String> {
-    let (was, is) = (
-        before.get(Table::Mapped, id)?,
-        after.get(Table::Mapped, id)?,
-    );
-    let ports = after.shape.ports;
-    let changed = was != is;
-    changed.then(|| format!("dropped: map entry {id}, whose port {was} is none of {ports}"))
+/// The map entries that could not be kept.
+fn map_entries(before: &Image, after: &Image) -> Option<String> {
+    let mapped = |image: &Image, id| image.get(Table::Mapped, id);
+    let changed = |&id: &usize| mapped(before, id) != mapped(after, id);
+    let ids: Vec<usize> = (0..IDS).filter(changed).collect();
+    let first = *ids.first()?;
+    let which = match ids.len() {
+        1 => format!("map entry {first}"),
+        many => format!("{many} map entries, the first {first}"),
+    };
+    let (was, ports) = (number(mapped(before, first)), after.shape.ports);
+    Some(format!(
+        "dropped: {which}, whose port {was} is none of {ports}"
+    ))
 }
 
 fn packets(before: &View) -> String {

@@ -1,12 +1,16 @@
 //! An image as a table that a person can read.
 
 use crate::image::{Entry, Image, Kind};
-use crate::layout::{Table, IDS};
+use crate::layout::Table;
 use crate::lists::Walk;
-use crate::view::{counted, number, View};
+use crate::view::{counted, map_by_port, number, View};
 
-/// A line of entry ids gets no longer than about this.
+/// A line of ids gets no longer than about this.
 const WIDE: usize = 96;
+/// So many ports' credits stand beside each other, and so many last served
+/// queues: what a page is wide.
+const CREDITS_ACROSS: usize = 4;
+const SERVED_ACROSS: usize = 16;
 
 pub fn table(view: &View) -> String {
     let mut text = format!("{}\n\n", view.top());
@@ -28,7 +32,7 @@ fn needed(view: &View) -> String {
 }
 
 /// Rows of cells, each column as wide as its widest cell.
-fn columns(indent: &str, rows: &[Vec<String>]) -> String {
+pub fn columns(indent: &str, rows: &[Vec<String>]) -> String {
     let columns = rows.iter().map(Vec::len).max().unwrap_or(0);
     let width = |c: usize| {
         rows.iter()
@@ -50,41 +54,55 @@ fn row(name: &str, cells: impl Iterator<Item = String>) -> Vec<String> {
     std::iter::once(name.to_string()).chain(cells).collect()
 }
 
+/// A line for each port that ids are mapped to, or several.
 fn map(image: &Image) -> String {
-    let ids = row("destination id", (0..IDS).map(|id| id.to_string()));
-    let port = |id| number(image.get(Table::Mapped, id));
-    columns("", &[ids, row("port", (0..IDS).map(port))])
+    let mut text = String::from("port  destination ids\n");
+    for (port, ids) in map_by_port(image) {
+        let mut name = number(port);
+        for line in runs(&ids) {
+            text += &format!("{name:>4}  {line}\n");
+            name.clear();
+        }
+    }
+    text
+}
+
+/// The ports, so many at a time.
+fn ports(image: &Image, across: usize) -> Vec<Vec<usize>> {
+    let all: Vec<usize> = (0..image.shape.ports).collect();
+    all.chunks(across).map(<[usize]>::to_vec).collect()
 }
 
 fn served(image: &Image) -> String {
-    let ports = image.shape.ports;
-    if ports == 0 {
-        return String::new();
-    }
-    let names = row("port", (0..ports).map(|port| port.to_string()));
-    let last = |port| number(image.get(Table::Last, port));
-    let served = row("last served queue", (0..ports).map(last));
-    format!("\n{}", columns("", &[names, served]))
+    let some = |ports: Vec<usize>| {
+        let names = row("port", ports.iter().map(usize::to_string));
+        let last = |&port: &usize| number(image.get(Table::Last, port));
+        let served = row("last served queue", ports.iter().map(last));
+        format!("\n{}", columns("", &[names, served]))
+    };
+    ports(image, SERVED_ACROSS).into_iter().map(some).collect()
 }
 
 fn credits(image: &Image) -> String {
-    let ports = image.shape.ports;
-    if ports == 0 {
-        return String::new();
-    }
-    let twice = |port: usize| [port; 2].map(|port| format!("port {port}"));
-    let kinds = |_| ["arrival", "outward"].map(String::from);
+    let some = |ports: Vec<usize>| format!("\n{}", credits_of(image, &ports));
+    ports(image, CREDITS_ACROSS).into_iter().map(some).collect()
+}
+
+/// The credits of some ports, a line for each queue.
+fn credits_of(image: &Image, ports: &[usize]) -> String {
+    let twice = |port: &usize| [*port; 2].map(|port| format!("port {port}"));
+    let kinds = |_: &usize| ["arrival", "outward"].map(String::from);
     let mut rows = vec![
-        row("credit", (0..ports).flat_map(twice)),
-        row("queue", (0..ports).flat_map(kinds)),
+        row("credit", ports.iter().flat_map(twice)),
+        row("queue", ports.iter().flat_map(kinds)),
     ];
     for queue in 1..image.shape.queues {
-        let both = |port| {
+        let both = |&port: &usize| {
             [Table::Arrival, Table::Outward].map(|table| number(image.credit(table, port, queue)))
         };
-        rows.push(row(&queue.to_string(), (0..ports).flat_map(both)));
+        rows.push(row(&queue.to_string(), ports.iter().flat_map(both)));
     }
-    format!("\n{}", columns("", &rows))
+    columns("", &rows)
 }
 
 fn lists(view: &View) -> String {
@@ -96,7 +114,7 @@ fn lists(view: &View) -> String {
     if !nowhere.is_empty() {
         text += &format!(
             "\nin no list that was read, by entry id:\n{}",
-            runs("  ", &nowhere)
+            entries("  ", &nowhere)
         );
     }
     text
@@ -137,7 +155,7 @@ fn list(image: &Image, walk: &Walk) -> String {
         number(walk.tail)
     );
     text += &match walk.list.kind {
-        Kind::Free => runs("    ", &walk.nodes),
+        Kind::Free => entries("    ", &walk.nodes),
         _ => packets(image, walk),
     };
     // Of one that is cut off, the heading has said so.
@@ -202,21 +220,27 @@ fn packet(image: &Image, position: usize, entry: Entry) -> Vec<String> {
     whose.chain(fields.map(number)).collect()
 }
 
-/// Entry ids in their order, those that count up joined, over as many lines as needed.
-fn runs(indent: &str, nodes: &[Entry]) -> String {
+/// Entry ids in their order, over as many lines as needed.
+fn entries(indent: &str, nodes: &[Entry]) -> String {
+    let ids: Vec<u32> = nodes.iter().map(|entry| entry.0).collect();
+    let lines = runs(&ids).into_iter();
+    lines.map(|line| format!("{indent}{line}\n")).collect()
+}
+
+/// Ids in their order, those that count up joined, in lines.
+fn runs(ids: &[u32]) -> Vec<String> {
     let mut runs: Vec<(u32, u32)> = Vec::new();
-    for &Entry(id) in nodes {
+    for &id in ids {
         match runs.last_mut() {
             Some((_, last)) if *last + 1 == id => *last = id,
             _ => runs.push((id, id)),
         }
     }
-    let mut lines = vec![String::new()];
+    let mut lines = Vec::new();
     for (i, &(first, last)) in runs.iter().enumerate() {
         push_run(&mut lines, first, last, i + 1 == runs.len());
     }
-    let shown = lines.iter().filter(|line| !line.is_empty());
-    shown.map(|line| format!("{indent}{line}\n")).collect()
+    lines
 }
 
 fn push_run(lines: &mut Vec<String>, first: u32, last: u32, ends: bool) {
@@ -227,7 +251,6 @@ fn push_run(lines: &mut Vec<String>, first: u32, last: u32, ends: bool) {
     };
     let comma = if ends { "" } else { "," };
     match lines.last_mut() {
-        Some(line) if line.is_empty() => *line = run + comma,
         Some(line) if line.len() + run.len() < WIDE => *line += &format!(" {run}{comma}"),
         _ => lines.push(run + comma),
     }

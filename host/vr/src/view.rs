@@ -1,7 +1,9 @@
 //! An image with all that vr knows of it.
 
+use std::collections::BTreeMap;
+
 use crate::image::Image;
-use crate::layout::{NODES, PORTS, QUEUES, ROWS, SETTINGS_BYTES};
+use crate::layout::{Table, IDS, NODES, PORTS, QUEUES, ROWS, SETTINGS_BYTES};
 use crate::lists::Lists;
 use crate::words;
 
@@ -68,6 +70,21 @@ impl<'m> View<'m> {
             (there < needed).then(|| format!("the image ends at byte {there} of {needed}"))
         }
     }
+}
+
+/// The destination ids of each port that some are mapped to; last, those whose
+/// port could not be read.
+pub fn map_by_port(image: &Image) -> Vec<(Option<u32>, Vec<u32>)> {
+    let mut ids: BTreeMap<(bool, Option<u32>), Vec<u32>> = BTreeMap::new();
+    for id in 0..IDS {
+        let port = image.get(Table::Mapped, id);
+        ids.entry((port.is_none(), port))
+            .or_default()
+            .push(id as u32);
+    }
+    ids.into_iter()
+        .map(|((_, port), ids)| (port, ids))
+        .collect()
 }
 
 /// So many of something, in words: `1 node`, `2 nodes`.

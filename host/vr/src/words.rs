@@ -1,11 +1,14 @@
 //! A finding in words: the rule's letter, the item, and what its bytes say.
 
+use crate::fields::{bits, largest, least};
 use crate::image::{price, Entry, Image, Kind, Record};
-use crate::layout::{Row, Table, BEAT, CREDIT, IDS, ROWS, SETTINGS_BYTES, SLOTS};
+use crate::layout::{
+    row, Row, Table, BEAT, CREDIT, EDITION, IDS, PORTS, QUEUES, ROWS, SETTINGS_BYTES, SLOTS,
+};
 use crate::lists::{Lists, Spot};
 use crate::view::counted;
 
-use ventorupo::{Finding, Rule};
+use ventorupo::{Finding, Form, Rule};
 
 /// What a rule asks, as the scope paper says it.
 pub fn asks(rule: Rule) -> &'static str {
@@ -59,12 +62,18 @@ fn too_short(image: &Image) -> Option<String> {
         return Some(format!("{short}, the settings alone take {SETTINGS_BYTES}"));
     }
     let needed = image.needed().filter(|&needed| there < needed)?;
+    let (ports, queues) = (image.shape.ports, image.shape.queues);
     let nodes = counted(image.shape.nodes as u64, "node");
-    Some(format!("{short}, a state of {nodes} a port takes {needed}"))
+    Some(format!(
+        "{short}, a state of {ports} ports, {queues} queues and {nodes} a port takes {needed}"
+    ))
 }
 
 fn setting(image: &Image, item: usize) -> Option<String> {
-    let Row { name, row, has } = ROWS.get(item)?;
+    if item >= ROWS.len() {
+        return None;
+    }
+    let Row { name, row, has } = row(item, image.setting(EDITION)?);
     let number = image.setting(item).filter(|&number| !has(number))?;
     Some(format!(
         "setting {name}: {number} is not in its row ({row})"
@@ -146,19 +155,30 @@ fn record(image: &Image, lists: &Lists, entry: Entry) -> Option<String> {
     Some(format!("{entry} at {spot}: {why}"))
 }
 
+/// The form of the image's headers.
+fn form(image: &Image) -> Option<Form> {
+    Some(Form {
+        edition: image.setting(EDITION)?,
+        ports: image.setting(PORTS)?,
+        queues: image.setting(QUEUES)?,
+    })
+}
+
 /// The first field that is out of range.
 fn out_of_range(image: &Image, record: Record) -> Option<String> {
     let (length, queue) = (record.length?, record.queue?);
     let (destination, poisoned) = (record.destination?, record.poisoned?);
-    let queues = image.shape.queues;
-    if length < 12 {
-        Some(format!("length {length} is under 12"))
+    let form = form(image)?;
+    let (queues, least) = (form.queues, least(form));
+    let last = largest(bits(form.ports));
+    if length < least {
+        Some(format!("length {length} is under {least}"))
     } else if length > 8191 {
         Some(format!("length {length} is above 8191"))
-    } else if queue as usize >= queues {
+    } else if queue >= queues {
         Some(format!("queue {queue} is none of {queues}"))
-    } else if destination > 3 {
-        Some(format!("destination id {destination} is above 3"))
+    } else if destination > last {
+        Some(format!("destination id {destination} is above {last}"))
     } else if poisoned > 1 {
         Some(format!("poisoned flag {poisoned} is above 1"))
     } else {

@@ -9,7 +9,7 @@ use std::os::unix::ffi::OsStrExt;
 use std::path::Path;
 use std::process::Stdio;
 
-use common::{command, full, on, small, switch, vr, Folder, Said, SMALL};
+use common::{at, command, full, on, small, switch, vr, Folder, Said, SMALL};
 use ventorupo::Settings;
 
 const HINT: &str = " (`vr help` tells the commands)";
@@ -149,14 +149,14 @@ fn huge_files() {
     let said = on("dump", &path);
     assert!(said
         .out
-        .contains("\nbytes: 8589934592 there, 2092 needed\n"));
+        .contains("\nbytes: 8589934592 there, 6188 needed\n"));
     assert_eq!(said.status, Some(0));
     let nothing = folder.path("nothing");
     File::create(&nothing).unwrap().set_len(1 << 33).unwrap();
     let said = on("explain", &nothing);
     assert!(said
         .out
-        .starts_with("(a) setting ports: 0 is not in its row (4)\n"));
+        .starts_with("(a) setting ports: 0 is not in its row (4 in edition 0)\n"));
     assert_eq!((said.status, said.err.as_str()), (Some(1), ""));
 }
 
@@ -170,7 +170,7 @@ fn an_output_pipe_that_closes() {
     };
     let sound = switch(settings).into_memory();
     let mut broken = sound.clone();
-    broken[16] = 200;
+    broken[at::LAST] = 200;
     for (bytes, status) in [(sound, 0), (broken, 1)] {
         let file = folder.file("image", &bytes);
         let mut child = command()

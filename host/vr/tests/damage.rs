@@ -7,20 +7,21 @@ use std::collections::BTreeMap;
 use std::ops::Range;
 
 use common::reading::{nodes_of_json, stored_of_json, stored_of_table, Json};
-use common::{busy, on, small, vr, Folder};
+use common::{busy, busy_of, on, settings_of, small, vr, Folder, SHAPES};
 use traffic::Random;
-use ventorupo::{Finding, Rule};
+use ventorupo::{Finding, Rule, Settings};
 use vr::json::json;
 use vr::layout::{Shape, Table, TABLES};
 use vr::table::table;
 use vr::view::View;
 use vr::words::UNSEEN;
 
-/// The tables of a state of so many nodes a port.
-fn shape(nodes: u32) -> Shape {
+/// The tables of a state.
+fn shape(settings: Settings) -> Shape {
     Shape {
-        nodes: nodes as usize,
-        ..Shape::MOST
+        ports: settings.ports as usize,
+        queues: settings.queues as usize,
+        nodes: settings.nodes as usize,
     }
 }
 
@@ -32,13 +33,13 @@ fn bytes_of(shape: Shape, table: Table) -> Range<usize> {
 }
 
 /// Change a byte of a table, often to one that nearly fits.
-fn damage(memory: &mut [u8], nodes: u32, random: &mut Random) {
+fn damage(memory: &mut [u8], settings: Settings, random: &mut Random) {
     let table = match random.below(20) {
         0 => Table::Setting,
-        1..=3 => return change_over(memory, nodes, random),
+        1..=3 => return change_over(memory, settings, random),
         _ => random.pick(&TABLES[1..]),
     };
-    let Range { start, end } = bytes_of(shape(nodes), table);
+    let Range { start, end } = bytes_of(shape(settings), table);
     let at = random.among(start as u32, end as u32 - 1) as usize;
     memory[at] = match random.below(4) {
         0 => random.below(256) as u8,
@@ -49,13 +50,15 @@ fn damage(memory: &mut [u8], nodes: u32, random: &mut Random) {
 }
 
 /// Let two nodes change places: lists hang together as before, with other nodes.
-fn change_over(memory: &mut [u8], nodes: u32, random: &mut Random) {
-    let mut node = || (random.below(4), random.below(nodes));
+fn change_over(memory: &mut [u8], settings: Settings, random: &mut Random) {
+    let nodes = settings.nodes;
+    let mut node = || (random.below(settings.ports), random.below(nodes));
     let (one, other) = (node(), node());
     let id = |(port, index): (u32, u32)| (port * 2048 + index) as u16;
     let [one_id, other_id] = [one, other].map(id);
-    let next = bytes_of(shape(nodes), Table::Next);
-    let links = bytes_of(shape(nodes), Table::Head).start..bytes_of(shape(nodes), Table::Tail).end;
+    let shape = shape(settings);
+    let next = bytes_of(shape, Table::Next);
+    let links = bytes_of(shape, Table::Head).start..bytes_of(shape, Table::Tail).end;
     for link in links.chain(next.clone()).step_by(2) {
         let said = u16::from_be_bytes([memory[link], memory[link + 1]]);
         let says = match said {
@@ -104,13 +107,16 @@ fn looked_at(memory: &[u8]) -> Option<Rule> {
 fn damaged_states() {
     let mut random = Random::new(11);
     let mut rules: BTreeMap<Option<Rule>, u32> = BTreeMap::new();
-    for run in 0..25 {
+    for run in 0..30 {
         let nodes = random.pick(&[1, 2, 3, 16, 40]);
-        let state = busy(nodes, random.pick(&[0, 30, 100]), run).into_memory();
-        for _ in 0..80 {
+        let settings = settings_of(SHAPES[run as usize % SHAPES.len()], nodes);
+        let state = busy_of(settings, random.pick(&[0, 30, 100]), run).into_memory();
+        // The largest takes its time.
+        let images = if settings.ports == 32 { 15 } else { 60 };
+        for _ in 0..images {
             let mut memory = state.clone();
             for _ in 0..random.among(1, 3) {
-                damage(&mut memory, nodes, &mut random);
+                damage(&mut memory, settings, &mut random);
             }
             *rules.entry(looked_at(&memory)).or_default() += 1;
         }
@@ -123,18 +129,28 @@ fn damaged_states() {
 #[test]
 fn any_bytes_behind_good_settings() {
     let mut random = Random::new(12);
-    for nodes in [1, 2, 16, 256, 2048] {
-        let state = busy(nodes, 10, 1).into_memory();
+    let tables = [
+        Table::Mapped,
+        Table::Last,
+        Table::Arrival,
+        Table::Head,
+        Table::Count,
+        Table::Next,
+    ];
+    let largest = (SHAPES[5], 2);
+    let sizes = [1, 2, 16, 256, 2048].map(|nodes| (SHAPES[0], nodes));
+    for (counts, nodes) in sizes.into_iter().chain([largest, (SHAPES[3], 16)]) {
+        let settings = settings_of(counts, nodes);
+        let state = busy_of(settings, 10, 1).into_memory();
         for _ in 0..40 {
             let mut memory = state.clone();
-            let kept = random
-                .pick(&[12, 16, 20, 388, 1188, 1988])
-                .min(memory.len());
+            let kept = shape(settings).start(random.pick(&tables));
             let width = random.pick(&[1, 4, 256]);
             for byte in &mut memory[kept..] {
                 *byte = random.below(width) as u8;
             }
-            memory.truncate(random.pick(&[usize::MAX, 13, 1000, 2000]).min(memory.len()));
+            let some = [usize::MAX, 17, 4100, 5000, 6000];
+            memory.truncate(random.pick(&some).min(memory.len()));
             looked_at(&memory);
         }
     }
@@ -144,7 +160,7 @@ fn any_bytes_behind_good_settings() {
 fn any_bytes_at_all() {
     let mut random = Random::new(13);
     for _ in 0..300 {
-        let len = random.below(3000) as usize;
+        let len = random.below(8000) as usize;
         let memory: Vec<u8> = (0..len).map(|_| random.below(256) as u8).collect();
         assert!(looked_at(&memory).is_some());
     }
@@ -154,16 +170,16 @@ fn any_bytes_at_all() {
 #[test]
 fn findings_that_are_not_there() {
     let sound = small();
-    for memory in [&sound[..], &[], &sound[..2091], &[0; 4000]] {
+    for memory in [&sound[..], &[], &sound[..6187], &[0; 8000]] {
         for rule in Rule::ALL {
-            for item in (0..300).chain([4096, 4097, 6145, 65_536, u64::MAX]) {
+            for item in (0..300).chain([4096, 4097, 4198, 6145, 65_536, u64::MAX]) {
                 let view = View::new(memory, 0, Some(Finding { rule, item }));
                 let seen = !vr::explain(&view).text.contains(UNSEEN);
-                // Too short, or no ports: that alone is so.
+                // Too short, or zero settings: that alone is so.
                 let so = match memory.len() {
-                    2092 => false,
-                    4000 => rule == Rule::A && item < 5,
-                    _ => rule == Rule::A && item == 6,
+                    6188 => false,
+                    8000 => rule == Rule::A && item < 5,
+                    _ => rule == Rule::A && item == 8,
                 };
                 assert_eq!(seen, so, "{rule:?} {item}");
             }
@@ -179,7 +195,7 @@ fn damaged_files() {
     let state = busy(16, 60, 5).into_memory();
     for _ in 0..40 {
         let mut memory = state.clone();
-        damage(&mut memory, 16, &mut random);
+        damage(&mut memory, settings_of(SHAPES[0], 16), &mut random);
         let status = ventorupo::find(&memory).is_some() as i32;
         let file = folder.file("image", &memory);
         for said in [

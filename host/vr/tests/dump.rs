@@ -10,7 +10,9 @@ use std::path::Path;
 use common::reading::{
     nodes_of_json, nodes_of_table, stored_of_json, stored_of_table, Json, Nodes, Stands, Stored,
 };
-use common::{at, busy, changed, on, small, switch, vr, Folder, Said};
+use common::{
+    at, busy, busy_of, changed, on, settings_of, small, switch, vr, wide, Folder, Said, SHAPES,
+};
 use ventorupo::Settings;
 use vr::view::View;
 
@@ -32,6 +34,18 @@ fn a_small_image_exactly() {
     let (table, json) = (on("dump", &file), json(&file));
     assert_eq!(table.out, expected("small.txt"));
     assert_eq!(json.out, expected("small.json"));
+    for said in [table, json] {
+        assert_eq!((said.status, said.err.as_str()), (Some(0), ""));
+    }
+}
+
+#[test]
+fn a_wide_image_exactly() {
+    let folder = Folder::new("dump-wide");
+    let file = folder.file("image", &wide());
+    let (table, json) = (on("dump", &file), json(&file));
+    assert_eq!(table.out, expected("wide.txt"));
+    assert_eq!(json.out, expected("wide.json"));
     for said in [table, json] {
         assert_eq!((said.status, said.err.as_str()), (Some(0), ""));
     }
@@ -60,8 +74,8 @@ fn broken() -> Vec<u8> {
 }
 
 /// The audit's blocks as places by entry id.
-fn audited(memory: &[u8], nodes: u32) -> Nodes {
-    let mut room = vec![0xA7; 8 * 4 * nodes as usize];
+fn audited(memory: &[u8], nodes: usize) -> Nodes {
+    let mut room = vec![0xA7; 8 * nodes];
     ventorupo::audit(memory, &mut room).unwrap();
     let two = |block: &[u8], at: usize| u64::from(block[at]) << 8 | u64::from(block[at + 1]);
     let stands = |block: &[u8]| Stands {
@@ -87,7 +101,8 @@ fn without_records(nodes: &Nodes) -> Nodes {
 }
 
 /// Table and JSON agree with the audit on places, and with each other on records.
-fn agrees_with_the_audit(folder: &Folder, memory: &[u8], nodes: u32) {
+fn agrees_with_the_audit(folder: &Folder, memory: &[u8], settings: Settings) {
+    let nodes = (settings.ports * settings.nodes) as usize;
     let file = folder.file("image", memory);
     let (table, json) = (on("dump", &file), json(&file));
     assert_eq!((table.status, json.status), (Some(0), Some(0)));
@@ -96,7 +111,7 @@ fn agrees_with_the_audit(folder: &Folder, memory: &[u8], nodes: u32) {
     assert_eq!(listed, nodes_of_json(&json));
     assert_eq!(stored_of_table(&table.out), stored_of_json(&json));
     assert_eq!(without_records(&listed), audited(memory, nodes));
-    assert_eq!(listed.len(), 4 * nodes as usize);
+    assert_eq!(listed.len(), nodes);
 }
 
 #[test]
@@ -105,16 +120,30 @@ fn places_are_the_audits() {
     for nodes in [1, 2, 16, 256, 2048] {
         for percent in [0, 50, 100] {
             let seed = u64::from(1000 * nodes + percent);
-            let switch = busy(nodes, percent, seed);
-            agrees_with_the_audit(&folder, switch.memory(), nodes);
+            let (settings, switch) = (settings_of(SHAPES[0], nodes), busy(nodes, percent, seed));
+            agrees_with_the_audit(&folder, switch.memory(), settings);
         }
         let settings = Settings {
             nodes,
             ..common::SMALL
         };
-        agrees_with_the_audit(&folder, switch(settings).memory(), nodes);
+        agrees_with_the_audit(&folder, switch(settings).memory(), settings);
     }
-    agrees_with_the_audit(&folder, &small(), 2);
+    agrees_with_the_audit(&folder, &small(), common::SMALL);
+}
+
+#[test]
+fn places_are_the_audits_in_every_shape() {
+    let folder = Folder::new("dump-shapes");
+    for (seed, shape) in (0..).zip(SHAPES) {
+        for (nodes, percent) in [(1, 100), (9, 50)] {
+            let settings = settings_of(shape, nodes);
+            let switch = busy_of(settings, percent, seed);
+            agrees_with_the_audit(&folder, switch.memory(), settings);
+        }
+    }
+    let most = settings_of(SHAPES[5], 2048);
+    agrees_with_the_audit(&folder, switch(most).memory(), most);
 }
 
 /// What stands in the columns and cells of the JSON is what the calls put there.
@@ -127,7 +156,9 @@ fn numbers_are_the_calls() {
         let elements = dump.of(name).elements();
         elements.iter().map(Json::number).collect()
     };
-    assert_eq!(numbers("map"), [0, 1, 2, 3]);
+    let mut map = vec![0; 4096];
+    map[..4].copy_from_slice(&[0, 1, 2, 3]);
+    assert_eq!(numbers("map"), map);
     assert_eq!(numbers("last_served"), [23; 4]);
     assert_eq!(numbers("in_no_list"), []);
     assert_eq!(*dump.of("sound"), Json::Truth(true));
@@ -148,17 +179,22 @@ fn numbers_are_the_calls() {
     }
 }
 
-/// The image cut at every byte: what is there is shown, and where it ends is said.
+/// The image cut at its bytes: what is there is shown, and where it ends is said.
 #[test]
 fn an_image_cut_anywhere() {
     let whole = small();
-    for there in 0..at::SIZE {
+    // Within the map one byte is as good as another; behind it a step of three
+    // meets every byte of an element sooner or later.
+    let cuts = (0..40)
+        .chain(at::LAST - 9..at::ARRIVAL + 9)
+        .chain((at::ARRIVAL..at::SIZE).step_by(3));
+    for there in cuts {
         let cut = &whole[..there];
         let view = View::new(cut, there as u64, ventorupo::find(cut));
         let (table, dump) = (vr::table::table(&view), Json::read(&vr::json::json(&view)));
         let ends = match there {
-            0..=11 => "the image ends within the settings".to_string(),
-            _ => format!("the image ends at byte {there} of 2092"),
+            0..=15 => "the image ends within the settings".to_string(),
+            _ => format!("the image ends at byte {there} of 6188"),
         };
         assert!(table.starts_with("(a) the image is too short: "));
         assert!(table.ends_with(&format!("\nreading stops: {ends}\n")));
@@ -169,7 +205,7 @@ fn an_image_cut_anywhere() {
         assert_eq!(none_of(&stored, 2), heads_without(there, at::TAIL, 2));
         assert_eq!(dump.of("stops").text(), ends);
         assert_eq!(dump.of("finding").of("rule").text(), "a");
-        assert_eq!(dump.of("finding").of("item").number(), 6);
+        assert_eq!(dump.of("finding").of("item").number(), 8);
     }
 }
 
@@ -177,7 +213,19 @@ fn an_image_cut_anywhere() {
 #[test]
 fn files_that_are_cut() {
     let folder = Folder::new("dump-cut");
-    for there in [0, 3, 11, 12, 16, 600, 1000, 1600, 2000, at::SIZE - 1] {
+    for there in [
+        0,
+        3,
+        15,
+        16,
+        20,
+        at::LAST,
+        at::HEAD + 212,
+        at::TAIL + 212,
+        at::COUNT + 412,
+        at::NEXT + 12,
+        at::SIZE - 1,
+    ] {
         let cut = &small()[..there];
         let view = View::new(cut, there as u64, ventorupo::find(cut));
         let file = folder.file("image", cut);
@@ -199,10 +247,10 @@ fn cut_off(table: &str) -> usize {
 }
 
 /// The lists whose element of a table stands behind a byte; of an image without
-/// the numbers of its ports and queues nothing is told.
+/// its edition, which tells the rows of ports and queues, nothing is told.
 fn lists_behind(there: usize, table: usize, width: usize) -> usize {
     match there {
-        0..=3 => 0,
+        0..=13 => 0,
         _ => 200 - (there.saturating_sub(table) / width).min(200),
     }
 }
@@ -239,6 +287,8 @@ fn settings_out_of_their_rows() {
         ),
         (3, None, 200),
         (4, None, 200),
+        (6, None, 200),
+        (7, None, 200),
     ] {
         let file = folder.file("image", &changed(&[(2 * setting, 2, 3333)]));
         let (table, json) = (on("dump", &file), json(&file));
@@ -258,6 +308,43 @@ fn settings_out_of_their_rows() {
             }
         }
     }
+}
+
+/// All that a map can hold: a line for each port, or several.
+#[test]
+fn maps_in_few_lines() {
+    let folder = Folder::new("dump-map");
+    let lines = |bytes: &[u8]| -> Vec<String> {
+        let said = on("dump", &folder.file("image", bytes)).out;
+        let lines = said.lines().skip_while(|line| !line.starts_with("port "));
+        let map = lines.take_while(|line| !line.is_empty());
+        map.map(String::from).collect()
+    };
+    let heading = "port  destination ids";
+    let map = |map: fn(usize) -> u8| {
+        let mut memory = small();
+        for (id, port) in memory[at::MAPPED..at::LAST].iter_mut().enumerate() {
+            *port = map(id);
+        }
+        memory
+    };
+    let all = map(|_| 3);
+    assert_eq!(lines(&all), [heading, "   3  0 to 4095"]);
+    let halves = map(|id| if id < 2048 { 1 } else { 255 });
+    assert_eq!(
+        lines(&halves),
+        [heading, "   1  0 to 2047", " 255  2048 to 4095"]
+    );
+    let by_turns = lines(&map(|id| (id % 4) as u8));
+    assert!(by_turns.iter().all(|line| line.len() < 120));
+    assert_eq!(by_turns[1][..16], *"   0  0, 4, 8, 1");
+    assert_eq!(
+        by_turns.last().unwrap().split(' ').next_back(),
+        Some("4095")
+    );
+    // Cut off behind id 1.
+    let cut = lines(&small()[..at::MAPPED + 2]);
+    assert_eq!(cut, [heading, "   0  0", "   1  1", "   -  2 to 4095"]);
 }
 
 /// Without the number of its nodes, what is stored of each list is shown, and

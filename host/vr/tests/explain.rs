@@ -2,7 +2,7 @@
 
 mod common;
 
-use common::{at, changed, on, small, vr, Change, Folder};
+use common::{at, changed, on, small, vr, wide, Change, Folder};
 
 /// The rule's line of what is said.
 fn asks(letter: char) -> &'static str {
@@ -61,8 +61,16 @@ fn a_sound_state() {
 fn rule_a_settings() {
     let folder = Folder::new("explain-a");
     for (setting, number, words) in [
-        (0, 5, "(a) setting ports: 5 is not in its row (4)"),
-        (1, 0, "(a) setting queues: 0 is not in its row (24)"),
+        (
+            0,
+            5,
+            "(a) setting ports: 5 is not in its row (4 in edition 0)",
+        ),
+        (
+            1,
+            0,
+            "(a) setting queues: 0 is not in its row (24 in edition 0)",
+        ),
         (2, 0, "(a) setting nodes: 0 is not in its row (1 to 2048)"),
         (
             2,
@@ -76,9 +84,21 @@ fn rule_a_settings() {
         ),
         (4, 0, "(a) setting slots: 0 is not in its row (1 to 8)"),
         (4, 9, "(a) setting slots: 9 is not in its row (1 to 8)"),
+        (6, 2, "(a) setting edition: 2 is not in its row (0 or 1)"),
+        (7, 1, "(a) setting packets: 1 is not in its row (0)"),
     ] {
         let bytes = changed(&[two(0, setting, number)]);
         says(&folder, &bytes, setting as u64, words);
+    }
+    // An edition that is none has the wide rows.
+    for (setting, number, words) in [
+        (0, 33, "(a) setting ports: 33 is not in its row (2 to 32)"),
+        (1, 1, "(a) setting queues: 1 is not in its row (2 to 64)"),
+    ] {
+        for edition in [1, 2] {
+            let bytes = changed(&[two(0, 6, edition), two(0, setting, number)]);
+            says(&folder, &bytes, setting as u64, words);
+        }
     }
     // The first of several.
     let bytes = changed(&[two(0, 3, 7), two(0, 4, 7777)]);
@@ -99,18 +119,23 @@ fn rule_a_too_short() {
             there => format!("{there} bytes"),
         };
         let words = format!("(a) the image is too short: it has {has}, {needs}");
-        says(&folder, bytes, 6, &words);
+        says(&folder, bytes, 8, &words);
     };
-    for there in [0, 1, 11] {
-        short(&small()[..there], "the settings alone take 12");
+    for there in [0, 1, 15] {
+        short(&small()[..there], "the settings alone take 16");
     }
-    for there in [12, 100, at::SIZE - 1] {
-        short(&small()[..there], "a state of 2 nodes a port takes 2092");
+    let state = |ports: u32, queues: u32, nodes: &str, bytes: usize| {
+        format!("a state of {ports} ports, {queues} queues and {nodes} a port takes {bytes}")
+    };
+    for there in [16, 100, at::SIZE - 1] {
+        short(&small()[..there], &state(4, 24, "2 nodes", 6188));
     }
     let one = changed(&[two(0, 2, 1)]);
-    short(&one[..2039], "a state of 1 node a port takes 2040");
+    short(&one[..6135], &state(4, 24, "1 node", 6136));
     let most = changed(&[two(0, 2, 2048)]);
-    short(&most, "a state of 2048 nodes a port takes 108484");
+    short(&most, &state(4, 24, "2048 nodes", 112_580));
+    let wide = changed(&[two(0, 0, 32), two(0, 1, 64), two(0, 2, 2048), two(0, 6, 1)]);
+    short(&wide, &state(32, 64, "2048 nodes", 897_456));
 }
 
 #[test]
@@ -139,13 +164,18 @@ fn rule_b() {
             "(b) destination id 3: mapped port 255 is none of 4",
         ),
         (
+            one(at::MAPPED, 4095, 4),
+            4 + 4095,
+            "(b) destination id 4095: mapped port 4 is none of 4",
+        ),
+        (
             count(list, 2),
-            8 + 24 + 5,
+            4100 + 24 + 5,
             "(b) port 1, queue 5: the prefetch list has 2 nodes, its slots are 1",
         ),
         (
             count(199, 4_294_967_295),
-            8 + 95,
+            4100 + 95,
             "(b) port 3, queue 23: the prefetch list has 4294967295 nodes, its slots are 1",
         ),
     ] {
@@ -282,6 +312,34 @@ fn rule_g() {
     }
 }
 
+/// A wide switch of five ports, three queues and one node a port: its counts and
+/// its header's size and widths stand in what is said.
+#[test]
+fn a_wide_image() {
+    let folder = Folder::new("explain-wide");
+    let file = folder.file("image", &wide());
+    assert_eq!(on("explain", &file).out, "a sound state\n");
+    // Starts: last 4112, arrival 4117, head 4157, tail 4237, count 4317, next 4477, length 4487, queue 4517, dest 4522, price 4537.
+    let ingress = "(f) node 0 of port 0 (entry id 0) at position 0 of the ingress list of port 0: ";
+    let prefetch = "(f) node 0 of port 4 (entry id 8192) at position 0 of the prefetch list of port 3, queue 2: ";
+    for (at, number, item, words) in [
+        (4116, 3, 4, "(b) port 4: last served queue 3 is none of 3".to_string()),
+        (16 + 4095, 5, 5 + 4095, "(b) destination id 4095: mapped port 5 is none of 5".into()),
+        (4317 + 4 * 39 + 3, 2, 5 + 4096 + 14, "(b) port 4, queue 2: the prefetch list has 2 nodes, its slots are 1".into()),
+        (4157 + 2, 40, 1, "(c) ingress list of port 0: entry id 10240 at position 0 is no node: port 5 is none of 5".into()),
+        (4487 + 1, 12, 0, format!("{ingress}length 12 is under 13")),
+        (4517, 3, 0, format!("{ingress}queue 3 is none of 3")),
+        (4522, 8, 0, format!("{ingress}destination id 8 is above 7")),
+        (4522 + 4, 200, 8192, format!("{prefetch}destination id 200 is above 7")),
+        (4537 + 4, 1, 8192, format!("{prefetch}price 1 is wrong, length 65 at beat 64 costs 2")),
+        (4117 + 2 * 9 + 1, 15, 9, "(g) port 4, queue 2: arrival credit 15 and prices outstanding 2 are 17 together, not 16".into()),
+    ] {
+        let mut bytes = wide();
+        bytes[at] = number;
+        says(&folder, &bytes, item, &words);
+    }
+}
+
 /// The rule that comes first in the paper is told, whatever comes first in the bytes.
 #[test]
 fn rules_in_their_order() {
@@ -307,6 +365,9 @@ fn help_is_no_trouble() {
         "dump --help",
         "dump image --json -h",
         "repair --help",
+        "header --help",
+        "header make --help",
+        "header show -h",
     ] {
         let words: Vec<&str> = line.split_whitespace().collect();
         let said = vr(&words);

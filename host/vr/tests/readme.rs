@@ -1,13 +1,14 @@
-//! The session in the README, run.
+//! The sessions in the README, run.
 
 mod common;
 
 use common::{at, changed, command, Folder, Said};
 
-/// Its commands, each with what it must say.
-fn session() -> Vec<(String, String)> {
+/// The commands of a session, each with what it must say.
+fn session(number: usize) -> Vec<(String, String)> {
     let readme = include_str!("../README.md");
-    let text = readme.split("```\n").nth(1).unwrap();
+    // Every second part stands between such lines.
+    let text = readme.split("```\n").nth(2 * number + 1).unwrap();
     let commands = text.split("$ vr ").skip(1);
     let parts = commands.map(|part| part.split_once('\n').unwrap());
     let owned = |(line, said): (&str, &str)| (line.to_string(), said.to_string());
@@ -29,12 +30,10 @@ fn fits(text: &str, wanted: &str) -> bool {
     lines.any(|line| fits(&behind[line..], rest))
 }
 
-#[test]
-fn the_session_is_as_written() {
-    let folder = Folder::new("readme");
-    folder.file("image", &changed(&[(at::LAST, 1, 200)]));
-    let session = session();
-    assert_eq!(session.len(), 4);
+/// A session of so many commands, in a folder.
+fn is_as_written(number: usize, commands: usize, folder: &Folder) {
+    let session = session(number);
+    assert_eq!(session.len(), commands);
     for (line, wanted) in session {
         let words = line.split_whitespace();
         let output = command().args(words).current_dir(folder.path("")).output();
@@ -42,4 +41,16 @@ fn the_session_is_as_written() {
         assert!(fits(&said.out, &wanted), "{}", said.out);
         assert_eq!(said.err, "");
     }
+}
+
+#[test]
+fn the_session_is_as_written() {
+    let folder = Folder::new("readme");
+    folder.file("image", &changed(&[(at::LAST, 1, 200)]));
+    is_as_written(0, 4, &folder);
+}
+
+#[test]
+fn the_session_of_headers_is_as_written() {
+    is_as_written(1, 6, &Folder::new("readme-headers"));
 }

@@ -9,8 +9,10 @@ use std::path::Path;
 use std::process::Command;
 
 use common::{
-    at, busy, changed, command, full, on, small, switch, vr, Change, Folder, Said, SMALL,
+    at, busy_of, changed, command, full, on, settings_of, small, switch, vr, wide, Change, Folder,
+    Said, SHAPES, SMALL,
 };
+use ventorupo::Settings;
 
 fn repair(image: &Path, new: &Path) -> Said {
     let words = [
@@ -40,8 +42,8 @@ fn what_is_kept_and_dropped() {
     let said = repair(&image, &new);
     let wanted = format!(
         "was: (b) port 0: last served queue 200 is none of 24\n\
-         kept: ports 4, queues 24, nodes 2, beat 64, slots 1, credit 16\n\
-         kept: map 0 to port 0, 1 to port 1, 2 to port 0, 3 to port 3\n\
+         kept: ports 4, queues 24, nodes 2, beat 64, slots 1, credit 16, edition 0, packets 0\n\
+         kept: map, 4094 ids to port 0, 1 id to port 1, 1 id to port 3\n\
          dropped: map entry 2, whose port 9 is none of 4\n\
          kept: 10 bytes past the state\n\
          dropped: packets 4 (ingress 2, egress 1, prefetch 1)\n\
@@ -126,7 +128,7 @@ fn rule_a_is_refused() {
     let new = folder.path("new");
     for bytes in [
         changed(&[(0, 2, 5)]),
-        small()[..2091].to_vec(),
+        small()[..at::SIZE - 1].to_vec(),
         vec![],
         vec![0; 300_000],
     ] {
@@ -206,7 +208,7 @@ fn a_copy_that_does_not_fit() {
     let folder = Folder::new("repair-limit");
     let (image, new) = (folder.file("image", &small()), folder.path("new"));
     let output = Command::new("sh")
-        .args(["-c", "trap '' XFSZ; ulimit -f 2; exec \"$@\"", "sh"])
+        .args(["-c", "trap '' XFSZ; ulimit -f 4; exec \"$@\"", "sh"])
         .args([env!("CARGO_BIN_EXE_vr"), "repair", "-o"])
         .args([&new, &image])
         .output();
@@ -238,20 +240,63 @@ fn a_copy_of_which_nothing_can_be_said() {
     assert_eq!(fs::read(&new).unwrap(), fresh([0, 1, 2, 3]));
 }
 
-/// The largest state with bytes behind it: all of them are in the copy.
+/// Many entries are told of in one line.
+#[test]
+fn map_entries_that_cannot_be_kept() {
+    let folder = Folder::new("repair-map");
+    let mut bytes = small();
+    bytes[at::MAPPED + 1000..at::LAST].fill(32);
+    let (image, new) = (folder.file("image", &bytes), folder.path("new"));
+    let said = repair(&image, &new);
+    let wanted =
+        "\nkept: map, 4093 ids to port 0, 1 id to port 1, 1 id to port 2, 1 id to port 3\n\
+                  dropped: 3096 map entries, the first 1000, whose port 32 is none of 4\n";
+    assert!(said.out.contains(wanted), "{}", said.out);
+    assert_eq!(fs::read(&new).unwrap(), fresh([0, 1, 2, 3]));
+}
+
+#[test]
+fn a_wide_image() {
+    let folder = Folder::new("repair-wide");
+    let mut bytes = wide();
+    bytes[4116] = 3;
+    let (image, new) = (folder.file("image", &bytes), folder.path("new"));
+    let said = repair(&image, &new);
+    let wanted = "was: (b) port 4: last served queue 3 is none of 3\n\
+                  kept: ports 5, queues 3, nodes 1, beat 64, slots 1, credit 16, edition 1, packets 0\n\
+                  kept: map, 4093 ids to port 0, 1 id to port 1, 1 id to port 3, 1 id to port 4\n\
+                  dropped: packets 2 (ingress 1, egress 0, prefetch 1)\n\
+                  dropped: outward credit 9 (of 1 queue)\n";
+    assert!(said.out.starts_with(wanted), "{}", said.out);
+    let mut switch = switch(Settings::wide(5, 3, 1, 64, 1, 16));
+    for (id, port) in [(2, 3), (7, 4), (4095, 1)] {
+        switch.map(id, port).unwrap();
+    }
+    assert_eq!(fs::read(&new).unwrap(), switch.into_memory());
+}
+
+/// States of every size with bytes behind them: all of them are in the copy.
 #[test]
 fn bytes_past_the_state_go_along() {
     let folder = Folder::new("repair-past");
-    for nodes in [16, 2048] {
-        let state = busy(nodes, 50, 9).into_memory();
-        let past: Vec<u8> = (0..300_000u32).map(|i| (i % 251) as u8).collect();
-        let image = folder.file("image", &[&state[..], &past[..]].concat());
-        let new = folder.path(format!("new{nodes}"));
-        assert_eq!(repair(&image, &new).status, Some(0));
-        let written = fs::read(&new).unwrap();
-        assert_eq!(written.len(), state.len() + past.len());
-        assert_eq!(written[state.len()..], past);
-        assert_eq!(written[12..16], state[12..16]);
-        assert_eq!(on("explain", &new).out, "a sound state\n");
+    for (i, shape) in SHAPES.into_iter().enumerate() {
+        let nodes = if i % 2 == 0 { 16 } else { 256 };
+        let state = busy_of(settings_of(shape, nodes), 10, 9).into_memory();
+        past_the_state(&folder, &format!("new{i}"), &state);
     }
+    // The largest.
+    let state = switch(settings_of((1, 32, 64), 2048)).into_memory();
+    past_the_state(&folder, "largest", &state);
+}
+
+fn past_the_state(folder: &Folder, name: &str, state: &[u8]) {
+    let past: Vec<u8> = (0..300_000u32).map(|i| (i % 251) as u8).collect();
+    let image = folder.file("image", &[state, &past[..]].concat());
+    let new = folder.path(name);
+    assert_eq!(repair(&image, &new).status, Some(0));
+    let written = fs::read(&new).unwrap();
+    assert_eq!(written.len(), state.len() + past.len());
+    assert_eq!(written[state.len()..], past);
+    assert_eq!(written[..at::LAST], state[..at::LAST]);
+    assert_eq!(on("explain", &new).out, "a sound state\n");
 }

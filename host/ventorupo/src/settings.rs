@@ -1,0 +1,126 @@
+//! The settings that a switch is set up with.
+
+use crate::{calls, Form};
+
+/// The edition of ten-byte headers: four ports, 24 queues.
+pub const TEN_BYTES: u32 = 0;
+
+/// The edition of wide headers: 2 to 32 ports, 2 to 64 queues.
+pub const WIDE: u32 = 1;
+
+/// The most ports that a switch has.
+pub const MOST_PORTS: usize = 32;
+
+/// The most nodes that a port has.
+pub(crate) const MOST_NODES: usize = 2048;
+
+/// The bytes of the settings, with which a state begins.
+pub(crate) const SETTINGS_BYTES: usize = 16;
+
+/// The settings, fixed at setup. Any numbers may stand here; setup refuses
+/// those that are not in their rows.
+///
+/// ```
+/// use ventorupo::{Settings, TEN_BYTES, WIDE};
+///
+/// let old = Settings::ten_bytes(256, 64, 8, 5000);
+/// assert_eq!((old.edition, old.ports, old.queues), (TEN_BYTES, 4, 24));
+/// let new = Settings::wide(8, 16, 256, 64, 8, 5000);
+/// assert_eq!((new.edition, new.ports, new.queues), (WIDE, 8, 16));
+/// assert_eq!(Settings { ports: 32, ..new }.ports, 32);
+/// ```
+#[derive(Debug, Clone, Copy, PartialEq, Eq, Hash)]
+pub struct Settings {
+    /// N, nodes per port: 1 to 2,048.
+    pub nodes: u32,
+    /// Beat in bytes: 64, 128, 256 or 512.
+    pub beat: u32,
+    /// D, prefetch slots per queue: 1 to 8.
+    pub slots: u32,
+    /// K, arrival credit per port and queue, in beats: 0 to 65,535.
+    pub credit: u32,
+    /// 4 in the edition of ten bytes, else 2 to 32.
+    pub ports: u32,
+    /// Queues per port: 24 in the edition of ten bytes, else 2 to 64.
+    pub queues: u32,
+    /// The header's edition: [`TEN_BYTES`] or [`WIDE`].
+    pub edition: u32,
+}
+
+impl Settings {
+    /// A switch of four ports and 24 queues, whose headers have ten bytes.
+    pub const fn ten_bytes(nodes: u32, beat: u32, slots: u32, credit: u32) -> Settings {
+        Settings {
+            nodes,
+            beat,
+            slots,
+            credit,
+            ports: 4,
+            queues: 24,
+            edition: TEN_BYTES,
+        }
+    }
+
+    /// A switch of so many ports and queues, whose headers are wide.
+    pub const fn wide(
+        ports: u32,
+        queues: u32,
+        nodes: u32,
+        beat: u32,
+        slots: u32,
+        credit: u32,
+    ) -> Settings {
+        Settings {
+            nodes,
+            beat,
+            slots,
+            credit,
+            ports,
+            queues,
+            edition: WIDE,
+        }
+    }
+
+    /// The form of the switch's headers.
+    pub const fn form(&self) -> Form {
+        Form {
+            edition: self.edition,
+            ports: self.ports,
+            queues: self.queues,
+        }
+    }
+
+    /// As the C interface has them. The last number, packets, is 0: no switch
+    /// keeps packets yet.
+    pub const fn numbers(&self) -> [u32; 8] {
+        [
+            self.nodes,
+            self.beat,
+            self.slots,
+            self.credit,
+            self.ports,
+            self.queues,
+            self.edition,
+            0,
+        ]
+    }
+}
+
+/// The bytes that a state of these settings takes; none if one of them is not
+/// in its row.
+///
+/// ```
+/// use ventorupo::{size, Settings};
+///
+/// assert_eq!(size(&Settings::ten_bytes(256, 64, 1, 16)), Some(19_396));
+/// assert_eq!(size(&Settings::ten_bytes(2049, 64, 1, 16)), None);
+/// assert_eq!(size(&Settings::wide(8, 16, 4, 64, 1, 16)), Some(7192));
+/// // The largest.
+/// assert_eq!(size(&Settings::wide(32, 64, 2048, 64, 1, 16)), Some(897_456));
+/// ```
+pub fn size(settings: &Settings) -> Option<usize> {
+    match calls::size(&settings.numbers()) {
+        0 => None,
+        bytes => usize::try_from(bytes).ok(),
+    }
+}
