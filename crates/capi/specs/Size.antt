@@ -1,8 +1,23 @@
--- What the C interface says of a state's size. Assumes nothing.
+-- What the C interface is told of settings, and what it says of a state's size. Assumes nothing.
 use mathlib.Core.Bool.{cond}
+use mathlib.Core.List.{List}
 use Prim.Native.Nat.{ℕ}
-use Rattle.ledger.specs.Settings.{settings, inRows, size}
+use lib.ListN.{getD}
+use Rattle.ledger.specs.Settings.{Settings, inRows, size}
 
--- the bytes of a state, which no setting but the nodes changes: asked with the least of the others. 0 if the nodes are not in their row
-unfoldable pub sizeFor : ℕ → ℕ
-sizeFor n = cond (inRows (settings n 64 1 0)) (size (settings n 64 1 0)) 0
+-- struct vr_settings: nodes, beat, slots, credit, ports, queues, edition, packets
+abbrev pub settingsAt : List ℕ → Settings
+settingsAt xs = record {
+  ports = getD xs 4 0;
+  queues = getD xs 5 0;
+  nodes = getD xs 0 0;
+  beat = getD xs 1 0;
+  slots = getD xs 2 0;
+  credit = getD xs 3 0;
+  edition = getD xs 6 0;
+  packets = getD xs 7 0;
+}
+
+-- the bytes of a state; 0 if a setting is not in its row
+unfoldable pub sizeFor : Settings → ℕ
+sizeFor S = cond (inRows S) (size S) 0

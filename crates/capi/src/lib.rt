@@ -1,13 +1,12 @@
 // The C interface (include/ventorupo.h): each call answers 0 or the number of a refusal, and writes its answer into lent room. What it
 // answers and leaves, for any memory and any numbers, is read off the reply of M by the definitions of the crate rooms.
 use ledger::EntryId;
+use settings::Settings;
 ghost use mathlib.Core.Path.{_≡_};
-ghost use mathlib.Core.Bool.{cond};
 ghost use mathlib.Core.List.{List};
 ghost use Prim.Native.Nat.{ℕ};
-ghost use lib.Dec.{ltb};
 ghost use Rattle.ledger.specs.Calls.{arrive, stitch, prefetch, credit, mapTo, turn, ready, whereIs};
-ghost use Rattle.ledger.specs.Settings.{settings};
+ghost use Rattle.settings.specs.Told.{toldSettings};
 ghost use Rattle.ledger.specs.Desk.{setup, act};
 ghost use Rattle.memory.specs.Memory.{M};
 ghost use Rattle.memory.specs.Rounds.{roundOn};
@@ -16,25 +15,41 @@ ghost use Rattle.memory.specs.Repair.{repaired};
 ghost use Rattle.sound.specs.Sound.{brokenIn};
 ghost use Rattle.rooms.specs.Rooms.{told, toldIn, toldRound, shown, entryRoom, recordRoom, sentRoom, readyRoom, foundNumbers};
 ghost use Rattle.ledger.specs.Audit.{placeRoom};
-ghost use Rattle.capi.specs.Size.{sizeFor};
+ghost use Rattle.capi.specs.Size.{settingsAt, sizeFor};
 
-#[no_mangle]
-pub extern "C" fn vr_size(nodes: u32) -> u64
-    ensures { λ r. ⌜ r ≡ sizeFor nodes ⌝ }
+// The settings of struct vr_settings.
+fn asked(eight: &[u32; 8]) -> Settings
+    ensures { λ r. ⌜ toldSettings r ≡ settingsAt (now (eight .entry)) ⌝ }
 {
-    let least = settings::this_build(nodes, 64, 1, 0);
-    if !settings::in_rows(least) {
-        return 0;
+    Settings {
+        ports: eight[4],
+        queues: eight[5],
+        nodes: eight[0],
+        beat: eight[1],
+        slots: eight[2],
+        credit: eight[3],
+        edition: eight[6],
+        packets: eight[7],
     }
-    layout::size_of(layout::shape_of(least)) as u64
 }
 
 #[no_mangle]
-pub extern "C" fn vr_setup(mem: &mut [u8], nodes: u32, beat: u32, slots: u32, credit: u32) -> u32
-    ensures { λ r. ⌜ _≡_ {A = ℕ × List ℕ} (r, now (mem .exit)) (told (M (setup (settings nodes beat slots credit)) (now (mem .entry)))) ⌝ }
+pub extern "C" fn vr_size(eight: &[u32; 8]) -> u64
+    ensures { λ r. ⌜ r ≡ sizeFor (settingsAt (now (eight .entry))) ⌝ }
 {
-    let asked = settings::this_build(nodes, beat, slots, credit);
-    rooms::plain(switch::set_up(mem, asked))
+    let s = asked(eight);
+    if !settings::in_rows(s) {
+        return 0;
+    }
+    layout::size_of(layout::shape_of(s)) as u64
+}
+
+#[no_mangle]
+pub extern "C" fn vr_setup(mem: &mut [u8], eight: &[u32; 8]) -> u32
+    ensures { λ r. ⌜ _≡_ {A = ℕ × List ℕ} (r, now (mem .exit)) (told (M (setup (settingsAt (now (eight .entry)))) (now (mem .entry)))) ⌝ }
+{
+    let s = asked(eight);
+    rooms::plain(switch::set_up(mem, s))
 }
 
 #[no_mangle]
@@ -94,22 +109,15 @@ pub extern "C" fn vr_ready(mem: &[u8], port: u32, word: &mut u64, count: &mut u3
     rooms::put_ready(switch::ready(mem, port), word, count)
 }
 
-// An entry above 65535 is asked as 65535, which is no node either.
-fn asked(entry: u32) -> EntryId
-    ensures { λ r. ⌜ r .0 ≡ cond (ltb 65535 entry) 65535 entry ⌝ }
-{
-    if 65535 < entry {
-        return EntryId(65535);
-    }
-    EntryId(entry as u16)
-}
-
 #[no_mangle]
 pub extern "C" fn vr_where(mem: &[u8], entry: u32, place: &mut [u8; 8]) -> u32
     ensures { λ r. ⌜ _≡_ {A = ℕ × List ℕ} (r, now (place .exit))
         (shown (placeRoom entry) (now (place .entry)) (M (act (whereIs entry)) (now (mem .entry)) .0)) ⌝ }
 {
-    let x = asked(entry);
+    if 65535 < entry {
+        return rooms::put_place(switch::where_past(mem), EntryId(0), place);
+    }
+    let x = EntryId(entry as u16);
     rooms::put_place(switch::where_is(mem, x), x, place)
 }
 

@@ -1,15 +1,23 @@
 -- The test for a state decides between an act and refusal 3. Assumes nothing.
-use mathlib.Core.Path.{_≡_, sym}
+use mathlib.Core.Path.{_≡_, sym, _∙_}
+use mathlib.Core.Bool.{true, false}
 use mathlib.Core.List.{List}
-use Prim.Native.Nat.{ℕ}
-use Rattle.ledger.specs.Calls.{Act, refused}
+use Prim.Native.Nat.{ℕ, _<_}
+use native.Mathlib.Omega.{arith}
+use Rattle.ledger.specs.Settings.{Settings, inRows}
+use Rattle.ledger.specs.Ledger.{owner, isNode}
+use Rattle.ledger.specs.Calls.{Act, refused, whereIs}
 use Rattle.ledger.specs.Desk.{act}
+use Rattle.ledger.proofs.Tests.{ltb-not}
+use Rattle.ledger.proofs.Rows.{roomy}
 use Rattle.layout.specs.declared.Shape.{Shape}
 use Rattle.layout.specs.Tables.{settingsOf}
 use Rattle.layout.specs.Picture.{State}
 use Rattle.memory.specs.Memory.{acted, M}
 use Rattle.memory.specs.Rounds.{rounded, roundOn}
 use Rattle.memory.specs.Audit.{audited, auditOn}
+use Rattle.memory.specs.Judged.{judged}
+use Rattle.memory.proofs.Judged.{acted-bad}
 use Rattle.memory.proofs.Demands.{on-works}
 use Rattle.memory.proofs.Demands as demands
 use Rattle.memory.proofs.Rounds.{round-on, round-off}
@@ -25,6 +33,17 @@ on-state s m e = on-works s m (tested-state m s e)
 -- where it says none, the call is refused 3 and changes nothing
 pub off-state : (m : List ℕ) → testedIn m ≡ tests.NoState → (a : Act) → (refused 3, m) ≡ M (act a) m
 off-state m e a = sym (demands.off-state m (tested-none m e) a)
+
+-- a number above every entry id is no node's, so where is refused: 15, but 3 first
+no-node : (S : Settings) → inRows S ≡ true → (y : ℕ) → 65535 < y → isNode S y ≡ false
+unfolding isNode
+no-node S h y k = rw (ltb-not (owner y) (S .ports) (omega (arith, roomy S h .few-ports)))
+
+pub past-state : (s : Shape) (m : List ℕ) → testedIn m ≡ tests.State s → (y : ℕ) → 65535 < y → (refused 15, m) ≡ M (act (whereIs y)) m
+past-state s m e y k =
+    let w = tested-state m s e in
+    sym (acted-bad (settingsOf s) m (whereIs y) 15 (unfold judged in rw (no-node (settingsOf s) (w .state .sound .rows) y k)))
+    ∙ on-state s m e (whereIs y)
 
 -- so is the round, and so is the audit
 module _ (m room : List ℕ) where

@@ -1,29 +1,22 @@
+-- `switch::where_past` meets its contract: no number above every entry id is a node's. Assumes nothing.
+use mathlib.Core.Path.{sym, ap, _∙_}
+use mathlib.Core.List.{List}
+use Prim.Native.Nat.{ℕ}
 use borrow.Author.Needs.{needs}
+use Rattle.ledger.specs.Calls.{Reply, whereIs}
+use Rattle.switch.proofs.Laws.{past-state, off-state}
 use Rattle.switch.proofs.where_past.Statement.{statement}
 use Rattle.switch.proofs.where_past.Tie as tie
-use Rattle.switch.proofs.where_past.Reads as reads
-use Rattle.switch.proofs.where_past.Lts as lts
-use Rattle.sound.proofs.test.Reads as test-reads
 
--- src/lib.rt:130:11
-test-requires : tie.Need-test-requires
-test-requires c κs = search needs
-
--- src/lib.rt:131:45
-enum-told : tie.Need-enum-told
-enum-told c = search needs
-
--- src/lib.rt:132:44
-enum-told-2 : tie.Need-enum-told-2
-enum-told-2 c = search needs
-
--- src/lib.rt:127:1
 returns : tie.Need-returns
-returns c = ?
+returns c y h =
+    let a = c .before .before .before .before .args in
+    ap (λ (out : Reply × List ℕ). out .0) (past-state _ (a .m .now) (sym (c .before .before .test .ensures) ∙ c .enum-told .given .1) y h)
 
--- src/lib.rt:127:1
 returns-2 : tie.Need-returns-2
-returns-2 c = ?
+returns-2 c y h =
+    let a = c .before .before .before .before .args in
+    ap (λ (out : Reply × List ℕ). out .0) (off-state (a .m .now) (sym (c .before .before .test .ensures) ∙ c .enum-told2 .given .1) (whereIs y))
 
 pub where-past-spec : {M : Type 1} → statement M
-where-past-spec = tie.close (tie.spec test-requires enum-told enum-told-2 returns returns-2)
+where-past-spec = tie.close (tie.spec (λ c κs. search needs) (λ c. search needs) (λ c. search needs) returns returns-2)
