@@ -1,10 +1,10 @@
--- Every card holds: one claim over the table, by computing the finding, in two parts since one goes past what the prover computes at once.
--- Assumes nothing.
+-- Every card holds: one claim over the table, by computing the finding without the map's entries, in two parts since one goes past what the
+-- prover computes at once. Assumes nothing.
 use mathlib.Core.Path.{refl}
-use lib.Count.{ones}
+use lib.Count.{ones, leadingZeros}
 use Rattle.numbers.specs.Bytes.{number, store}
-use Rattle.ledger.specs.Settings.{isBeat, inRows, firstOut, row, size}
-use Rattle.ledger.specs.Header.{price}
+use Rattle.ledger.specs.Settings.{isBeat, portsIn, queuesIn, inRows, firstOut, row, size}
+use Rattle.ledger.specs.Header.{widthOf, formOf, frontBits, frontBytes, bodySize, headerSize, leastLength, price}
 use Rattle.ledger.specs.Ledger.{isNode, place#, cell, creditAt, setCredit}
 use Rattle.ledger.specs.Sound.{All}
 use Rattle.ledger.proofs.Lists.{All-append}
@@ -13,25 +13,25 @@ use Rattle.layout.specs.Picture.{settingsIn, slot, chain, nodesOf, packetAt}
 use Rattle.memory.specs.Image.{fill, allLinked, written, image}
 use Rattle.ranges.specs.First.{firstFrom}
 use Rattle.ranges.specs.Opening.{outAt}
-use Rattle.ranges.specs.Ranges.{prefetchAt, fitsAt, rangesFound}
+use Rattle.ranges.specs.Ranges.{prefetchAt, fitsAt}
 use Rattle.once.specs.Once.{isNew, mark, allNew, markAll, ends, right, unmarked, scan, onceFound}
 use Rattle.fits.specs.Fits.{rangeTest, fieldsTest, properTest, ruleTest, firstBad, fitsFrom, fitsFound}
 use Rattle.paid.specs.Paid.{addPrice, addNode, addAll, addList, addFrom, sumsOf, settledAt, dueFound}
-use Rattle.sound.specs.Sound.{nodesBroken, openBroken, brokenIn}
+use Rattle.sound.specs.Sound.{nodesBroken}
 use Rattle.finding_cards.specs.Cards.{Holds, tables, packets, cards}
+use Rattle.finding_cards.proofs.Skips.{Quick, quick-hold}
 
-tables-hold : All Holds tables
-unfolding ones number store isBeat inRows firstOut row size isNode place# creditAt setCredit startOf get put settingsIn slot chain nodesOf
-    packetAt fill allLinked written image firstFrom outAt prefetchAt fitsAt rangesFound isNew mark allNew markAll ends right unmarked scan
-    onceFound openBroken brokenIn
-tables-hold = (refl, (refl, (refl, (refl, (refl, (refl, tt))))))
+tables-quick : All Quick tables
+unfolding ones number store isBeat portsIn queuesIn inRows firstOut row size isNode place# startOf get put settingsIn slot chain nodesOf
+    fill allLinked written image firstFrom outAt prefetchAt fitsAt isNew mark allNew markAll ends right unmarked scan onceFound
+tables-quick = ((refl, refl, refl), ((refl, refl, refl), ((refl, refl, refl), ((refl, refl, refl), ((refl, refl, refl), ((refl, refl, refl), tt))))))
 
-packets-hold : All Holds packets
-unfolding ones number store isBeat inRows row size price isNode place# cell creditAt setCredit startOf get put settingsIn slot chain nodesOf
-    packetAt fill allLinked written image firstFrom prefetchAt fitsAt rangesFound isNew mark allNew markAll ends right unmarked scan onceFound
-    rangeTest fieldsTest properTest ruleTest firstBad fitsFrom fitsFound addPrice addNode addAll addList addFrom sumsOf settledAt dueFound
-    nodesBroken openBroken brokenIn
-packets-hold = (refl, (refl, (refl, (refl, (refl, tt)))))
+packets-quick : All Quick packets
+unfolding ones leadingZeros number store isBeat portsIn queuesIn inRows row size widthOf formOf frontBits frontBytes bodySize headerSize leastLength price
+    isNode place# cell creditAt setCredit startOf get put settingsIn slot chain nodesOf packetAt fill allLinked written image firstFrom
+    prefetchAt fitsAt isNew mark allNew markAll ends right unmarked scan onceFound rangeTest fieldsTest properTest ruleTest firstBad fitsFrom
+    fitsFound addPrice addNode addAll addList addFrom sumsOf settledAt dueFound nodesBroken
+packets-quick = ((refl, refl, refl), ((refl, refl, refl), ((refl, refl, refl), ((refl, refl, refl), ((refl, refl, refl), tt)))))
 
 pub finding-cards-hold : All Holds cards
-finding-cards-hold = All-append Holds tables packets tables-hold packets-hold
+finding-cards-hold = All-append Holds tables packets (quick-hold tables tables-quick) (quick-hold packets packets-quick)

@@ -1,1 +1,2 @@
+pub mod Skips
 pub mod Cards

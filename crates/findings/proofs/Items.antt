@@ -39,17 +39,19 @@ use Rattle.findings.specs.Findings.{SettingRight, RangeRight, ListRight,
 
 -- ---- (a)
 
--- setting i is the number in bytes 2 * i and 2 * i + 1: whether it is in its row, these tell
+-- setting i is the number in bytes 2 * i and 2 * i + 1: whether it is in its row, these tell, and for ports and queues the edition
 pub setting-by-its-bytes : (m m′ : List ℕ) (i : ℕ) → i < settingCount → number 2 m (2 * i) ≡ number 2 m′ (2 * i)
-    → inRow (settingsIn m) i ≡ inRow (settingsIn m′) i
+    → (i < 2 → number 2 m 12 ≡ number 2 m′ 12) → inRow (settingsIn m) i ≡ inRow (settingsIn m′) i
 unfolding settingsIn
-setting-by-its-bytes m m′ zero h e = rw e
-setting-by-its-bytes m m′ (suc zero) h e = rw e
-setting-by-its-bytes m m′ (suc (suc zero)) h e = rw e
-setting-by-its-bytes m m′ (suc (suc (suc zero))) h e = rw e
-setting-by-its-bytes m m′ (suc (suc (suc (suc zero)))) h e = rw e
-setting-by-its-bytes m m′ (suc (suc (suc (suc (suc zero))))) h e = rw e
-setting-by-its-bytes m m′ (suc (suc (suc (suc (suc (suc i)))))) h e = absurd (omega arith)
+setting-by-its-bytes m m′ zero h e by = rw (e, by (omega arith))
+setting-by-its-bytes m m′ (suc zero) h e by = rw (e, by (omega arith))
+setting-by-its-bytes m m′ (suc (suc zero)) h e by = rw e
+setting-by-its-bytes m m′ (suc (suc (suc zero))) h e by = rw e
+setting-by-its-bytes m m′ (suc (suc (suc (suc zero)))) h e by = rw e
+setting-by-its-bytes m m′ (suc (suc (suc (suc (suc zero))))) h e by = rw e
+setting-by-its-bytes m m′ (suc (suc (suc (suc (suc (suc zero)))))) h e by = rw e
+setting-by-its-bytes m m′ (suc (suc (suc (suc (suc (suc (suc zero))))))) h e by = rw e
+setting-by-its-bytes m m′ (suc (suc (suc (suc (suc (suc (suc (suc i)))))))) h e by = absurd (omega arith)
 
 size-most : (S : Settings) → 2 * settingCount ≤ size S
 unfolding size
