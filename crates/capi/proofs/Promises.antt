@@ -4,14 +4,14 @@ use mathlib.Core.Bool.{true}
 use mathlib.Core.List.{List}
 use Prim.Native.Nat.{ℕ, _≤_}
 use native.Mathlib.Omega.{arith}
-use Rattle.ledger.specs.Settings.{settings, row, size}
+use Rattle.ledger.specs.Settings.{Settings, row, size}
 use Rattle.ledger.specs.Calls.{Reply, refused, done, entry, stitched, idle, leaves, word, found, isRefused}
 use Rattle.ledger.specs.Desk.{Call}
 use Rattle.ledger.specs.Answers.{numberOf}
 use Rattle.ledger.specs.declared.Refusal.{Refusal}
 use Rattle.ledger.specs.declared.Refusal.the-variants.{ShortMemory, BadSetting, NoState, NoPort, NoQueue, HeaderSize, Checksum, Source, TooShort}
 use Rattle.ledger.specs.declared.Refusal.the-variants.{NoCredit, NoFreeNode, NothingThere, SlotsInUse, TooMuchCredit, NoSuchId, HeaderQueue}
-use Rattle.ledger.specs.declared.Refusal.the-variants.{ReservedBit, ShortRoom}
+use Rattle.ledger.specs.declared.Refusal.the-variants.{ReservedBit, NoFit, ShortRoom}
 use Rattle.memory.specs.Memory.{M}
 use Rattle.memory.specs.Rounds.{roundOn}
 use Rattle.memory.specs.Audit.{auditOn}
@@ -42,6 +42,7 @@ never-zero TooMuchCredit = omega arith
 never-zero NoSuchId = omega arith
 never-zero HeaderQueue = omega arith
 never-zero ReservedBit = omega arith
+never-zero NoFit = omega arith
 never-zero ShortRoom = omega arith
 
 -- a refusal leaves every room as it was lent
@@ -84,7 +85,7 @@ pub nothing-differs-repair : (m : List ℕ) → (numberIn (repaired m .0) ≡ 0 
 nothing-differs-repair m h =
     rw (refused-repair-keeps m (refusal-only (λ x old. old) (λ n old. refl) (repaired m .0) m h .0))
 
--- the other settings do not count: memory of this size is never too short for setup
-pub size-any : (n b d k : ℕ) → size (settings n b d k) ≡ size (settings n 64 1 0)
+-- the other settings do not count: memory of this size is never too short for a setup of the same ports, queues and nodes
+pub size-any : (S T : Settings) → S .ports ≡ T .ports → S .queues ≡ T .queues → S .nodes ≡ T .nodes → size S ≡ size T
 unfolding size row
-size-any n b d k = refl
+size-any S T p q n = rw (p, q, n)

@@ -35,7 +35,7 @@ pub off-state : (m : List ℕ) → testedIn m ≡ tests.NoState → (a : Act) �
 off-state m e a = sym (demands.off-state m (tested-none m e) a)
 
 -- a number above every entry id is no node's, so where is refused: 15, but 3 first
-no-node : (S : Settings) → inRows S ≡ true → (y : ℕ) → 65535 < y → isNode S y ≡ false
+pub no-node : (S : Settings) → inRows S ≡ true → (y : ℕ) → 65535 < y → isNode S y ≡ false
 unfolding isNode
 no-node S h y k = rw (ltb-not (owner y) (S .ports) (omega (arith, roomy S h .few-ports)))
 

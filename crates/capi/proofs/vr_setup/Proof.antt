@@ -12,7 +12,7 @@ returns : tie.Need-returns
 returns c =
     let done = c .before .before .before in
     let start = done .before .before .before .before in
-    let as-asked = ap (λ (S : Settings). M (setup S) (start .args .mem .now)) (done .before .before .this-build .ensures) in
+    let as-asked = ap (λ (S : Settings). M (setup S) (start .args .mem .now)) (done .before .before .asked .ensures) in
     tells _ _ _ _ (done .set-up .ensures ∙ as-asked) (c .plain .ensures)
 
 pub vr-setup-spec : {M : Type 1} → statement M
