@@ -13,6 +13,9 @@ ghost use Rattle.memory.specs.Rounds.{roundOn};
 ghost use Rattle.memory.specs.Audit.{auditOn};
 ghost use Rattle.memory.specs.Repair.{repaired};
 ghost use Rattle.sound.specs.Sound.{brokenIn};
+ghost use Rattle.header.specs.Reader.{reads};
+ghost use Rattle.header.specs.Writer.{writes};
+ghost use Rattle.labels.specs.Labels.{labelAt, labelRoom, headerRoom};
 ghost use Rattle.rooms.specs.Rooms.{told, toldIn, toldRound, shown, entryRoom, recordRoom, sentRoom, readyRoom, foundNumbers};
 ghost use Rattle.ledger.specs.Audit.{placeRoom};
 ghost use Rattle.capi.specs.Size.{settingsAt, sizeFor};
@@ -147,4 +150,35 @@ pub extern "C" fn vr_repair(mem: &mut [u8]) -> u32
     ensures { λ r. ⌜ _≡_ {A = ℕ × List ℕ} (r, now (mem .exit)) (told (repaired (now (mem .entry)))) ⌝ }
 {
     rooms::plain(switch::repair(mem))
+}
+
+#[no_mangle]
+pub extern "C" fn vr_read_header(
+    edition: u32,
+    ports: u32,
+    queues: u32,
+    header: &[u8],
+    fields: &mut [u32; 8],
+) -> u32
+    ensures { λ r. ⌜ _≡_ {A = ℕ × List ℕ} (r, now (fields .exit))
+        (labelRoom (reads edition ports queues (now (header .entry))) (now (fields .entry))) ⌝ }
+{
+    labels::put_label(header::read(edition, ports, queues, header), fields)
+}
+
+#[no_mangle]
+pub extern "C" fn vr_write_header(
+    edition: u32,
+    ports: u32,
+    queues: u32,
+    fields: &[u32; 8],
+    room: &mut [u8; 12],
+    size: &mut u32,
+) -> u32
+    ensures { λ r. ⌜ _≡_ {A = ℕ × List ℕ × ℕ} (r, now (room .exit), now (size .exit))
+        (headerRoom (writes edition ports queues (labelAt (now (fields .entry)))) (now (room .entry)) (now (size .entry))) ⌝ }
+{
+    let label = labels::label_at(fields);
+    let written = header::write(edition, ports, queues, label);
+    labels::put_header(written, room, size)
 }
