@@ -99,7 +99,10 @@ module _ (S : Settings) (m : List ℕ) (p : ℕ) (h : List ℕ) where
     bad-header n e = ap (carried rejected (judgedFields S m p (fieldsOf (form S) h))) e ∙ by-header
 
     pub good-header : (f : Fields) → good f ≡ verdict (form S) (S .queues) p h → judgedFields S m p f ≡ judgedArrival S m p h
-    good-header f e = ap (judgedFields S m p) (good-means (form S) (S .queues) p h f e .0) ∙ ap (carried rejected (judgedFields S m p (fieldsOf (form S) h))) e ∙ by-header
+    good-header f e =
+        ap (judgedFields S m p) (good-means (form S) (S .queues) p h f e .0)
+        ∙ ap (carried rejected (judgedFields S m p (fieldsOf (form S) h))) e
+        ∙ by-header
 
 -- ---- from the judge to the outcome
 

@@ -20,7 +20,7 @@ use Rattle.ledger.proofs.Tests.{eqb-yes, ltb-yes, ltb-is, and-left, and-right}
 use Rattle.layout.specs.declared.Table.the-variants.{Mapped}
 use Rattle.layout.specs.Tables.{startOf, get}
 use Rattle.layout.specs.Picture.{settingsIn, opens}
-use Rattle.ranges.specs.First.{firstFrom, first}
+use Rattle.ranges.specs.First.{firstFrom}
 use Rattle.ranges.specs.Opening.{outAt}
 use Rattle.ranges.specs.Ranges.{fitsAt, rangesFound}
 use Rattle.ranges.proofs.Items.{fits-number}

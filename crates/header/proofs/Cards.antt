@@ -14,4 +14,13 @@ use Rattle.header.specs.Cards.{Holds, cards}
 pub cards-hold : All Holds cards
 unfolding number digits bits crcBit crcBits crcByte crcFrom crc8 portsIn queuesIn leadingZeros widthOf formOf frontBits frontBytes spare bodySize
     headerSize leastLength fieldsOf countsIn holds bodyFor headerFor
-cards-hold = ((refl, refl), ((refl, refl), ((refl, refl), ((refl, refl), ((refl, refl), (refl, (refl, (refl, (refl, (refl, (refl, (refl, (refl, (refl, (refl, (refl, tt))))))))))))))))
+cards-hold = (
+  (refl, refl),
+  (
+    (refl, refl),
+    (
+      (refl, refl),
+      ((refl, refl), ((refl, refl), (refl, (refl, (refl, (refl, (refl, (refl, (refl, (refl, (refl, (refl, (refl, tt))))))))))))),
+    ),
+  ),
+)

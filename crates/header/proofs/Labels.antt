@@ -138,7 +138,9 @@ module _ (F : Form) (v : Label) (f : Fit (widths F) (values v)) where
   back-fit = f .1 .1 .1 .1 .1 .1
 
   -- those of the front, then those of each number behind it
-  pub body-bytes : ((digits (frontBytes F) (pack (frontWidths F) (frontValues v)) ++ digits 4 (v .stamp)) ++ digits (F .offerBytes) (v .offered)) ++ digits 1 (v .transaction)
+  pub body-bytes :
+      ((digits (frontBytes F) (pack (frontWidths F) (frontValues v)) ++ digits 4 (v .stamp)) ++ digits (F .offerBytes) (v .offered))
+      ++ digits 1 (v .transaction)
       ≡ bodyFor F v
   unfolding bodyFor
   body-bytes =

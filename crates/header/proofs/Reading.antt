@@ -84,7 +84,8 @@ pub fields-found : (F : Form) (h front : List ℕ) (stamp offered transaction ch
 unfolding fieldsOf
 fields-found F h front stamp offered transaction check f s o t c =
     ap₂ inOrder
-    (let l : front ++ (stamp ∷ offered ∷ transaction ∷ []) ≡ unpack (frontWidths F) (number (frontBytes F) h 0) ++ numbersAt (backBytes F) h (frontBytes F) = cc in
+    (let l : front ++ (stamp ∷ offered ∷ transaction ∷ []) ≡ unpack (frontWidths F) (number (frontBytes F) h 0) ++ numbersAt
+    (backBytes F) h (frontBytes F) = cc in
     l ∙ sym (in-parts F h))
     c
 

@@ -146,7 +146,11 @@ module _ (S : Settings) (ok : Roomy S) (L : Ledger) (s : Orderly S L) where
       let id = record-id k to (node-small S ok (k .node) (first-node S ok L s (ingress p) v-in (c .1 .0))) in
       unfold stitchRecord in
       subst (λ (y : ℕ). Moved (moves y (ingress p) (egress to (k .queue))) (move S (ingress p) (egress to (k .queue)) k L)) (sym id)
-      (moved (ingress p) (egress to (k .queue)) v-in (s .ranges .numbers-in mapped (k .dest) (dest-mapped S ok (k .dest) (f .2 .dest-in)), f .2 .queue-in) (c .1 .0)
+      (moved (ingress p) (egress to (k .queue)) v-in (
+        s .ranges .numbers-in mapped (k .dest)
+            (dest-mapped S ok (k .dest) (f .2 .dest-in)),
+        f .2 .queue-in,
+      ) (c .1 .0)
       (λ i. let z : _≡_ {A = ℕ} 0 1 = cc in omega arith) k refl)
   result-moved (prefetch p q) c =
       let hp : p < S .ports = leb-no (S .ports) p (c .0) in

@@ -194,7 +194,11 @@ module _ (S : Settings) (ok : Roomy S) where
         let k : Packet = firstOf S L (ingress p) in
         let f = first-fits S ok L s (ingress p) v-in (c .1 .0) in
         nothing-in (result S L (stitch p) .1)
-        (moved (ingress p) (egress (mapOf L (k .dest)) (k .queue)) v-in (s .ranges .numbers-in mapped (k .dest) (dest-mapped S ok (k .dest) (f .2 .dest-in)), f .2 .queue-in) k
+        (moved (ingress p) (egress (mapOf L (k .dest)) (k .queue)) v-in (
+          s .ranges .numbers-in mapped (k .dest)
+              (dest-mapped S ok (k .dest) (f .2 .dest-in)),
+          f .2 .queue-in,
+        ) k
         (λ z. first-latest (ingress p) v-in (c .1 .0) refl))
     result-holds (prefetch p q) c =
         let v-in : Place·In S (egress p q) = (leb-no (S .ports) p (c .0), leb-no (S .queues) q (c .1 .0)) in

@@ -12,7 +12,7 @@ use lib.Count.{ones}
 use Rattle.ledger.specs.Settings.{Settings, tenBytes, wide, isBeat, portsIn, queuesIn, settingCount, inRow, rowsFrom, inRows, outFrom, firstOut}
 use Rattle.ledger.specs.Settings.{row, size}
 use Rattle.ledger.specs.Sound.{Roomy}
-use Rattle.ledger.proofs.Tests.{is-false, leb-yes, leb-is, leb-not, eqb-yes, eqb-is, eqb-not, and-left, and-right}
+use Rattle.ledger.proofs.Tests.{is-false, leb-yes, leb-is, eqb-yes, eqb-is, eqb-not, and-left, and-right}
 
 leb-and : (m n : ℕ) (b : Bool) → (leb m n && b) ≡ true → (m ≤ n) × (b ≡ true)
 leb-and m n b e = (leb-yes m n (and-left (leb m n) b e), and-right (leb m n) b e)

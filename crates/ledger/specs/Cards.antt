@@ -1,11 +1,11 @@
--- Paper 01, "Bench cards": the starred cards, the cases of paper 02, Q-3, Q-5, Q-6 and Q-12, and packets that cross from port to port: a
+-- Paper 01, "Bench cards": the starred cards, the cases of paper 02, Q-3, Q-5, Q-6, Q-7 and Q-12, and packets that cross from port to port: a
 -- single table. The claim that they hold is that of proofs/Cards.antt. Assumes nothing.
 use mathlib.Core.Path.{_≡_}
 use mathlib.Core.List.{List, [], _∷_, _++_, map}
 use Prim.Native.Nat.{ℕ, zero, suc, _+_, _-_, _*_, _/_, _%_}
 use lib.ListN.{length, drop}
 use Rattle.crc.specs.Crc.{crc8}
-use Rattle.ledger.specs.Settings.{settings, size}
+use Rattle.ledger.specs.Settings.{tenBytes, wide, settings, size}
 use Rattle.ledger.specs.Ledger.{Packet, free, ingress, egress, prefetched}
 use Rattle.ledger.specs.Calls.{arrive, stitch, prefetch, credit, mapTo, turn, ready, whereIs, inside, outside, Reply, refused, done, entry}
 use Rattle.ledger.specs.Calls.{stitched, idle, leaves, word, found}
@@ -152,6 +152,20 @@ crossing =
     ∷ leaves (record { node = 2050; len = 12; queue = 0; dest = 3; stamp = 0; poisoned = 0; transaction = 0; price = 0 }) inside
     ∷ leaves (crossed 2048) outside ∷ word 0 0 ∷ idle ∷ found (free 1) 2 ∷ [])
 
+-- a setup of a wide switch of these ports, queues and nodes, beat 64, D 2 and this K
+abbrev pub setUpWide : ℕ → ℕ → ℕ → ℕ → Call
+setUpWide p q n k = setup (record { ports = p; queues = q; nodes = n; beat = 64; slots = 2; credit = k; edition = wide; packets = 0 })
+
+-- the rows of ports, queues, edition and packets; the map's last id, and the first that it hasn't
+abbrev pub wide-rows : Card
+wide-rows =
+    lent 900000 (setUpWide 1 2 1 0 ∷ setUpWide 33 2 1 0 ∷ setUpWide 2 1 1 0 ∷ setUpWide 2 65 1 0 ∷ setUpWide 2 2 1 0 ∷ act (mapTo 4095 1) ∷ act (mapTo 4096 1)
+    ∷ setUpWide 32 64 1 0
+    ∷ setup (record { ports = 5; queues = 24; nodes = 1; beat = 64; slots = 2; credit = 0; edition = tenBytes; packets = 0 })
+    ∷ setup (record { ports = 4; queues = 24; nodes = 1; beat = 64; slots = 2; credit = 0; edition = 2; packets = 0 })
+    ∷ setup (record { ports = 4; queues = 24; nodes = 1; beat = 64; slots = 2; credit = 0; edition = wide; packets = 1 }) ∷ [])
+    (refused 2 ∷ refused 2 ∷ refused 2 ∷ refused 2 ∷ done ∷ done ∷ refused 15 ∷ done ∷ refused 2 ∷ refused 2 ∷ refused 2 ∷ [])
+
 -- before a round: one of queue 0 has come in at port 0, two of queue 5 for port 2 at port 1, with outward credit for one of them, and one of
 -- the last queue for port 3 at port 2
 abbrev pub waiting : List Call
@@ -196,7 +210,7 @@ cards =
     ∷ act (arrive 0 (header 0 0 31 12)) ∷ act (arrive 0 (sealed (nine 0 0 23 12 2))) ∷ [])
     (done ∷ refused 20 ∷ refused 19 ∷ refused 19 ∷ entry 0 ∷ [])
     ∷ one-by-one 24 ∷ one-by-one 31
-    ∷ crossing
+    ∷ crossing ∷ wide-rows
     ∷ rounds [] (zeros 15) (refused 3) (zeros 15)
     ∷ rounds (setUp 2 64 1 0 ∷ act (arrive 1 (header 0 1 0 12)) ∷ act (arrive 0 twelve) ∷ []) (zeros 16) done
     (0 ∷ 0 ∷ 0 ∷ 0 ∷ 0 ∷ 1 ∷ 0 ∷ 0 ∷ 0 ∷ 1 ∷ 0 ∷ 0 ∷ 0 ∷ 1 ∷ 0 ∷ 0 ∷ [])

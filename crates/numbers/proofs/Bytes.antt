@@ -3,7 +3,9 @@ use mathlib.Core.Path.{_≡_, refl, sym, ap, ap₂, _∙_}
 use mathlib.Core.Logic.{_⊎_, inl, inr}
 use mathlib.Core.List.{List, [], _∷_, _++_}
 use Prim.Native.Nat.{ℕ, zero, suc, _+_, _*_, _/_, _%_, _^_, _≤_, _<_}
-use native.Mathlib.Nat.{mod-lt, mod-mod, mod-eq-of-lt, div-one, div-add-mod', div-div-eq-div-mul, mul-add-div-right, mul-add-mod-self-right, one-le-pow, zero-lt-suc, pow-suc, pow-succ', zero-add, add-zero, suc-add, add-suc, add-comm, mul-suc, mul-assoc, add-mul, add-assoc}
+use native.Mathlib.Nat.{mod-lt, mod-mod, mod-eq-of-lt, div-one, div-add-mod', div-div-eq-div-mul, mul-add-div-right, mul-add-mod-self-right}
+use native.Mathlib.Nat.{one-le-pow, zero-lt-suc, pow-suc, pow-succ', zero-add, add-zero, suc-add, add-suc, add-comm, mul-suc, mul-assoc, add-mul}
+use native.Mathlib.Nat.{add-assoc}
 use native.Mathlib.Omega.{arith}
 use lib.Arith.{digits-lt, digits-div, mod-mul}
 use lib.ListN.{length, getD, set, take, drop, length-set}

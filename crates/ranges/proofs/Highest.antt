@@ -1,12 +1,10 @@
 -- The highest of some numbers, and what it says of the map. Assumes nothing.
-use mathlib.Core.Path.{_≡_, refl, sym, ap, _∙_}
-use mathlib.Core.Bool.{true, cond}
+use mathlib.Core.Path.{_≡_, refl, sym, _∙_}
 use mathlib.Core.List.{List, [], _∷_}
 use Prim.Native.Nat.{ℕ, zero, suc, _+_, _-_, _≤_, _<_}
 use native.Mathlib.Numerals.{add-one}
 use native.Mathlib.Decide.{ℕ-discrete, decLt}
 use native.Mathlib.Omega.{arith}
-use lib.Dec.{ltb}
 use Rattle.ledger.specs.Settings.{Settings, ids}
 use Rattle.ledger.specs.Ledger.{last, mapped}
 use Rattle.ledger.proofs.Tests.{ltb-is, ltb-not}

@@ -33,7 +33,11 @@ admit-requires c κs =
     let e = c .before .before .before .before in
     let st = e .before .before .before in
     record {
-      priced = record { laid = st .pre .laid; len = laws.len-in (form (settingsOf (st .args .s))) (st .args .s .queues) (st .args .port) (st .args .h .now) _ (passed (c .before)) };
+      priced = record {
+        laid = st .pre .laid;
+        len = laws.len-in (form (settingsOf (st .args .s))) (st .args .s .queues)
+            (st .args .port) (st .args .h .now) _ (passed (c .before));
+      };
       long = st .pre .state .long;
       port = e .if1 .left;
       queue = laws.known-queue (form (settingsOf (st .args .s))) (st .args .s .queues) (st .args .port) (st .args .h .now) _ (passed (c .before));

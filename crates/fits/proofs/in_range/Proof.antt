@@ -1,6 +1,5 @@
 -- `fits::in_range` meets its contract, by the first test that fails. Assumes nothing.
 use native.Mathlib.Omega.{arith}
-use borrow.Author.Needs.{needs}
 use Rattle.fits.proofs.Walk.{range-short, range-long, range-queue, range-dest, range-rest}
 use Rattle.fits.proofs.in_range.Statement.{statement}
 use Rattle.fits.proofs.in_range.Tie as tie

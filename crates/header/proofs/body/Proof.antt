@@ -90,7 +90,12 @@ cast-credit c =
     let st = at-front (c .before) in
     let s = shape st in
     let bits : offer-bits st + zeros st ≡ 16 = omega arith in
-    omega (arith, joined-lt (offer-bits st) (zeros st) (st .args .v .credit) 0 (c .join .result) (c .join .ensures) (credit-fits st) (pow-pos (zeros st)), ap (λ (n : ℕ). 2 ^ n) bits)
+    omega (
+      arith,
+      joined-lt (offer-bits st) (zeros st) (st .args .v .credit) 0 (c .join .result) (c .join .ensures)
+          (credit-fits st) (pow-pos (zeros st)),
+      ap (λ (n : ℕ). 2 ^ n) bits,
+    )
 
 cast-transaction : tie.Need-cast-transaction
 cast-transaction c = let h : at-credit c .args .v .transaction < 2 ^ 8 = fit (at-credit c) .1 .1 .1 .1 .1 .1 .1 .1 .0 in omega arith

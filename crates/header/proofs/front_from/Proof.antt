@@ -36,22 +36,26 @@ port c = c .args .form .port
 narrow-ports : (c : tie.After-join) → c .join .result < 2 ^ (port (c .before) + port (c .before))
 narrow-ports c =
     let a = c .before .args in
-    joined-lt (a .form .port) (a .form .port) (a .v .destination) (a .v .source) (c .join .result) (c .join .ensures) (fit (c .before) .0) (fit (c .before) .1 .0)
+    joined-lt (a .form .port) (a .form .port) (a .v .destination) (a .v .source) (c .join .result) (c .join .ensures)
+    (fit (c .before) .0) (fit (c .before) .1 .0)
 
 narrow-queue : (c : tie.After-join2) → c .join2 .result < 2 ^ (port (at-queue c) + port (at-queue c) + at-queue c .args .form .queue)
 narrow-queue c =
     let a = at-queue c .args in
-    joined-lt (a .form .port + a .form .port) (a .form .queue) (c .before .join .result) (a .v .queue) (c .join2 .result) (c .join2 .ensures) (narrow-ports (c .before)) (fit (at-queue c) .1 .1 .0)
+    joined-lt (a .form .port + a .form .port) (a .form .queue) (c .before .join .result) (a .v .queue)
+    (c .join2 .result) (c .join2 .ensures) (narrow-ports (c .before)) (fit (at-queue c) .1 .1 .0)
 
 narrow-length : (c : tie.After-join3) → c .join3 .result < 2 ^ (port (at-length c) + port (at-length c) + at-length c .args .form .queue + 13)
 narrow-length c =
     let a = at-length c .args in
-    joined-lt (a .form .port + a .form .port + a .form .queue) 13 (c .before .join2 .result) (a .v .length) (c .join3 .result) (c .join3 .ensures) (narrow-queue (c .before)) (fit (at-length c) .1 .1 .1 .0)
+    joined-lt (a .form .port + a .form .port + a .form .queue) 13 (c .before .join2 .result) (a .v .length)
+    (c .join3 .result) (c .join3 .ensures) (narrow-queue (c .before)) (fit (at-length c) .1 .1 .1 .0)
 
 narrow-flag : (c : tie.After-join4) → c .join4 .result < 2 ^ (port (at-flag c) + port (at-flag c) + at-flag c .args .form .queue + 13 + 1)
 narrow-flag c =
     let a = at-flag c .args in
-    joined-lt (a .form .port + a .form .port + a .form .queue + 13) 1 (c .before .join3 .result) (a .v .poisoned) (c .join4 .result) (c .join4 .ensures) (narrow-length (c .before)) (fit (at-flag c) .1 .1 .1 .1 .0)
+    joined-lt (a .form .port + a .form .port + a .form .queue + 13) 1 (c .before .join3 .result) (a .v .poisoned)
+    (c .join4 .result) (c .join4 .ensures) (narrow-length (c .before)) (fit (at-flag c) .1 .1 .1 .1 .0)
 
 join-requires : tie.Need-join-requires
 join-requires c κs =
@@ -62,20 +66,29 @@ join-requires c κs =
 join-requires-2 : tie.Need-join-requires-2
 join-requires-2 c κs =
     let a = c .before .args in
-    let s = shape (c .before) in
-    (omega arith, join-word (a .form .port + a .form .port) (a .form .queue) (c .join .result) (a .v .queue) (narrow-ports c) (fit (c .before) .1 .1 .0) (omega arith))
+    let s = shape (c .before) in (
+      omega arith,
+      join-word (a .form .port + a .form .port) (a .form .queue) (c .join .result) (a .v .queue)
+          (narrow-ports c) (fit (c .before) .1 .1 .0) (omega arith),
+    )
 
 join-requires-3 : tie.Need-join-requires-3
 join-requires-3 c κs =
     let a = at-queue c .args in
-    let s = shape (at-queue c) in
-    (omega arith, join-word (a .form .port + a .form .port + a .form .queue) 13 (c .join2 .result) (a .v .length) (narrow-queue c) (fit (at-queue c) .1 .1 .1 .0) (omega arith))
+    let s = shape (at-queue c) in (
+      omega arith,
+      join-word (a .form .port + a .form .port + a .form .queue) 13 (c .join2 .result) (a .v .length)
+          (narrow-queue c) (fit (at-queue c) .1 .1 .1 .0) (omega arith),
+    )
 
 join-requires-4 : tie.Need-join-requires-4
 join-requires-4 c κs =
     let a = at-length c .args in
-    let s = shape (at-length c) in
-    (omega arith, join-word (a .form .port + a .form .port + a .form .queue + 13) 1 (c .join3 .result) (a .v .poisoned) (narrow-length c) (fit (at-length c) .1 .1 .1 .1 .0) (omega arith))
+    let s = shape (at-length c) in (
+      omega arith,
+      join-word (a .form .port + a .form .port + a .form .queue + 13) 1 (c .join3 .result)
+          (a .v .poisoned) (narrow-length c) (fit (at-length c) .1 .1 .1 .1 .0) (omega arith),
+    )
 
 sub-join : tie.Need-sub-join
 sub-join c = shape (at-flag (c .before)) .four
@@ -91,8 +104,11 @@ join-requires-5 c κs =
     let flag = c .before .before in
     let a = at-flag flag .args in
     let s = shape (at-flag flag) in
-    let zeros : ℕ = a .form .spare + 8 * (4 - a .form .front) in
-    (omega arith, join-word (a .form .port + a .form .port + a .form .queue + 13 + 1) zeros (flag .join4 .result) 0 (narrow-flag flag) (pow-pos zeros) (omega arith))
+    let zeros : ℕ = a .form .spare + 8 * (4 - a .form .front) in (
+      omega arith,
+      join-word (a .form .port + a .form .port + a .form .queue + 13 + 1) zeros (flag .join4 .result) 0
+          (narrow-flag flag) (pow-pos zeros) (omega arith),
+    )
 
 returns : tie.Need-returns
 returns c =

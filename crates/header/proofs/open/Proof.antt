@@ -45,7 +45,8 @@ summed c =
     c .checksum .ensures ∙ ap (λ (k : ℕ). crc8 (take k (bytes (at-sum c)))) body
 
 -- the test of the checksum was passed
-passed : (c : tie.Else1) → fields-of (at-sum (c .before .before)) .check ≡ crc8 (take (bodySize (form-of (at-sum (c .before .before)))) (bytes (at-sum (c .before .before))))
+passed : (c : tie.Else1)
+    → fields-of (at-sum (c .before .before)) .check ≡ crc8 (take (bodySize (form-of (at-sum (c .before .before)))) (bytes (at-sum (c .before .before))))
 passed c = c .if1 .left ∙ summed (c .before .before)
 
 parse-requires : tie.Need-parse-requires

@@ -25,7 +25,8 @@ counts-in-requires c κs = search needs
 returns : tie.Need-returns
 returns c =
     let a = c .before .before .before .args in
-    no-counts-read (a .edition) (a .ports) (a .queues) (a .h .now) (sym (c .before .counts-in .ensures) ∙ not-true (c .before .counts-in .result) (c .if1 .taken))
+    no-counts-read (a .edition) (a .ports) (a .queues) (a .h .now) (sym (c .before .counts-in .ensures)
+    ∙ not-true (c .before .counts-in .result) (c .if1 .taken))
 
 form-of-requires : tie.Need-form-of-requires
 form-of-requires c κs =

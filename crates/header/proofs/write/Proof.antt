@@ -25,7 +25,8 @@ counted c = sym (c .before .counts-in .ensures) ∙ not-false (c .before .counts
 abbrev at-form : tie.Else2 → tie.After-form-of
 at-form c = c .before .before
 
-can : (c : tie.Else2) → holds (formIn (at-form c .form-of .result)) (start (at-form c .before) .args .queues) (labelIn (start (at-form c .before) .args .label)) ≡ true
+can : (c : tie.Else2)
+    → holds (formIn (at-form c .form-of .result)) (start (at-form c .before) .args .queues) (labelIn (start (at-form c .before) .args .label)) ≡ true
 can c = sym (c .before .can-say .ensures) ∙ not-false (c .before .can-say .result) (c .if2 .left)
 
 counts-in-requires : tie.Need-counts-in-requires
@@ -39,7 +40,8 @@ returns c =
     let counts = c .before .before in
     let a = counts .before .args in
     let no′ = sym (counts .counts-in .ensures) ∙ not-true (counts .counts-in .result) (c .before .if1 .taken) in
-    subst (λ (x : Answer (List ℕ)). Answers (c .unwritten .result) x) (no-counts (a .edition) (a .ports) (a .queues) (labelIn (a .label)) no′) (c .unwritten .ensures)
+    subst (λ (x : Answer (List ℕ)). Answers (c .unwritten .result) x) (no-counts (a .edition) (a .ports) (a .queues) (labelIn (a .label)) no′)
+    (c .unwritten .ensures)
 
 form-of-requires : tie.Need-form-of-requires
 form-of-requires c κs =
@@ -60,7 +62,8 @@ returns-2 c =
     let a = start (form .before) .args in
     let no′ = sym (said .can-say .ensures) ∙ not-true (said .can-say .result) (c .before .if2 .taken) in
     subst (λ (x : Answer (List ℕ)). Answers (c .unwritten2 .result) x)
-    (no-fit (a .edition) (a .ports) (a .queues) (labelIn (a .label)) (counted (form .before)) (formIn (form .form-of .result)) (form .form-of .ensures .form-is) no′)
+    (no-fit (a .edition) (a .ports) (a .queues) (labelIn (a .label)) (counted (form .before))
+    (formIn (form .form-of .result)) (form .form-of .ensures .form-is) no′)
     (c .unwritten2 .ensures)
 
 seal-requires : tie.Need-seal-requires

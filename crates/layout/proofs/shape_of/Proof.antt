@@ -10,8 +10,11 @@ use Rattle.layout.proofs.Shapes.{Few, few}
 use Rattle.layout.proofs.shape_of.Statement.{statement}
 use Rattle.layout.proofs.shape_of.Tie as tie
 
+abbrev cast : tie.After-dests-of → tie.After-struct-known8
+cast c = c .before .before
+
 abbrev start : tie.After-dests-of → tie.Start
-start c = c .before .before .before .before .before .before .before .before .before .before
+start c = cast c .before .before .before .before .before .before .before .before
 
 small : (c : tie.After-dests-of) → Few (toldSettings (start c .args .told))
 small c = few _ (start c .pre)

@@ -1,6 +1,6 @@
 -- `ranges::highest_entry` meets its contract. The loop's invariant: the highest so far is that of the entries passed. Assumes nothing.
 use mathlib.Core.Path.{_≡_, refl, ap, _∙_}
-use Prim.Native.Nat.{ℕ, _-_, _≤_}
+use Prim.Native.Nat.{_-_, _≤_}
 use native.Mathlib.Omega.{arith}
 use borrow.Author.Needs.{needs}
 use Rattle.ledger.specs.Settings.{ids}

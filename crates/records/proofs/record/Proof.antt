@@ -34,7 +34,8 @@ returns c =
     let way = rest .before .before .before .before in
     let wide = way .before .before .before .before in
     let a = start (wide .before .before) .args in
-    all-recorded (settingsOf (a .s)) (sentOf (a .k)) (a .m .now) (wide .before .before .slot-of .ensures) (wide .record-wide .ensures) (way .record-way .ensures) (rest .record-rest .ensures)
+    all-recorded (settingsOf (a .s)) (sentOf (a .k)) (a .m .now) (wide .before .before .slot-of .ensures)
+    (wide .record-wide .ensures) (way .record-way .ensures) (rest .record-rest .ensures)
 
 pub record-spec : {M : Type 1} → statement M
 record-spec = tie.close (tie.spec slot-of-requires record-wide-requires record-way-requires record-rest-requires same-length returns)

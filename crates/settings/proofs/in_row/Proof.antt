@@ -29,7 +29,8 @@ returns-7 c = rw (c .before .match .keys7)
 returns-8 : tie.Need-returns-8
 returns-8 c =
     let n = c .before .match .rest in
-    sym (row-last _ (c .before .before .args .i) (n .0 .0 .0 .0 .0 .0 .1) (n .0 .0 .0 .0 .0 .1) (n .0 .0 .0 .0 .1) (n .0 .0 .0 .1) (n .0 .0 .1) (n .0 .1) (n .1))
+    sym (row-last _ (c .before .before .args .i) (n .0 .0 .0 .0 .0 .0 .1) (n .0 .0 .0 .0 .0 .1) (n .0 .0 .0 .0 .1)
+    (n .0 .0 .0 .1) (n .0 .0 .1) (n .0 .1) (n .1))
 
 pub in-row-spec : {M : Type 1} → statement M
 in-row-spec =
