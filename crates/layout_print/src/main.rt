@@ -1,6 +1,7 @@
 // Prints where each table starts and how many bytes a state takes, for seven node counts, one to a line.
 use layout::Shape;
 use layout::Table;
+use settings::Settings;
 ghost use Prim.Native.Nat.{_≤_};
 ghost use Rattle.layout.specs.Tables.{Laid};
 
@@ -18,7 +19,16 @@ fn start(s: Shape, t: Table)
 fn line(nodes: u32)
     requires { ⌜ (1 ≤ nodes) × (nodes ≤ 2048) ⌝ }
 {
-    let s = layout::shape_of(settings::ten_bytes(nodes, 64, 1, 0));
+    let s = layout::shape_of(Settings {
+        ports: 4,
+        queues: 24,
+        nodes,
+        beat: 64,
+        slots: 1,
+        credit: 0,
+        edition: 0,
+        packets: 0,
+    });
     io::print_decimal(1, nodes as u64);
     start(s, Table::Setting);
     start(s, Table::Mapped);
