@@ -28,6 +28,8 @@ use Rattle.capi.proofs.vr_round
 use Rattle.capi.proofs.vr_audit
 use Rattle.capi.proofs.vr_find
 use Rattle.capi.proofs.vr_repair
+use Rattle.capi.proofs.vr_read_header
+use Rattle.capi.proofs.vr_write_header
 
 pub vr-size-one : OneOutcome vr_size.ended vr_size.Reads.Learnt
 vr-size-one κs a r r₂ left left₂ p q = (p ∙ sym q, refl)
@@ -71,6 +73,12 @@ vr-audit-one κs a r r₂ left left₂ p q = parted (λ x. (tt, (x, tt))) p q
 
 pub vr-find-one : OneOutcome vr_find.ended vr_find.Reads.Learnt
 vr-find-one κs a r r₂ left left₂ p q = (refl, ap (λ (x : ℕ × ℕ). (tt, (x .0, (x .1, tt)))) (p ∙ sym q))
+
+pub vr-read-header-one : OneOutcome vr_read_header.ended vr_read_header.Reads.Learnt
+vr-read-header-one κs a r r₂ left left₂ p q = parted (λ x. (tt, (tt, (tt, (tt, (x, tt)))))) p q
+
+pub vr-write-header-one : OneOutcome vr_write_header.ended vr_write_header.Reads.Learnt
+vr-write-header-one κs a r r₂ left left₂ p q = roomed (λ b n. (tt, (tt, (tt, (tt, (b, (n, tt))))))) p q
 
 -- a contract of turn that says the number and the memory alone would not do: any sixteen bytes might stand in the room
 abbrev pub room-unsaid : Contract vr_turn.ended

@@ -30,6 +30,7 @@ use Rattle.switch.proofs.map_to
 use Rattle.switch.proofs.turn
 use Rattle.switch.proofs.ready
 use Rattle.switch.proofs.where_is
+use Rattle.switch.proofs.where_past
 use Rattle.switch.proofs.round
 use Rattle.switch.proofs.audit
 use Rattle.switch.proofs.find
@@ -87,6 +88,9 @@ ready-one κs a r r₂ left left₂ p q = (ready-inj r r₂ (p ∙ sym q), refl)
 
 pub where-is-one : OneOutcome where_is.ended where_is.Reads.Learnt
 where-is-one κs a r r₂ left left₂ p q = (where-inj r r₂ (p ∙ sym q), refl)
+
+pub where-past-one : OneOutcome where_past.ended where_past.Reads.Learnt
+where-past-one κs a r r₂ left left₂ p q = (where-inj r r₂ (p 65536 (omega arith) ∙ sym (q 65536 (omega arith))), refl)
 
 -- stitch's first equation fixes answer and memory, its second the ten bytes
 stitched-alike : (r r₂ : Stitched) → r .answer ≡ r₂ .answer → r .«record» ≡ r₂ .«record» → r ≡ r₂
