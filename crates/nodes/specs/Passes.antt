@@ -7,24 +7,24 @@ use lib.ListN.{length}
 use Rattle.ledger.specs.Settings.{Settings, size}
 use Rattle.ledger.specs.Ledger.{isNode}
 use Rattle.layout.specs.declared.Shape.{Shape}
-use Rattle.layout.specs.Tables.{all, settingsOf, Laid}
+use Rattle.layout.specs.Tables.{settingsOf, Laid}
 use Rattle.layout.specs.Picture.{slot}
 use Rattle.once.specs.Once.{isNew, mark}
+use Rattle.once.specs.Walks.{Marks}
 use Rattle.paid.specs.Paid.{addNode}
 use Rattle.paid.specs.Passes.{Sums}
 use Rattle.nodes.specs.Nodes.{fitsHere, packetFits, addHere}
 
 -- ---- what is lent: a mark for each node, and a sum for each cell, of b at most
 
-pub record Lent (s : Shape) (m ms sums : List ℕ) (b : ℕ) : Type 0 where
-  pub laid : Laid s
+pub record Lent (s : Shape) (m bs sums : List ℕ) (b : ℕ) : Type 0 where
+  pub marks : Marks s bs
   pub long : size (settingsOf s) ≤ length m
-  pub marks : length ms ≡ all (settingsOf s)
   pub held : Sums (settingsOf s) sums b
 
 -- to node x, which has element i of the tables of nodes
-pub record NodeLent (s : Shape) (m ms sums : List ℕ) (x i : ℕ) : Type 0 where
-  pub lent : Lent s m ms sums (2 ^ 63)
+pub record NodeLent (s : Shape) (m bs sums : List ℕ) (x i : ℕ) : Type 0 where
+  pub lent : Lent s m bs sums (2 ^ 63)
   pub node : isNode (settingsOf s) x ≡ true
   pub at-is : i ≡ slot (settingsOf s) x
 

@@ -6,6 +6,7 @@ ghost use mathlib.Core.Bool.{_||_};
 ghost use lib.Dec.{eqb, ltb, leb};
 ghost use Rattle.ledger.specs.Ledger.{owner};
 ghost use Rattle.layout.specs.Tables.{settingsOf};
+ghost use Rattle.once.specs.Bits.{marksIn};
 ghost use Rattle.fits.specs.Fits.{queueAt};
 ghost use Rattle.nodes.specs.Passes.{PacketLent, PacketPassed, NodeLent, NodePassed};
 
@@ -57,8 +58,8 @@ pub fn node_passes(
     sums: &mut [u64],
 ) -> bool
     requires { ⌜ NodeLent s (now m) (now marks) (now sums) (x .0) at ⌝ }
-    ensures { λ r. ⌜ NodePassed (settingsOf s) (now (m .entry)) port column (x .0) (now (marks .entry)) (now (sums .entry))
-        (now (marks .exit)) (now (sums .exit)) r ⌝ }
+    ensures { λ r. ⌜ NodePassed (settingsOf s) (now (m .entry)) port column (x .0) (marksIn (settingsOf s) (now (marks .entry)))
+        (now (sums .entry)) (marksIn (settingsOf s) (now (marks .exit))) (now (sums .exit)) r ⌝ }
 {
     if !once::fresh(at, marks) {
         return false;

@@ -1,16 +1,17 @@
 -- The marks and the sums that are lent: there are enough, and all are 0. Assumes nothing.
 use mathlib.Core.Path.{_≡_, refl, ap, _∙_}
 use mathlib.Core.List.{List, _∷_}
-use Prim.Native.Nat.{ℕ, zero, suc, _≤_}
+use Prim.Native.Nat.{ℕ, zero, suc, _*_, _≤_}
 use native.Mathlib.Nat.{le-of-suc-le-suc}
 use native.Mathlib.Omega.{arith}
 use lib.ListN.{length, take, replicate, length-replicate}
 use Rattle.layout.specs.declared.Shape.{Shape}
-use Rattle.layout.specs.Tables.{Laid}
+use Rattle.layout.specs.Tables.{all, settingsOf, Laid}
 use Rattle.layout.proofs.Shapes.{small}
 use Rattle.ranges.specs.Opening.{Open}
 use Rattle.ranges.proofs.Opening.{open-held}
 use Rattle.once.specs.Walks.{Blank}
+use Rattle.once.proofs.Bits.{marks-none}
 use Rattle.whole.specs.Walks.{AllLent}
 
 -- as many nodes and credits as a state may have
@@ -25,19 +26,16 @@ part-zeros (suc n) (suc k) h = ap (λ (l : List ℕ). 0 ∷ l) (part-zeros n k (
 pub part-long : (n k : ℕ) → n ≤ k → length (take {A = ℕ} n (replicate k 0)) ≡ n
 part-long n k h = ap length (part-zeros n k h) ∙ length-replicate n 0
 
--- the marks of k that are lent, where k is enough
-pub blank : {m : List ℕ} {s : Shape} → Open m s → (k : ℕ) → s .all ≤ k → Blank s m (take (s .all) (replicate k 0))
-blank o k h = record {
-  laid = o .laid;
-  long = open-held o .long;
-  clear = part-zeros _ k h ∙ ap (λ (n : ℕ). replicate n 0) (o .laid .all-are);
-}
+-- the marks in k bytes that are lent, where k is enough
+pub blank : {m : List ℕ} {s : Shape} → Open m s → (k : ℕ) → s .all ≤ 8 * k → Blank s m (replicate k 0)
+blank {m} {s} o k h =
+    let room : all (settingsOf s) ≤ 8 * k = omega (arith, o .laid .all-are) in
+    record {
+      marks = record { laid = o .laid; room = rw (length-replicate {A = ℕ} k 0) room };
+      long = open-held o .long;
+      clear = marks-none (settingsOf s) k room;
+    }
 
 -- and the sums of k with them
 pub all-lent : {m marks : List ℕ} {s : Shape} → Blank s m marks → (k : ℕ) → s .cells ≤ k → AllLent s m marks (take (s .cells) (replicate k 0))
-all-lent b k h = record {
-  laid = b .laid;
-  long = b .long;
-  clear = b .clear;
-  zeros = part-zeros _ k h ∙ ap (λ (n : ℕ). replicate n 0) (b .laid .cells-are);
-}
+all-lent b k h = record { blank = b; zeros = part-zeros _ k h ∙ ap (λ (n : ℕ). replicate n 0) (b .marks .laid .cells-are) }

@@ -23,34 +23,23 @@ pub enum Tested {
     NoState,
 }
 
-// Marks are cleared whole, so a switch of few nodes lends few: 1,024, or 8,192, or as many as a state may have. Sums likewise.
+// Marks are cleared whole, so a switch of few nodes lends few: of 1,024 nodes, or of as many as a state may have. Sums likewise.
 
 // Rule (c) where there are few nodes.
 fn once_among_few(m: &[u8], s: Shape) -> Finding
     requires { ⌜ Open (now m) s × (s .all ≤ 1024) ⌝ }
     ensures { λ r. ⌜ r ≡ onceFound (settingsOf s) (now (m .entry)) ⌝ }
 {
-    let mut marks = [0u8; 1024];
-    let all = s.all;
-    once::once(m, s, &mut marks[..all])
-}
-
-fn once_among_more(m: &[u8], s: Shape) -> Finding
-    requires { ⌜ Open (now m) s × (s .all ≤ 8192) ⌝ }
-    ensures { λ r. ⌜ r ≡ onceFound (settingsOf s) (now (m .entry)) ⌝ }
-{
-    let mut marks = [0u8; 8192];
-    let all = s.all;
-    once::once(m, s, &mut marks[..all])
+    let mut marks = [0u8; 128];
+    once::once(m, s, &mut marks)
 }
 
 fn once_among_all(m: &[u8], s: Shape) -> Finding
     requires { ⌜ Open (now m) s ⌝ }
     ensures { λ r. ⌜ r ≡ onceFound (settingsOf s) (now (m .entry)) ⌝ }
 {
-    let mut marks = [0u8; 65536];
-    let all = s.all;
-    once::once(m, s, &mut marks[..all])
+    let mut marks = [0u8; 8192];
+    once::once(m, s, &mut marks)
 }
 
 // Rule (c).
@@ -60,9 +49,6 @@ fn once_in(m: &[u8], s: Shape) -> Finding
 {
     if s.all <= 1024 {
         return once_among_few(m, s);
-    }
-    if s.all <= 8192 {
-        return once_among_more(m, s);
     }
     once_among_all(m, s)
 }
@@ -101,27 +87,16 @@ fn whole_among_few(m: &[u8], s: Shape) -> Walk
     requires { ⌜ Open (now m) s × (s .all ≤ 1024) ⌝ }
     ensures { λ r. ⌜ Tells (settingsOf s) (now (m .entry)) r ⌝ }
 {
-    let mut marks = [0u8; 1024];
-    let all = s.all;
-    whole_with(m, s, &mut marks[..all])
-}
-
-fn whole_among_more(m: &[u8], s: Shape) -> Walk
-    requires { ⌜ Open (now m) s × (s .all ≤ 8192) ⌝ }
-    ensures { λ r. ⌜ Tells (settingsOf s) (now (m .entry)) r ⌝ }
-{
-    let mut marks = [0u8; 8192];
-    let all = s.all;
-    whole_with(m, s, &mut marks[..all])
+    let mut marks = [0u8; 128];
+    whole_with(m, s, &mut marks)
 }
 
 fn whole_among_all(m: &[u8], s: Shape) -> Walk
     requires { ⌜ Open (now m) s ⌝ }
     ensures { λ r. ⌜ Tells (settingsOf s) (now (m .entry)) r ⌝ }
 {
-    let mut marks = [0u8; 65536];
-    let all = s.all;
-    whole_with(m, s, &mut marks[..all])
+    let mut marks = [0u8; 8192];
+    whole_with(m, s, &mut marks)
 }
 
 fn one_walk(m: &[u8], s: Shape) -> Walk
@@ -131,9 +106,6 @@ fn one_walk(m: &[u8], s: Shape) -> Walk
     let all = s.all;
     if all <= 1024 {
         return whole_among_few(m, s);
-    }
-    if all <= 8192 {
-        return whole_among_more(m, s);
     }
     whole_among_all(m, s)
 }

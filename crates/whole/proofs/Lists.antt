@@ -16,6 +16,7 @@ use Rattle.layout.specs.declared.Shape.{Shape}
 use Rattle.layout.specs.declared.Table.the-variants.{Count}
 use Rattle.layout.specs.Tables.{cells, lists, all, get, settingsOf}
 use Rattle.layout.specs.Picture.{nodesOf}
+use Rattle.once.specs.Bits.{marksIn}
 use Rattle.once.specs.Once.{markAll, right, onceFound}
 use Rattle.once.proofs.Walk.{scan-start, scan-no, scan-yes, scan-end}
 use Rattle.once.proofs.Means.{found-tidy}
@@ -33,12 +34,13 @@ use Rattle.whole.specs.Whole.{ListKept, Listed}
 use Rattle.whole.specs.Walks.{countMost, setMarks, AtList, AllLent, ListPassed}
 use Rattle.whole.proofs.SetMarks.{set-none, set-all, all-set, list-more}
 
-pub lists-start : {s : Shape} {m ms sums : List ℕ} {l : ℕ} → AllLent s m ms sums → l ≡ 0 → AtList (settingsOf s) m ms sums l 0
-lists-start {s} {m} {ms} {sums} a e =
+pub lists-start : {s : Shape} {m bs sums : List ℕ} {l : ℕ} → AllLent s m bs sums → l ≡ 0
+    → AtList (settingsOf s) m (marksIn (settingsOf s) bs) sums l 0
+lists-start {s} {m} {bs} {sums} a e =
     let S = settingsOf s in
     rw e (record {
-      scan = scan-start S m ms (a .clear);
-      met = ap setMarks (a .clear) ∙ set-none (all S);
+      scan = scan-start S m (marksIn S bs) (a .blank .clear);
+      met = ap setMarks (a .blank .clear) ∙ set-none (all S);
       slots = λ i h. absurd (omega arith);
       fits = λ rule. fits-start rule S m;
       add = none-added S m sums (a .zeros);

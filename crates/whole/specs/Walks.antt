@@ -9,10 +9,11 @@ use Rattle.ledger.specs.Settings.{Settings, row, size}
 use Rattle.ledger.specs.Ready.{bit}
 use Rattle.layout.specs.declared.Shape.{Shape}
 use Rattle.layout.specs.declared.Table.the-variants.{Count}
-use Rattle.layout.specs.Tables.{cells, lists, all, get, settingsOf, Laid}
+use Rattle.layout.specs.Tables.{cells, lists, get, settingsOf}
 use Rattle.layout.specs.Picture.{nodesOf}
+use Rattle.once.specs.Bits.{marksIn}
 use Rattle.once.specs.Once.{markAll}
-use Rattle.once.specs.Walks.{Scanning}
+use Rattle.once.specs.Walks.{Marks, Blank, Scanning}
 use Rattle.fits.specs.declared.NodeRule.{NodeRule}
 use Rattle.fits.specs.Fits.{fitsFrom, fitsFound}
 use Rattle.paid.specs.Paid.{addList, addFrom, sumsOf}
@@ -28,8 +29,8 @@ countMost = 1095216660480
 -- ---- what is lent
 
 -- to list l of n nodes, which is port p's column c
-pub record ListLent (s : Shape) (m ms sums : List ℕ) (l n p c : ℕ) : Type 0 where
-  pub lent : Lent s m ms sums (countMost * l)
+pub record ListLent (s : Shape) (m bs sums : List ℕ) (l n p c : ℕ) : Type 0 where
+  pub lent : Lent s m bs sums (countMost * l)
   pub inside : l < lists (settingsOf s)
   pub count-is : n ≡ get (settingsOf s) m Count l
   pub port-is : p ≡ l / row (settingsOf s)
@@ -50,17 +51,15 @@ pub record AtList (S : Settings) (m ms sums : List ℕ) (l n : ℕ) : Type 0 whe
   pub held : Sums S sums (countMost * l)
 
 -- to port p, at its first list
-pub record PortLent (s : Shape) (m ms sums : List ℕ) (p n : ℕ) : Type 0 where
-  pub laid : Laid s
+pub record PortLent (s : Shape) (m bs sums : List ℕ) (p n : ℕ) : Type 0 where
+  pub marks : Marks s bs
   pub long : size (settingsOf s) ≤ length m
   pub inside : p < s .ports
-  pub stands : AtList (settingsOf s) m ms sums (p * row (settingsOf s)) n
+  pub stands : AtList (settingsOf s) m (marksIn (settingsOf s) bs) sums (p * row (settingsOf s)) n
 
 -- and at first: no mark is set, and all sums are 0
-pub record AllLent (s : Shape) (m ms sums : List ℕ) : Type 0 where
-  pub laid : Laid s
-  pub long : size (settingsOf s) ≤ length m
-  pub clear : ms ≡ replicate (all (settingsOf s)) 0
+pub record AllLent (s : Shape) (m bs sums : List ℕ) : Type 0 where
+  pub blank : Blank s m bs
   pub zeros : sums ≡ replicate (cells (settingsOf s)) 0
 
 -- ---- what is given back, where the answer is yes

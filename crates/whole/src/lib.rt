@@ -6,6 +6,7 @@ use layout::Table;
 use ledger::EntryId;
 use ledger::Finding;
 ghost use Rattle.layout.specs.Tables.{settingsOf};
+ghost use Rattle.once.specs.Bits.{marksIn};
 ghost use Rattle.whole.specs.Whole.{Tells};
 ghost use Rattle.whole.specs.Walks.{ListLent, PortLent, AllLent, ListPassed, PortPassed};
 
@@ -30,8 +31,8 @@ fn list_passes(
     sums: &mut [u64],
 ) -> bool
     requires { ⌜ ListLent s (now m) (now marks) (now sums) l count port column ⌝ }
-    ensures { λ r. ⌜ ListPassed (settingsOf s) (now (m .entry)) l (now (marks .entry)) (now (sums .entry))
-        (now (marks .exit)) (now (sums .exit)) r ⌝ }
+    ensures { λ r. ⌜ ListPassed (settingsOf s) (now (m .entry)) l (marksIn (settingsOf s) (now (marks .entry))) (now (sums .entry))
+        (marksIn (settingsOf s) (now (marks .exit))) (now (sums .exit)) r ⌝ }
 {
     let tail = layout::get2(m, s, Table::Tail, l);
     let mut left = count;
@@ -64,7 +65,8 @@ fn port_passes(
     met: &mut u32,
 ) -> bool
     requires { ⌜ PortLent s (now m) (now marks) (now sums) port (now met) ⌝ }
-    ensures { λ r. ⌜ PortPassed (settingsOf s) (now (m .entry)) port (now (marks .exit)) (now (sums .exit)) (now (met .exit)) r ⌝ }
+    ensures { λ r. ⌜ PortPassed (settingsOf s) (now (m .entry)) port (marksIn (settingsOf s) (now (marks .exit))) (now (sums .exit))
+        (now (met .exit)) r ⌝ }
 {
     let row = s.row;
     let first = port * row;

@@ -1,12 +1,14 @@
 -- `nodes::node_passes` meets its contract, by the first test that fails. Assumes nothing.
 use mathlib.Core.Path.{_≡_, sym, _∙_}
 use mathlib.Core.Bool.{true, false≢true, _||_}
+use native.Mathlib.Omega.{arith}
 use borrow.Author.Needs.{needs}
 use borrow.Author.Tests.{not-true, not-false, ne-eqb}
 use lib.Dec.{eqb, leb}
 use Rattle.ledger.specs.Ledger.{owner}
 use Rattle.layout.specs.Tables.{settingsOf}
 use Rattle.memory.proofs.Chains.{slot-lt}
+use Rattle.once.specs.Bits.{marksIn}
 use Rattle.once.specs.Once.{isNew, mark}
 use Rattle.once.proofs.Marks.{fresh-new}
 use Rattle.nodes.specs.Nodes.{addHere}
@@ -31,11 +33,12 @@ new-node c = c .before .before
 met : (c : tie.After-slice-known3)
     → let a = start c .args in
     let f = at-fresh c .fresh in
-    (f .result ≡ isNew (settingsOf (a .s)) (a .marks .now) (a .x .0))
-    × (f .result ≡ true → f .last .1 .0 ≡ mark (settingsOf (a .s)) (a .marks .now) (a .x .0))
-met c = let p = start c .pre in fresh-new _ _ (p .node) (p .at-is) (at-fresh c .fresh .ensures)
+    let S = settingsOf (a .s) in
+    (f .result ≡ isNew S (marksIn S (a .marks .now)) (a .x .0))
+    × (f .result ≡ true → marksIn S (f .last .1 .0) ≡ mark S (marksIn S (a .marks .now)) (a .x .0))
+met c = let p = start c .pre in fresh-new _ _ (p .lent .marks .room) (p .node) (p .at-is) (at-fresh c .fresh .ensures)
 
-is-new : (c : tie.Else1) → let a = start (c .before) .args in isNew (settingsOf (a .s)) (a .marks .now) (a .x .0) ≡ true
+is-new : (c : tie.Else1) → let a = start (c .before) .args in isNew (settingsOf (a .s)) (marksIn (settingsOf (a .s)) (a .marks .now)) (a .x .0) ≡ true
 is-new c = sym (met (c .before) .0) ∙ not-false _ (c .if1 .left)
 
 ported : (c : tie.Else2) → let a = start (new-node c .before) .args in (leb 2 (a .column) || eqb (owner (a .x .0)) (a .port)) ≡ true
@@ -44,7 +47,7 @@ ported c = sym (c .before .port-fits .ensures) ∙ not-false _ (c .if2 .left)
 fresh-requires : tie.Need-fresh-requires
 fresh-requires c κs =
     let p = c .before .before .before .before .pre in
-    rw (p .at-is, p .lent .marks) (slot-lt _ _ (p .node))
+    omega (arith, p .at-is, p .lent .marks .room, slot-lt _ _ (p .node))
 
 same-length : tie.Need-same-length
 same-length c = search needs

@@ -2,6 +2,7 @@
 use borrow.Author.Needs.{needs}
 use mathlib.Core.Path.{_≡_, sym, _∙_}
 use mathlib.Core.Bool.{true, false≢true}
+use native.Mathlib.Omega.{arith}
 use Rattle.ledger.specs.Ledger.{isNode}
 use Rattle.layout.specs.Tables.{settingsOf}
 use Rattle.memory.proofs.Chains.{slot-lt}
@@ -25,7 +26,8 @@ slot-of-requires c κs = search needs
 fresh-requires : tie.Need-fresh-requires
 fresh-requires c κs =
     let yes = c .before .before in
-    rw (c .before .slot-of .ensures, start yes .pre .fits) (slot-lt _ _ (node yes))
+    let low = slot-lt _ _ (node yes) in
+    rw (c .before .slot-of .ensures) (omega (arith, low, start yes .pre .room))
 
 same-length : tie.Need-same-length
 same-length c = search needs
@@ -34,7 +36,7 @@ returns : tie.Need-returns
 returns c =
     let w = c .before .before in
     let at = w .before .before in
-    let new = fresh-new _ _ (node (at .before)) (at .slot-of .ensures) (w .fresh .ensures) in
+    let new = fresh-new _ _ (start (at .before) .pre .room) (node (at .before)) (at .slot-of .ensures) (w .fresh .ensures) in
     record { answer = new .0; after = new .1 }
 
 returns-2 : tie.Need-returns-2

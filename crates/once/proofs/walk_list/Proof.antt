@@ -5,17 +5,21 @@ use borrow.Author.Tests.{not-true, not-false}
 use mathlib.Core.Path.{_≡_, refl, sym, ap, _∙_}
 use mathlib.Core.Bool.{true, false≢true}
 use native.Mathlib.Omega.{arith}
+use lib.ListN.{length}
 use lib.Dec.{eqb}
 use Rattle.layout.specs.Tables.{settingsOf}
 use Rattle.memory.proofs.Chains.{slot-lt}
+use Rattle.once.specs.Bits.{marksIn}
 use Rattle.once.specs.Once.{isNew}
+use Rattle.once.proofs.Bits.{marks-length}
 use Rattle.once.proofs.Marks.{new}
 use Rattle.once.proofs.Walk.{Walking, walk-start, walk-stuck, walk-step, walk-end}
 use Rattle.once.proofs.walk_list.Statement.{statement}
 use Rattle.once.proofs.walk_list.Tie as tie
 
 abbrev Inv-loop : tie.InvT-loop
-Inv-loop m s l marks₀ tail left₀ x₀ last₀ marks left x last = Walking (settingsOf s) m marks₀ l marks left x last
+Inv-loop m s l marks₀ tail left₀ x₀ last₀ marks left x last =
+    (length marks ≡ length marks₀) × Walking (settingsOf s) m (marksIn (settingsOf s) marks₀) l (marksIn (settingsOf s) marks) left x last
 
 abbrev μ-loop : tie.MeasureT-loop
 μ-loop m s l marks₀ tail left₀ x₀ last₀ marks left x last = left
@@ -42,11 +46,13 @@ get2-requires-2 c κs = search needs
 
 loop-holds : tie.Need-loop-holds Inv-loop μ-loop
 loop-holds c =
-    rw (c .before .before .get2 .ensures, c .before .get4 .ensures, c .get22 .ensures)
-    (walk-start _ _ _ _ (begun c .pre .marks .fits))
+    (refl, rw (c .before .before .get2 .ensures, c .before .get4 .ensures, c .get22 .ensures) (walk-start _ _ _ _ (marks-length _ _)))
 
 meet-requires : tie.Need-meet-requires Inv-loop μ-loop
-meet-requires c κs = search needs
+meet-requires c κs =
+    let at = c .before .before in
+    let p = begun (at .before) .pre .marks in
+    record { laid = p .laid; room = rw (at .loop .inv .0) (p .room) }
 
 same-length : tie.Need-same-length Inv-loop μ-loop
 same-length c = search needs
@@ -54,14 +60,15 @@ same-length c = search needs
 -- the node that is met is new
 new-here : (c : tie.Else1 Inv-loop μ-loop)
     → let w = c .before .before .before in
-    isNew (settingsOf (start w .args .s)) (at-loop w .loop .marks) (at-loop w .loop .x) ≡ true
+    let S = settingsOf (start w .args .s) in
+    isNew S (marksIn S (at-loop w .loop .marks)) (at-loop w .loop .x) ≡ true
 new-here c = sym (c .before .before .before .meet .ensures .answer) ∙ not-false _ (c .if1 .left)
 
 returns : tie.Need-returns Inv-loop μ-loop
 returns c =
     let met = c .before .before .before in
     record {
-      answer = sym (walk-stuck (at-loop met .loop .inv) (omega arith) (sym (met .meet .ensures .answer) ∙ not-true _ (c .if1 .taken)));
+      answer = sym (walk-stuck (at-loop met .loop .inv .1) (omega arith) (sym (met .meet .ensures .answer) ∙ not-true _ (c .if1 .taken)));
       after = λ e. absurd (false≢true e);
     }
 
@@ -81,16 +88,18 @@ loop-less c = search needs
 loop-again : tie.Need-loop-again Inv-loop μ-loop
 loop-again c =
     let arm = c .before .before in
-    let met = arm .before .before .before in
-    rw (c .get23 .ensures, c .before .slot-of .ensures, met .meet .ensures .after (not-false _ (arm .if1 .left)))
-    (walk-step (at-loop met .loop .inv) (omega arith) (new-here arm))
+    let met = arm .before .before .before in (
+      met .meet .kept .1 .1 .0 ∙ at-loop met .loop .inv .0,
+      rw (c .get23 .ensures, c .before .slot-of .ensures, met .meet .ensures .after (not-false _ (arm .if1 .left)))
+          (walk-step (at-loop met .loop .inv .1) (omega arith) (new-here arm)),
+    )
 
 same-length-2 : tie.Need-same-length-2 Inv-loop μ-loop
 same-length-2 c = search needs
 
 returns-2 : tie.Need-returns-2 Inv-loop μ-loop
 returns-2 c =
-    let w = walk-end (c .before .loop .inv) (omega arith) in
+    let w = walk-end (c .before .loop .inv .1) (omega arith) in
     record { answer = ap (eqb _) (c .before .before .before .before .get2 .ensures) ∙ sym (w .0); after = λ e. w .1 }
 
 pub walk-list-spec : {M : Type 1} → statement M

@@ -6,13 +6,13 @@ use Rattle.sound.proofs.whole_with_all.Statement.{statement}
 use Rattle.sound.proofs.whole_with_all.Tie as tie
 
 array-borrow-prefix-sums : tie.Need-array-borrow-prefix-sums
-array-borrow-prefix-sums c = most (c .before .before .before .pre .laid) .1
+array-borrow-prefix-sums c = most (c .before .before .before .pre .marks .laid) .1
 
 slice-aggregate-whole : tie.Need-slice-aggregate-whole
-slice-aggregate-whole c = sym (part-long _ 2016 (most (c .before .before .before .before .pre .laid) .1))
+slice-aggregate-whole c = sym (part-long _ 2016 (most (c .before .before .before .before .pre .marks .laid) .1))
 
 whole-requires : tie.Need-whole-requires
-whole-requires c κs = let p = c .before .before .before .before .pre in all-lent p 2016 (most (p .laid) .1)
+whole-requires c κs = let p = c .before .before .before .before .pre in all-lent p 2016 (most (p .marks .laid) .1)
 
 pub whole-with-all-spec : {M : Type 1} → statement M
 whole-with-all-spec =

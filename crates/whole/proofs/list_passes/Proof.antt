@@ -15,7 +15,9 @@ use Rattle.layout.specs.declared.Table.the-variants.{Next}
 use Rattle.layout.specs.Tables.{get, settingsOf}
 use Rattle.layout.specs.Picture.{slot}
 use Rattle.memory.proofs.Chains.{slot-lt}
+use Rattle.once.specs.Bits.{marksIn}
 use Rattle.once.specs.Once.{isNew}
+use Rattle.once.proofs.Bits.{marks-length}
 use Rattle.once.proofs.Walk.{walk-start}
 use Rattle.nodes.specs.Nodes.{fitsHere}
 use Rattle.whole.proofs.Walking.{Passing, pass-start, pass-held, pass-lent, pass-not, pass-step, pass-end}
@@ -24,7 +26,8 @@ use Rattle.whole.proofs.list_passes.Tie as tie
 
 abbrev Inv-loop : tie.InvT-loop
 Inv-loop m s l count port column marks₀ sums₀ tail left₀ x₀ last₀ marks sums left x last =
-    Passing (settingsOf s) m marks₀ sums₀ l marks sums left x last
+    (length marks ≡ length marks₀)
+    × Passing (settingsOf s) m (marksIn (settingsOf s) marks₀) sums₀ l (marksIn (settingsOf s) marks) sums left x last
 
 abbrev μ-loop : tie.MeasureT-loop
 μ-loop m s l count port column marks₀ sums₀ tail left₀ x₀ last₀ marks sums left x last = left
@@ -52,14 +55,13 @@ met-at c = at-loop (known c .before)
 kept : (c : tie.At-loop Inv-loop μ-loop)
     → let a = begun c .args in (length (c .loop .marks) ≡ length (a .marks .now)) × (length (c .loop .sums) ≡ length (a .sums .now))
 kept c =
-    let b = begun c .pre .lent in
-    (c .loop .inv .walk .fits ∙ sym (b .marks), c .loop .inv .held .many ∙ sym (b .held .many))
+    (c .loop .inv .0, c .loop .inv .1 .held .many ∙ sym (begun c .pre .lent .held .many))
 
 -- what was answered of the node, by the place of its list
 told : (c : tie.After-node-passes Inv-loop μ-loop)
     → let a = begun (met-at c) .args in
     let S = settingsOf (a .s) in
-    (isNew S (met-at c .loop .marks) (met-at c .loop .x) && fitsHere S (a .m .now) (a .l / row S) (a .l % row S) (met-at c .loop .x))
+    (isNew S (marksIn S (met-at c .loop .marks)) (met-at c .loop .x) && fitsHere S (a .m .now) (a .l / row S) (a .l % row S) (met-at c .loop .x))
     ≡ c .node-passes .result
 told c =
     let p = begun (met-at c) .pre in
@@ -73,8 +75,10 @@ get2-requires-2 c κs = search needs
 
 loop-holds : tie.Need-loop-holds Inv-loop μ-loop
 loop-holds c =
-    let p = c .before .before .before .before .before .pre in
-    rw (c .before .get2 .ensures, p .count-is, c .get22 .ensures) (pass-start (walk-start _ _ _ _ (p .lent .marks)) (p .lent .held))
+    let p = c .before .before .before .before .before .pre in (
+      refl,
+      rw (c .before .get2 .ensures, p .count-is, c .get22 .ensures) (pass-start (walk-start _ _ _ _ (marks-length _ _)) (p .lent .held)),
+    )
 
 is-node-requires : tie.Need-is-node-requires Inv-loop μ-loop
 is-node-requires c κs = search needs
@@ -94,7 +98,7 @@ returns c =
     record {
       answer = record {
         yes = λ e. absurd (false≢true e);
-        no = λ e. pass-not (at-loop w .loop .inv) (omega arith) (rw none);
+        no = λ e. pass-not (at-loop w .loop .inv .1) (omega arith) (rw none);
       };
       marks = λ e. absurd (false≢true e);
       added = λ e. absurd (false≢true e);
@@ -131,10 +135,9 @@ node-passes-requires c κs =
     let p = begun at .pre in
     record {
       lent = record {
-        laid = p .lent .laid;
+        marks = record { laid = p .lent .marks .laid; room = rw (at .loop .inv .0) (p .lent .marks .room) };
         long = p .lent .long;
-        marks = at .loop .inv .walk .fits;
-        held = pass-lent (at .loop .inv) (p .lent .laid .roomy) (p .inside);
+        held = pass-lent (at .loop .inv .1) (p .lent .marks .laid .roomy) (p .inside);
       };
       node = node new;
       at-is = c .before .before .before .slot-of .ensures;
@@ -152,7 +155,7 @@ returns-2 c =
     record {
       answer = record {
         yes = λ e. absurd (false≢true e);
-        no = λ e. pass-not (met-at w .loop .inv) (omega arith) (told w ∙ not-true _ (c .if2 .taken));
+        no = λ e. pass-not (met-at w .loop .inv .1) (omega arith) (told w ∙ not-true _ (c .if2 .taken));
       };
       marks = λ e. absurd (false≢true e);
       added = λ e. absurd (false≢true e);
@@ -169,9 +172,11 @@ loop-again : tie.Need-loop-again Inv-loop μ-loop
 loop-again c =
     let w = tested (c .before) in
     let yes = not-false _ (c .if2 .left) in
-    let t = w .node-passes .ensures in
-    pass-step (met-at w .loop .inv) (omega arith) (told w ∙ yes) (begun (met-at w) .pre .column-is) (t .marks yes) (t .added yes)
-    (next-is (w .before .before .before))
+    let t = w .node-passes .ensures in (
+      w .node-passes .kept .1 .1 .1 .1 .1 .1 .0 ∙ kept (met-at w) .0,
+      pass-step (met-at w .loop .inv .1) (omega arith) (told w ∙ yes) (begun (met-at w) .pre .column-is) (t .marks yes) (t .added yes)
+          (next-is (w .before .before .before)),
+    )
 
 same-length-5 : tie.Need-same-length-5 Inv-loop μ-loop
 same-length-5 c = kept (c .before) .0
@@ -181,13 +186,13 @@ same-length-6 c = kept (c .before) .1
 
 returns-3 : tie.Need-returns-3 Inv-loop μ-loop
 returns-3 c =
-    let w = pass-end (c .before .loop .inv) (omega arith) in
+    let w = pass-end (c .before .loop .inv .1) (omega arith) in
     let e = w .0 ∙ ap (eqb _) (sym (c .before .before .before .get2 .ensures)) in
     record {
       answer = record { yes = λ r. record { once = e ∙ r; fits = w .3 }; no = λ r k. true≢false (sym (k .once) ∙ e ∙ r) };
       marks = λ r. w .1;
       added = λ r. w .2;
-      held = λ r. pass-held (c .before .loop .inv);
+      held = λ r. pass-held (c .before .loop .inv .1);
     }
 
 pub list-passes-spec : {M : Type 1} → statement M

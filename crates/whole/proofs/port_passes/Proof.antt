@@ -10,6 +10,8 @@ use Rattle.ledger.specs.Settings.{row}
 use Rattle.ledger.proofs.Tests.{true≢false}
 use Rattle.layout.specs.Tables.{lists, settingsOf}
 use Rattle.layout.proofs.Shapes.{few}
+use Rattle.once.specs.Bits.{marksIn}
+use Rattle.once.proofs.Bits.{marks-length}
 use Rattle.ranges.specs.Ranges.{fewAt, fewIn}
 use Rattle.whole.specs.Walks.{AtList}
 use Rattle.whole.proofs.SetMarks.{set-le}
@@ -19,7 +21,7 @@ use Rattle.whole.proofs.port_passes.Tie as tie
 
 abbrev Inv-loop : tie.InvT-loop
 Inv-loop m s port marks₀ sums₀ met₀ row first column₀ marks sums met column =
-    (column ≤ row) × AtList (settingsOf s) m marks sums (first + column) met
+    (column ≤ row) × (length marks ≡ length marks₀) × AtList (settingsOf s) m (marksIn (settingsOf s) marks) sums (first + column) met
 
 abbrev μ-loop : tie.MeasureT-loop
 μ-loop m s port marks₀ sums₀ met₀ row first column₀ marks sums met column = row - column
@@ -51,8 +53,7 @@ sums-after c = c .list-passes .last .1 .1 .1 .1 .1 .1 .1 .0
 kept : (c : tie.At-loop Inv-loop μ-loop)
     → let a = begun c .args in (length (c .loop .marks) ≡ length (a .marks .now)) × (length (c .loop .sums) ≡ length (a .sums .now))
 kept c =
-    let b = begun c .pre .stands in
-    (c .loop .inv .1 .scan .fits ∙ sym (b .scan .fits), c .loop .inv .1 .held .many ∙ sym (b .held .many))
+    (c .loop .inv .1, c .loop .inv .2 .held .many ∙ sym (begun c .pre .stands .held .many))
 
 -- the list that is met, by its port and its column
 inside : (c : tie.In-loop Inv-loop μ-loop)
@@ -62,7 +63,7 @@ inside : (c : tie.In-loop Inv-loop μ-loop)
     (l < lists S) × (b .args .port ≡ l / row S) × (c .before .loop .column ≡ l % row S)
 inside c =
     let b = begun (c .before) in
-    let is = b .pre .laid .row-is in
+    let is = b .pre .marks .laid .row-is in
     let low = c .loop-test .taken in
     (list-in _ _ _ is low (b .pre .inside), port-is _ (b .args .port) _ is low, column-is _ (b .args .port) _ is low)
 
@@ -78,24 +79,24 @@ answered c =
 mul-first : tie.Need-mul-first Inv-loop μ-loop
 mul-first c =
     let b = c .before .before .before in
-    omega (arith, ap (λ (r : ℕ). b .args .port * r) (b .pre .laid .row-is), b .pre .stands .scan .most, few _ (b .pre .laid .roomy))
+    omega (arith, ap (λ (r : ℕ). b .args .port * r) (b .pre .marks .laid .row-is), b .pre .stands .scan .most, few _ (b .pre .marks .laid .roomy))
 
 loop-holds : tie.Need-loop-holds Inv-loop μ-loop
 loop-holds c =
     let b = c .before .before .before in
     let at : b .args .port * b .args .s .row + 0 ≡ b .args .port * b .args .s .row = omega arith in
-    (omega arith, rw (at, b .pre .laid .row-is) (b .pre .stands))
+    (omega arith, refl, rw (at, b .pre .marks .laid .row-is) (b .pre .stands))
 
 add-l : tie.Need-add-l Inv-loop μ-loop
-add-l c = omega (arith, inside c .0, few _ (begun (c .before) .pre .laid .roomy))
+add-l c = omega (arith, inside c .0, few _ (begun (c .before) .pre .marks .laid .roomy))
 
 get4-requires : tie.Need-get4-requires Inv-loop μ-loop
 get4-requires c κs =
     let p = begun (c .before) .pre in
-    record { laid = p .laid; long = p .long; wide = refl; inside = inside c .0 }
+    record { laid = p .marks .laid; long = p .long; wide = refl; inside = inside c .0 }
 
 few-enough-requires : tie.Need-few-enough-requires Inv-loop μ-loop
-few-enough-requires c κs = begun (at-loop c) .pre .laid
+few-enough-requires c κs = begun (at-loop c) .pre .marks .laid
 
 same-length : tie.Need-same-length Inv-loop μ-loop
 same-length c = kept (at-loop (c .before .before)) .0
@@ -108,7 +109,7 @@ returns c =
     let w = c .before in
     record {
       yes = λ e. absurd (false≢true e);
-      no = λ e. lists-many (at-loop (w .before) .loop .inv .1) (inside (w .before .before) .0) (sym (answered w) ∙ not-true _ (c .if1 .taken));
+      no = λ e. lists-many (at-loop (w .before) .loop .inv .2) (inside (w .before .before) .0) (sym (answered w) ∙ not-true _ (c .if1 .taken));
     }
 
 list-passes-requires : tie.Need-list-passes-requires Inv-loop μ-loop
@@ -119,7 +120,11 @@ list-passes-requires c κs =
     let p = begun at .pre in
     let place = inside (read .before) in
     record {
-      lent = record { laid = p .laid; long = p .long; marks = at .loop .inv .1 .scan .fits; held = at .loop .inv .1 .held };
+      lent = record {
+        marks = record { laid = p .marks .laid; room = rw (at .loop .inv .1) (p .marks .room) };
+        long = p .long;
+        held = at .loop .inv .2 .held;
+      };
       inside = place .0;
       count-is = read .get4 .ensures;
       port-is = place .1;
@@ -142,7 +147,7 @@ returns-2 c =
     let read = counted w .before .before in
     record {
       yes = λ e. absurd (false≢true e);
-      no = λ e. lists-no (at-loop read .loop .inv .1) (inside (read .before) .0) (w .list-passes .ensures .answer .no (not-true _ (c .if2 .taken)));
+      no = λ e. lists-no (at-loop read .loop .inv .2) (inside (read .before) .0) (w .list-passes .ensures .answer .no (not-true _ (c .if2 .taken)));
     }
 
 -- the walk stands at the next list
@@ -151,38 +156,41 @@ went : (c : tie.Else2 Inv-loop μ-loop)
     let read = counted w .before .before in
     let at = at-loop read in
     let a = begun at .args in
-    AtList (settingsOf (a .s)) (a .m .now) (marks-after w) (sums-after w)
+    AtList (settingsOf (a .s)) (a .m .now) (marksIn (settingsOf (a .s)) (marks-after w)) (sums-after w)
     (a .port * a .s .row + (at .loop .column + 1)) (at .loop .met + read .get4 .result)
 went c =
     let w = walked (c .before) in
     let short = counted w in
     let read = short .before .before in
-    lists-next (at-loop read .loop .inv .1) (inside (read .before) .0) (sym (answered (short .before)) ∙ not-false _ (short .if1 .left))
-    (w .list-passes .kept .1 .1 .1 .1 .1 .1 .0) (w .list-passes .ensures) (not-false _ (c .if2 .left)) (omega arith) (read .get4 .ensures)
+    lists-next (at-loop read .loop .inv .2) (inside (read .before) .0) (sym (answered (short .before)) ∙ not-false _ (short .if1 .left))
+    (marks-length _ _ ∙ sym (marks-length _ _)) (w .list-passes .ensures) (not-false _ (c .if2 .left)) (omega arith) (read .get4 .ensures)
 
 -- no more nodes were met than there are
 add-met : tie.Need-add-met Inv-loop μ-loop
 add-met c =
     let w = walked (c .before .before) in
+    let b = begun (at-loop (counted w .before .before)) in
     let next = went (c .before) in
     omega (
       arith,
-      set-le (marks-after w),
+      set-le (marksIn (settingsOf (b .args .s)) (marks-after w)),
       next .met,
       next .scan .fits,
-      few _ (begun (at-loop (counted w .before .before)) .pre .laid .roomy),
+      few _ (b .pre .marks .laid .roomy),
     )
 
 add-column : tie.Need-add-column Inv-loop μ-loop
 add-column c =
     let read = counted (walked (c .before .before)) .before .before in
-    omega (arith, inside (read .before) .0, few _ (begun (at-loop read) .pre .laid .roomy))
+    omega (arith, inside (read .before) .0, few _ (begun (at-loop read) .pre .marks .laid .roomy))
 
 loop-less : tie.Need-loop-less Inv-loop μ-loop
 loop-less c = omega arith
 
 loop-again : tie.Need-loop-again Inv-loop μ-loop
-loop-again c = (omega arith, went (c .before))
+loop-again c =
+    let w = walked (c .before .before) in
+    (omega arith, w .list-passes .kept .1 .1 .1 .1 .1 .1 .0 ∙ kept (at-loop (counted w .before .before)) .0, went (c .before))
 
 same-length-5 : tie.Need-same-length-5 Inv-loop μ-loop
 same-length-5 c = kept (c .before) .0
@@ -195,7 +203,7 @@ returns-3 c =
     let at = c .before in
     let b = begun at in
     let end : (b .args .port + 1) * b .args .s .row ≡ b .args .port * b .args .s .row + at .loop .column = omega (arith, at .loop .inv .0) in
-    record { yes = λ e. rw (← b .pre .laid .row-is, end) (at .loop .inv .1); no = λ e. absurd (true≢false e) }
+    record { yes = λ e. rw (← b .pre .marks .laid .row-is, end) (at .loop .inv .2); no = λ e. absurd (true≢false e) }
 
 pub port-passes-spec : {M : Type 1} → statement M
 port-passes-spec =

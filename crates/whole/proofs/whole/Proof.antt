@@ -9,6 +9,7 @@ use lib.ListN.{length}
 use Rattle.ledger.specs.declared.Finding.the-variants.{Whole}
 use Rattle.ledger.specs.Settings.{row}
 use Rattle.layout.specs.Tables.{lists, settingsOf}
+use Rattle.once.specs.Bits.{marksIn}
 use Rattle.once.specs.Once.{onceFound}
 use Rattle.fits.specs.declared.NodeRule.{NodeRule}
 use Rattle.fits.specs.declared.NodeRule.the-variants.{Record}
@@ -22,7 +23,8 @@ use Rattle.whole.proofs.whole.Statement.{statement}
 use Rattle.whole.proofs.whole.Tie as tie
 
 abbrev Inv-loop : tie.InvT-loop
-Inv-loop m s marks₀ sums₀ ports met₀ port₀ marks sums met port = (port ≤ ports) × AtList (settingsOf s) m marks sums (port * row (settingsOf s)) met
+Inv-loop m s marks₀ sums₀ ports met₀ port₀ marks sums met port =
+    (port ≤ ports) × (length marks ≡ length marks₀) × AtList (settingsOf s) m (marksIn (settingsOf s) marks) sums (port * row (settingsOf s)) met
 
 abbrev μ-loop : tie.MeasureT-loop
 μ-loop m s marks₀ sums₀ ports met₀ port₀ marks sums met port = ports - port
@@ -54,8 +56,7 @@ told-at c = c .before .before .before
 kept : (c : tie.At-loop Inv-loop μ-loop)
     → let a = begun c .args in (length (c .loop .marks) ≡ length (a .marks .now)) × (length (c .loop .sums) ≡ length (a .sums .now))
 kept c =
-    let b = lists-start (begun c .pre) refl in
-    (c .loop .inv .1 .scan .fits ∙ sym (b .scan .fits), c .loop .inv .1 .held .many ∙ sym (b .held .many))
+    (c .loop .inv .1, c .loop .inv .2 .held .many ∙ sym (lists-start (begun c .pre) refl .held .many))
 
 -- no list is left
 past : (c : tie.After-struct-known Inv-loop μ-loop)
@@ -64,15 +65,15 @@ past c = mul-le-mul-right (row (settingsOf (start c .args .s))) (c .before .befo
 
 once-kept : (c : tie.Else2 Inv-loop μ-loop)
     → let a = start (c .before) .args in onceFound (settingsOf (a .s)) (a .m .now) ≡ Whole
-once-kept c = end-once (ended (c .before) .loop .inv .1) (past (c .before)) (c .if2 .left ∙ start (c .before) .pre .laid .all-are)
+once-kept c = end-once (ended (c .before) .loop .inv .2) (past (c .before)) (c .if2 .left ∙ start (c .before) .pre .blank .marks .laid .all-are)
 
 fits-kept : (c : tie.Else2 Inv-loop μ-loop) (rule : NodeRule)
     → let a = start (c .before) .args in fitsFound rule (settingsOf (a .s)) (a .m .now) ≡ Whole
-fits-kept c = end-fits (ended (c .before) .loop .inv .1) (past (c .before))
+fits-kept c = end-fits (ended (c .before) .loop .inv .2) (past (c .before))
 
 sums-are : (c : tie.Else2 Inv-loop μ-loop)
     → let a = start (c .before) .args in ended (c .before) .loop .sums ≡ sumsOf (settingsOf (a .s)) (a .m .now)
-sums-are c = end-sums (ended (c .before) .loop .inv .1) (past (c .before))
+sums-are c = end-sums (ended (c .before) .loop .inv .2) (past (c .before))
 
 -- the sums that were lent are those of the memory
 due : (c : tie.After-first-due Inv-loop μ-loop)
@@ -83,20 +84,25 @@ due c =
 
 -- what (d) to (f) find from here on is what they find
 up-to : (c : tie.At-loop Inv-loop μ-loop) → FitsUpTo (settingsOf (begun c .args .s)) (begun c .args .m .now) (c .loop .port)
-up-to c = record { most = c .loop .inv .0; rest = c .loop .inv .1 .fits }
+up-to c = record { most = c .loop .inv .0; rest = c .loop .inv .2 .fits }
 
 -- the rules of lists are kept
 listed : (c : tie.Else2 Inv-loop μ-loop) → let a = start (c .before) .args in Listed (settingsOf (a .s)) (a .m .now)
-listed c = record { slots = end-slots (ended (c .before) .loop .inv .1) (past (c .before)); once = once-kept c; fits = fits-kept c }
+listed c = record { slots = end-slots (ended (c .before) .loop .inv .2) (past (c .before)); once = once-kept c; fits = fits-kept c }
 
 loop-holds : tie.Need-loop-holds Inv-loop μ-loop
-loop-holds c = (omega arith, lists-start (c .before .before .before .pre) (omega arith))
+loop-holds c = (omega arith, refl, lists-start (c .before .before .before .pre) (omega arith))
 
 port-passes-requires : tie.Need-port-passes-requires Inv-loop μ-loop
 port-passes-requires c κs =
     let at = c .before .before .before .before in
     let p = begun at .pre in
-    record { laid = p .laid; long = p .long; inside = c .before .before .before .loop-test .taken; stands = at .loop .inv .1 }
+    record {
+      marks = record { laid = p .blank .marks .laid; room = rw (at .loop .inv .1) (p .blank .marks .room) };
+      long = p .blank .long;
+      inside = c .before .before .before .loop-test .taken;
+      stands = at .loop .inv .2;
+    }
 
 same-length : tie.Need-same-length Inv-loop μ-loop
 same-length c = let w = walked (c .before) in w .port-passes .kept .1 .1 .1 .0 ∙ kept (at-port w) .0
@@ -110,13 +116,15 @@ returns c =
     (w .port-passes .ensures .no (not-true _ (c .if1 .taken)), up-to (at-port w))
 
 add-port : tie.Need-add-port Inv-loop μ-loop
-add-port c = omega (arith, begun (at-port (walked (c .before))) .pre .laid .roomy)
+add-port c = omega (arith, begun (at-port (walked (c .before))) .pre .blank .marks .laid .roomy)
 
 loop-less : tie.Need-loop-less Inv-loop μ-loop
 loop-less c = omega arith
 
 loop-again : tie.Need-loop-again Inv-loop μ-loop
-loop-again c = (omega arith, walked (c .before) .port-passes .ensures .yes (not-false _ (c .if1 .left)))
+loop-again c =
+    let w = walked (c .before) in
+    (omega arith, w .port-passes .kept .1 .1 .1 .0 ∙ kept (at-port w) .0, w .port-passes .ensures .yes (not-false _ (c .if1 .left)))
 
 same-length-3 : tie.Need-same-length-3 Inv-loop μ-loop
 same-length-3 c = kept (ended (c .before)) .0
@@ -126,18 +134,18 @@ same-length-4 c = kept (ended (c .before)) .1
 
 returns-2 : tie.Need-returns-2 Inv-loop μ-loop
 returns-2 c =
-    let all-are = start (c .before) .pre .laid .all-are in
+    let all-are = start (c .before) .pre .blank .marks .laid .all-are in
     let e = ended (c .before) in
-    (end-left (e .loop .inv .1) (past (c .before)) (λ d. c .if2 .taken (d ∙ sym all-are)), up-to e)
+    (end-left (e .loop .inv .2) (past (c .before)) (λ d. c .if2 .taken (d ∙ sym all-are)), up-to e)
 
 first-due-requires : tie.Need-first-due-requires Inv-loop μ-loop
 first-due-requires c κs =
     let e = c .before in
     let p = start (e .before) .pre in
     record {
-      laid = p .laid;
-      long = p .long;
-      held = rw (sums-are e) (sums-held _ _ (payable _ _ (p .long) (once-kept e) (fits-kept e Record)) (p .laid .roomy));
+      laid = p .blank .marks .laid;
+      long = p .blank .long;
+      held = rw (sums-are e) (sums-held _ _ (payable _ _ (p .blank .long) (once-kept e) (fits-kept e Record)) (p .blank .marks .laid .roomy));
     }
 
 enum-known-c : tie.Need-enum-known-c Inv-loop μ-loop
