@@ -1,5 +1,5 @@
 -- A search for the first number that does not pass: its steps, and what it means that there is none. Assumes nothing.
-use mathlib.Core.Path.{_≡_, refl, ap, _∙_}
+use mathlib.Core.Path.{_≡_, refl, ap, _∙_, subst}
 use mathlib.Core.Logic.{_↔_}
 use mathlib.Core.Bool.{Bool, true, false, cond}
 use Prim.Native.Nat.{ℕ, zero, suc, _+_, _-_, _≤_, _<_, zero-le}
@@ -81,8 +81,12 @@ pub record Searching (ok : ℕ → Bool) (n i : ℕ) : Type 0 where
   pub low : i ≤ n
   pub rest : first ok n ≡ firstFrom ok i (n - i)
 
+pub first-none : (ok : ℕ → Bool) → first ok 0 ≡ Whole
+unfolding firstFrom
+first-none ok = refl
+
 module _ (ok : ℕ → Bool) (n : ℕ) where
-  pub search-start : Searching ok n 0
+  search-start : Searching ok n 0
   search-start = record { low = zero-le; rest = let e : n ≡ n - 0 = omega arith in ap (firstFrom ok 0) e }
 
   module _ (i : ℕ) (s : Searching ok n i) where
@@ -94,3 +98,11 @@ module _ (ok : ℕ → Bool) (n : ℕ) where
 
     pub search-none : n ≤ i → first ok n ≡ Whole
     search-none h = s .rest ∙ first-end ok n i h
+
+  -- it may begin behind numbers that pass
+  pub search-from : (i : ℕ) → i ≤ n → first ok i ≡ Whole → Searching ok n i
+  search-from zero h e = search-start
+  search-from (suc i) h e =
+      let each = first-all ok (suc i) .0 e in
+      subst (Searching ok n) (add-one i)
+      (search-next i (search-from i (omega arith) (first-all ok i .1 (λ k l. each k (omega arith)))) (omega arith) (each i (omega arith)))

@@ -1,11 +1,13 @@
 -- Rule (b), item by item: the numbers of the columns that are tested, then the prefetch lists, port by port and queue by queue.
 -- Assumes nothing.
+use mathlib.Core.Path.{_≡_}
 use mathlib.Core.Bool.{Bool, cond, _||_}
 use mathlib.Core.List.{List, [], _∷_}
 use Prim.Native.Nat.{ℕ, zero, suc, _+_, _-_, _*_, _/_, _%_, _≤_, _<_}
 use lib.ListN.{length}
 use lib.Dec.{ltb, leb}
 use Rattle.ledger.specs.declared.Finding.{Finding}
+use Rattle.ledger.specs.declared.Finding.the-variants.{Whole}
 use Rattle.ledger.specs.Settings.{Settings, row, size}
 use Rattle.ledger.specs.Ledger.{prefetched, place#, Column, last, mapped, tall, bound}
 use Rattle.ledger.specs.Sound.{sum}
@@ -64,3 +66,10 @@ pub record Held (s : Shape) (m : List ℕ) : Type 0 where
 pub record Item (s : Shape) (m : List ℕ) (i : ℕ) : Type 0 where
   pub held : Held s m
   pub low : i < items (settingsOf s)
+
+-- the first n of its items, of which those before i are in range
+pub record Sought (s : Shape) (m : List ℕ) (i n : ℕ) : Type 0 where
+  pub held : Held s m
+  pub here : i ≤ n
+  pub most : n ≤ items (settingsOf s)
+  pub before : first (fitsAt (settingsOf s) m) i ≡ Whole

@@ -16,7 +16,7 @@ ghost use Rattle.layout.specs.Access.{Reads};
 ghost use Rattle.layout.specs.Picture.{settingsIn};
 ghost use Rattle.ranges.specs.First.{first};
 ghost use Rattle.ranges.specs.Opening.{opened};
-ghost use Rattle.ranges.specs.Ranges.{low, items, higher, highest, fitsAt, prefetchAt, fewAt, rangesFound, Held, Item};
+ghost use Rattle.ranges.specs.Ranges.{low, higher, highest, fitsAt, prefetchAt, fewAt, rangesFound, Held, Item, Sought};
 
 // What a memory is opened as: rule (a) holds, and the state has this shape; or it doesn't hold, and this item shows it.
 pub enum Opened {
@@ -125,12 +125,13 @@ pub fn few_enough(s: Shape, column: usize, count: u32) -> bool
     held <= s.slots
 }
 
-// The first of the first n items that is out of range: the marks and the map come first, so they can be tested by themselves.
-fn first_outside(m: &[u8], s: Shape, n: usize) -> Finding
-    requires { ⌜ Held s (now m) × (n ≤ items (settingsOf s)) ⌝ }
+// The first of the first n items that is out of range, where those before `from` are known to be in range: the marks and the map come
+// first, so they can be tested by themselves.
+fn first_outside(m: &[u8], s: Shape, from: usize, n: usize) -> Finding
+    requires { ⌜ Sought s (now m) from n ⌝ }
     ensures { λ r. ⌜ r ≡ first (fitsAt (settingsOf s) (now (m .entry))) n ⌝ }
 {
-    let mut i = 0;
+    let mut i = from;
     while i < n {
         if !in_range(m, s, i) {
             return Finding::At(i);
@@ -169,16 +170,19 @@ pub fn number_outside(m: &[u8], s: Shape) -> Finding
     let ports = s.ports;
     let top = highest_entry(m, s) as usize;
     if top < ports {
-        return first_outside(m, s, ports);
+        return first_outside(m, s, 0, ports);
     }
-    first_outside(m, s, numbers(s))
+    first_outside(m, s, 0, numbers(s))
 }
 
-// Rule (b): the first item that is out of range.
+// Rule (b): the first item that is out of range. The numbers are asked first, since the map is tested in wide steps.
 pub fn ranges(m: &[u8], s: Shape) -> Finding
     requires { ⌜ Held s (now m) ⌝ }
     ensures { λ r. ⌜ r ≡ rangesFound (settingsOf s) (now (m .entry)) ⌝ }
 {
-    let n = numbers(s) + s.ports * s.queues;
-    first_outside(m, s, n)
+    if let Finding::At(i) = number_outside(m, s) {
+        return Finding::At(i);
+    }
+    let from = numbers(s);
+    first_outside(m, s, from, from + s.ports * s.queues)
 }

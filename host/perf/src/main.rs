@@ -448,28 +448,69 @@ fn processor() -> String {
         .unwrap_or_else(|| "an unknown processor".into())
 }
 
+/// The parts, by the names under which they can be asked for.
+const PARTS: [&str; 8] = [
+    "checksum", "headers", "test", "night", "calls", "traffic", "acts", "round",
+];
+
+/// What is asked for: all parts, or those that the command line names.
+fn asked() -> Vec<String> {
+    let named: Vec<String> = std::env::args().skip(1).collect();
+    if let Some(other) = named.iter().find(|n| !PARTS.contains(&n.as_str())) {
+        eprintln!("perf: no part '{other}'; there are {}", PARTS.join(", "));
+        std::process::exit(2);
+    }
+    match named.is_empty() {
+        true => PARTS.map(String::from).to_vec(),
+        false => named,
+    }
+}
+
 fn main() {
     if cfg!(debug_assertions) {
         eprintln!("perf: build it optimised, with --release");
         std::process::exit(2);
     }
+    let asked = asked();
+    let has = |part: &str| asked.iter().any(|a| a == part);
     SWITCHES.into_iter().for_each(same_work);
     println!("On {}, in one process.\n", processor());
-    the_checksum();
-    headers::each_form();
+    if has("checksum") {
+        the_checksum();
+    }
+    if has("headers") {
+        headers::each_form();
+    }
     for shape in SWITCHES {
+        of_a_switch(shape, &has);
+    }
+}
+
+/// The parts that are about a switch.
+fn of_a_switch(shape: Shape, has: &dyn Fn(&str) -> bool) {
+    if has("test") {
         the_test_for_a_state(shape);
+    }
+    if has("night") {
         night::on_sound_images(shape);
         night::on_images_broken_late(shape);
+    }
+    if has("calls") {
         each_call_through_c(shape);
+    }
+    if has("traffic") {
         heading(
             "Whole public calls on the same valid traffic, ns a call",
             shape,
         );
         beside_the_model(shape, single, quick);
+    }
+    if has("acts") {
         let what = "The acts without the test on the same valid traffic, ns a call";
         heading(what, shape);
         beside_the_model(shape, acts::has_act, bare_act);
+    }
+    if has("round") {
         rounds::a_round(shape);
     }
 }

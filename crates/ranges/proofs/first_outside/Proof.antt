@@ -5,21 +5,21 @@ use native.Mathlib.Omega.{arith}
 use borrow.Author.Tests.{not-true, not-false}
 use Rattle.layout.specs.Tables.{settingsOf}
 use Rattle.ranges.specs.Ranges.{fitsAt}
-use Rattle.ranges.proofs.First.{Searching, search-start, search-next, search-at, search-none}
+use Rattle.ranges.proofs.First.{Searching, search-from, search-next, search-at, search-none}
 use Rattle.ranges.proofs.first_outside.Statement.{statement}
 use Rattle.ranges.proofs.first_outside.Tie as tie
 
 abbrev Inv-loop : tie.InvT-loop
-Inv-loop m s n i₀ i = Searching (fitsAt (settingsOf s) m) n i
+Inv-loop m s from n i₀ i = Searching (fitsAt (settingsOf s) m) n i
 
 abbrev μ-loop : tie.MeasureT-loop
-μ-loop m s n i₀ i = n - i
+μ-loop m s from n i₀ i = n - i
 
 loop-holds : tie.Need-loop-holds Inv-loop μ-loop
-loop-holds c = search-start _ _
+loop-holds c = let p = c .before .pre in search-from _ _ _ (p .here) (p .before)
 
 in-range-requires : tie.Need-in-range-requires Inv-loop μ-loop
-in-range-requires c κs = record { held = c .before .before .before .pre .0; low = omega arith }
+in-range-requires c κs = record { held = c .before .before .before .pre .held; low = omega (arith, c .before .before .before .pre .most) }
 
 returns : tie.Need-returns Inv-loop μ-loop
 returns c =
