@@ -86,7 +86,7 @@ unfolding firstFrom
 first-none ok = refl
 
 module _ (ok : ℕ → Bool) (n : ℕ) where
-  search-start : Searching ok n 0
+  pub search-start : Searching ok n 0
   search-start = record { low = zero-le; rest = let e : n ≡ n - 0 = omega arith in ap (firstFrom ok 0) e }
 
   module _ (i : ℕ) (s : Searching ok n i) where

@@ -20,7 +20,7 @@ use Rattle.layout.specs.Tables.{tableOf, lists, get}
 use Rattle.layout.specs.Picture.{ledgerIn}
 use Rattle.layout.proofs.Tables.{get-lt}
 use Rattle.memory.proofs.Chains.{getD-table, list-length}
-use Rattle.ranges.specs.Ranges.{prefetchAt, narrow, low, items, fitsIn, fitsAt, rangesFound}
+use Rattle.ranges.specs.Ranges.{prefetchAt, bounded, low, items, fitsIn, fitsAt, rangesFound}
 use Rattle.ranges.proofs.First.{first-all}
 
 pub few-items : (S : Settings) → Roomy S → S .ports * S .queues ≤ 2048
@@ -42,10 +42,10 @@ module _ (S : Settings) (m : List ℕ) where
   in-column [] ds c i h = rw (zero-add i, ltb-is i (tall S c) h)
   in-column (b ∷ cs) ds c i h = beyond b (cs ++ (c ∷ ds)) _ (sum (tall S) cs + i) (omega arith) ∙ in-column cs ds c i h
 
-  pub fits-number : (cs ds : List Column) (c : Column) → cs ++ (c ∷ ds) ≡ narrow → (k i : ℕ) → k ≡ sum (tall S) cs + i → i < tall S c
+  pub fits-number : (cs ds : List Column) (c : Column) → cs ++ (c ∷ ds) ≡ bounded → (k i : ℕ) → k ≡ sum (tall S) cs + i → i < tall S c
       → fitsAt S m k ≡ ltb (get S m (tableOf c) i) (bound S c)
   unfolding fitsAt
-  fits-number cs ds c e k i d h = ap (fitsIn S m narrow) d ∙ ap (λ (bs : List Column). fitsIn S m bs (sum (tall S) cs + i)) (sym e) ∙ in-column cs ds c i h
+  fits-number cs ds c e k i d h = ap (fitsIn S m bounded) d ∙ ap (λ (bs : List Column). fitsIn S m bs (sum (tall S) cs + i)) (sym e) ∙ in-column cs ds c i h
 
   past-all : (cs : List Column) (j : ℕ) → fitsIn S m cs (sum (tall S) cs + j) ≡ leb (get S m Count (prefetchAt S j)) (S .slots)
   past-all [] j = rw (zero-add j)
@@ -53,7 +53,7 @@ module _ (S : Settings) (m : List ℕ) where
 
   pub fits-list : (k j : ℕ) → k ≡ low S + j → fitsAt S m k ≡ leb (get S m Count (prefetchAt S j)) (S .slots)
   unfolding fitsAt
-  fits-list k j e = ap (fitsIn S m narrow) e ∙ past-all narrow j
+  fits-list k j e = ap (fitsIn S m bounded) e ∙ past-all bounded j
 
   -- ---- the prefetch lists
 
@@ -89,7 +89,7 @@ module _ (S : Settings) (m : List ℕ) where
     }
       where
         -- a number that is tested, by the columns before its own; one that isn't, by the bytes that hold it
-        tested : (cs ds : List Column) (c : Column) → cs ++ (c ∷ ds) ≡ narrow → (i : ℕ) → i < tall S c → sum (tall S) cs + i < items S
+        tested : (cs ds : List Column) (c : Column) → cs ++ (c ∷ ds) ≡ bounded → (i : ℕ) → i < tall S c → sum (tall S) cs + i < items S
             → get S m (tableOf c) i < bound S c
         tested cs ds c e i h k = ltb-yes _ _ (sym (fits-number cs ds c e _ i refl h) ∙ ok (sum (tall S) cs + i) k)
 
@@ -101,7 +101,7 @@ module _ (S : Settings) (m : List ℕ) where
 
     holds : InRange S (ledgerIn S m) → (k : ℕ) → k < items S → fitsAt S m k ≡ true
     unfolding fitsAt
-    holds I = go narrow
+    holds I = go bounded
       where
         slots : (j : ℕ) → length (listAt S (ledgerIn S m) (prefetched (j / S .queues) (j % S .queues))) ≤ S .slots
             → length (getD (ledgerIn S m .lists) (prefetchAt S j) []) ≤ S .slots

@@ -21,12 +21,12 @@ unfoldable pub prefetchAt : Settings → ℕ → ℕ
 prefetchAt S j = place# S (prefetched (j / S .queues) (j % S .queues))
 
 -- the columns whose numbers can be out of range in the bytes that hold them: credits can't
-abbrev pub narrow : List Column
-narrow = last ∷ mapped ∷ []
+abbrev pub bounded : List Column
+bounded = last ∷ mapped ∷ []
 
 -- how many numbers they have, and how many items there are
 abbrev pub low : Settings → ℕ
-low S = sum (tall S) narrow
+low S = sum (tall S) bounded
 
 abbrev pub items : Settings → ℕ
 items S = low S + S .ports * S .queues
@@ -37,7 +37,7 @@ fitsIn S m [] i = leb (get S m Count (prefetchAt S i)) (S .slots)
 fitsIn S m (c ∷ cs) i = cond (ltb i (tall S c)) (ltb (get S m (tableOf c) i) (bound S c)) (fitsIn S m cs (i - tall S c))
 
 unfoldable pub fitsAt : Settings → List ℕ → ℕ → Bool
-fitsAt S m = fitsIn S m narrow
+fitsAt S m = fitsIn S m bounded
 
 -- the highest of the numbers f 0, f 1, .. : n of them; 0 where there are none
 abbrev pub higher : ℕ → ℕ → ℕ

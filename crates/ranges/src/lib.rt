@@ -71,7 +71,7 @@ fn prefetch_list(s: Shape, j: usize) -> usize
 }
 
 // How many items are numbers: the ports' marks, and the map's entries.
-fn numbers(s: Shape) -> usize
+fn number_items(s: Shape) -> usize
     requires { ⌜ Laid s ⌝ }
     ensures { λ r. ⌜ r ≡ low (settingsOf s) ⌝ }
 {
@@ -104,7 +104,7 @@ fn in_range(m: &[u8], s: Shape, i: usize) -> bool
     requires { ⌜ Item s (now m) i ⌝ }
     ensures { λ r. ⌜ r ≡ fitsAt (settingsOf s) (now (m .entry)) i ⌝ }
 {
-    let n = numbers(s);
+    let n = number_items(s);
     if i < n {
         return number_in_range(m, s, i);
     }
@@ -172,7 +172,7 @@ pub fn number_outside(m: &[u8], s: Shape) -> Finding
     if top < ports {
         return first_outside(m, s, 0, ports);
     }
-    first_outside(m, s, 0, numbers(s))
+    first_outside(m, s, 0, number_items(s))
 }
 
 // Rule (b): the first item that is out of range. The numbers are asked first, since the map is tested in wide steps.
@@ -183,6 +183,6 @@ pub fn ranges(m: &[u8], s: Shape) -> Finding
     if let Finding::At(i) = number_outside(m, s) {
         return Finding::At(i);
     }
-    let from = numbers(s);
+    let from = number_items(s);
     first_outside(m, s, from, from + s.ports * s.queues)
 }

@@ -24,14 +24,14 @@ first-outside-requires-2 : tie.Need-first-outside-requires-2
 first-outside-requires-2 c κs = record {
   held = c .before .before .before .before .pre;
   here = zero-le;
-  most = omega (arith, c .numbers .ensures);
+  most = omega (arith, c .number-items .ensures);
   before = first-none _;
 }
 
 returns-2 : tie.Need-returns-2
 returns-2 c =
     let a = c .before .before .before .before .before .args in
-    c .first-outside2 .ensures ∙ ap (λ (n : ℕ). first (fitsAt (settingsOf (a .s)) (a .m .now)) n) (c .before .numbers .ensures)
+    c .first-outside2 .ensures ∙ ap (λ (n : ℕ). first (fitsAt (settingsOf (a .s)) (a .m .now)) n) (c .before .number-items .ensures)
 
 pub number-outside-spec : {M : Type 1} → statement M
 number-outside-spec =

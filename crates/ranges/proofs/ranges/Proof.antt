@@ -27,8 +27,8 @@ returns c =
 enum-told : tie.Need-enum-told
 enum-told c = search needs
 
-numbers-requires : tie.Need-numbers-requires
-numbers-requires c κs = search needs
+number-items-requires : tie.Need-number-items-requires
+number-items-requires c κs = search needs
 
 -- when the lists are next
 abbrev begun : tie.After-struct-known → tie.Start
@@ -38,12 +38,12 @@ mul-first-outside : tie.Need-mul-first-outside
 mul-first-outside c = omega (arith, few-items _ (begun c .pre .laid .roomy))
 
 add-first-outside : tie.Need-add-first-outside
-add-first-outside c = omega (arith, c .before .numbers .ensures, few-items _ (begun c .pre .laid .roomy))
+add-first-outside c = omega (arith, c .before .number-items .ensures, few-items _ (begun c .pre .laid .roomy))
 
 first-outside-requires : tie.Need-first-outside-requires
 first-outside-requires c κs =
     let b = begun c in
-    let n = c .before .numbers .ensures in
+    let n = c .before .number-items .ensures in
     let told = c .before .before in
     record {
       held = b .pre;
@@ -58,7 +58,7 @@ returns-2 c =
     let k = c .before in
     let b = begun k in
     let S = settingsOf (b .args .s) in
-    c .first-outside .ensures ∙ ap (λ (n : ℕ). first (fitsAt S (b .args .m .now)) (n + S .ports * S .queues)) (k .before .numbers .ensures)
+    c .first-outside .ensures ∙ ap (λ (n : ℕ). first (fitsAt S (b .args .m .now)) (n + S .ports * S .queues)) (k .before .number-items .ensures)
 
 pub ranges-spec : {M : Type 1} → statement M
 ranges-spec =
@@ -68,7 +68,7 @@ ranges-spec =
     enum-known-i
     returns
     enum-told
-    numbers-requires
+    number-items-requires
     mul-first-outside
     add-first-outside
     first-outside-requires
