@@ -1,0 +1,80 @@
+/* How much stack the calls take: each runs in a thread whose stack was painted before, and what it painted over is told. At the top of the
+ * repository, after tools/staticlib capi:
+ *
+ *     cc -O2 -Iinclude tools/stack.c -Ltarget/staticlib -lcapi -lpthread -o target/stack && target/stack
+ */
+#include <pthread.h>
+#include <stdint.h>
+#include <stdio.h>
+#include <stdlib.h>
+#include <string.h>
+#include "ventorupo.h"
+
+enum { ROOM = 1 << 20, PAINT = 0xA5 };
+
+static struct vr_settings settings;
+static uint8_t *memory, *lent;
+static size_t memory_len, lent_len;
+static uint8_t header[12];
+static uint32_t header_len;
+static uint8_t *top;
+
+static void nothing(void) {}
+static void setup(void) { vr_setup(memory, memory_len, &settings); }
+static void arrive(void) { uint16_t entry; vr_arrive(memory, memory_len, 0, header, header_len, &entry); }
+static void turn(void) { uint8_t sent[16]; vr_turn(memory, memory_len, 0, sent); }
+static void round_(void) { vr_round(memory, memory_len, lent, lent_len); }
+static void audit(void) { vr_audit(memory, memory_len, lent, lent_len); }
+static void find(void) { uint32_t rule; uint64_t item; vr_find(memory, memory_len, &rule, &item); }
+static void repair(void) { vr_repair(memory, memory_len); }
+
+static void *run(void *call) {
+    uint8_t here;
+    top = &here;
+    ((void (*)(void))call)();
+    return NULL;
+}
+
+static size_t taken(void (*call)(void)) {
+    uint8_t *stack = aligned_alloc(4096, ROOM);
+    pthread_attr_t attr;
+    pthread_t thread;
+    size_t low = 0;
+    if (!stack) abort();
+    memset(stack, PAINT, ROOM);
+    pthread_attr_init(&attr);
+    if (pthread_attr_setstack(&attr, stack, ROOM) || pthread_create(&thread, &attr, run, (void *)call)) abort();
+    pthread_join(thread, NULL);
+    while (low < ROOM && stack[low] == PAINT) low++;
+    low = (size_t)(top - (stack + low));
+    free(stack);
+    return low;
+}
+
+int main(void) {
+    static const struct vr_settings shapes[] = {
+        {.nodes = 1, .beat = 64, .slots = 8, .credit = 5000, .ports = 4, .queues = 24, .edition = VR_TEN_BYTES},
+        {.nodes = 2048, .beat = 64, .slots = 8, .credit = 5000, .ports = 32, .queues = 64, .edition = VR_WIDE},
+    };
+    for (size_t i = 0; i < sizeof shapes / sizeof *shapes; i++) {
+        struct vr_header h = {.source = 0, .queue = 1, .length = 64};
+        settings = shapes[i];
+        memory_len = (size_t)vr_size(&settings);
+        lent_len = 8 * (size_t)settings.ports * settings.nodes + 4 * settings.ports;
+        memory = calloc(memory_len, 1);
+        lent = calloc(lent_len, 1);
+        if (!memory || !lent || vr_write_header(settings.edition, settings.ports, settings.queues, &h, header, &header_len)) abort();
+        printf("%u ports, %u queues, %u nodes a port\n", settings.ports, settings.queues, settings.nodes);
+        size_t bare = taken(nothing);
+        setup();
+        printf("  setup %zu, arrive %zu, turn %zu, round %zu, audit %zu", taken(setup) - bare, taken(arrive) - bare, taken(turn) - bare,
+               taken(round_) - bare, taken(audit) - bare);
+        printf(", find %zu", taken(find) - bare);
+        memory[memory_len / 2] ^= 0x55;
+        memory[memory_len - 9] ^= 0x55;
+        printf(", find on a broken one %zu, repair %zu\n", taken(find) - bare, taken(repair) - bare);
+        free(memory);
+        free(lent);
+    }
+    return 0;
+}
