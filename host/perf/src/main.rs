@@ -118,9 +118,12 @@ fn walk(memory: &[u8], tables: &Tables, mut sum: u64) -> u64 {
 /// Nanoseconds for each of some works on a memory of these tables, at its best.
 /// They take turns, so that all meet the same weather.
 fn in_turns<const K: usize>(tables: &Tables, mut works: [&mut dyn FnMut(); K]) -> [f64; K] {
-    let times = (32_000 / (tables.ports * (40 + tables.nodes))).max(1);
+    let elements = tables.ports * (40 + tables.nodes);
+    let times = (32_000 / elements).max(1);
+    // Of the largest switches a sample takes long, and fewer do.
+    let samples = (SAMPLES * 8_000 / elements).clamp(SAMPLES / 6, SAMPLES);
     let mut least = [f64::INFINITY; K];
-    for _ in 0..SAMPLES {
+    for _ in 0..samples {
         for (least, work) in least.iter_mut().zip(&mut works) {
             let spent = timed(|| (0..times).for_each(|_| work()));
             *least = least.min(spent / times as f64);
