@@ -46,8 +46,8 @@
  * uint16_t, uint32_t, uint64_t and the structs are aligned; the memories lent to one call do not overlap; and no two calls run at once on a
  * memory that one of them may change.
  *
- * A call takes up to 82,718 bytes of stack, a finding up to 148,254, whatever the settings (measured on x86-64, not proved): the test for a
- * state keeps a mark for each of up to 65,536 nodes there, and a sum for each port and queue but 0.
+ * A call takes up to 25,374 bytes of stack, a finding up to 33,566, whatever the settings (measured on x86-64 by tools/stack.c, not proved):
+ * the test for a state keeps a mark for each of up to 65,536 nodes there, and a sum for each port and queue but 0.
  *
  * Numbers, and structs of numbers, are the machine's own; the rooms of bytes are big-endian.
  *
@@ -172,7 +172,7 @@ void vr_find(const uint8_t *mem, size_t len, uint32_t *rule, uint64_t *item);
 
 /* Writes the starting ledger for the settings that the memory has, and keeps its map, but for entries above the last port, which become 0:
  * also over a sound ledger, whose packets are lost. Refused 3 exactly where rule (a) is broken: a setting not in its row, or memory too
- * short for its settings. */
+ * short for its settings. Not for an image of before the wide headers: set that up afresh, since its older tables could pass for a map. */
 uint32_t vr_repair(uint8_t *mem, size_t len);
 
 /* Reads a header of a switch of this edition and so many ports and queues, and writes what it says. Source and destination are judged by
