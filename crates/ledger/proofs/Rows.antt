@@ -200,6 +200,16 @@ module _ (S : Settings) (h : inRows S ≡ true) where
 
 -- ---- the bytes of a state
 
+-- four ports of 24 queues, in either edition: sixteen bytes of settings, 4,096 of the map, four marks, 92 cells of 4, 200 lists of 8, and 52
+-- for each node index
+pub size-ten : (S : Settings) → S .ports ≡ 4 → S .queues ≡ 24 → size S ≡ 6084 + 52 * S .nodes
+unfolding size row
+size-ten S p q = rw (p, q) (omega arith)
+
+-- at most 64 bytes for each node above 256, over all ports together
+pub size-ten-bound : (S : Settings) → S .ports ≡ 4 → S .queues ≡ 24 → size S ≤ 65536 + 64 * (S .nodes - 256)
+size-ten-bound S p q = omega (arith, size-ten S p q)
+
 -- what a port takes of them, for so many queues and nodes
 abbrev pub portSize : ℕ → ℕ → ℕ
 portSize q n = 13 + (20 * q + 13 * n)
@@ -218,16 +228,6 @@ size-is S some =
       mul-left-comm (S .ports) 2 (S .queues),
       mul-left-comm (S .ports) 13 (S .nodes),
     )
-
--- four ports of 24 queues, in either edition: sixteen bytes of settings, 4,096 of the map, four marks, 92 cells of 4, 200 lists of 8, and 52
--- for each node index
-pub size-ten : (S : Settings) → S .ports ≡ 4 → S .queues ≡ 24 → size S ≡ 6084 + 52 * S .nodes
-unfolding size row
-size-ten S p q = rw (p, q) (omega arith)
-
--- at most 64 bytes for each node above 256, over all ports together
-pub size-ten-bound : (S : Settings) → S .ports ≡ 4 → S .queues ≡ 24 → size S ≤ 65536 + 64 * (S .nodes - 256)
-size-ten-bound S p q = omega (arith, size-ten S p q)
 
 -- it rises in each count
 pub size-rises : (S T : Settings) → Roomy S → Roomy T
