@@ -198,16 +198,17 @@ module _ (S : Settings) (h : inRows S ≡ true) where
       let q = queues-range (S .edition) (S .queues) (rows .are-queues) in
       omega arith
 
-  -- four ports of 24 queues: sixteen bytes of settings, 4,096 of the map, four marks, 92 cells of 4, 200 lists of 8, and 52 for each node index
-  pub size-ten : S .edition ≡ tenBytes → size S ≡ 6084 + 52 * S .nodes
-  unfolding size row
-  size-ten e = rw (ten-byte-counts e .0, ten-byte-counts e .1) (omega arith)
-
-  -- at most 64 bytes for each node above 256, over all ports together
-  pub size-ten-bound : S .edition ≡ tenBytes → size S ≤ 65536 + 64 * (S .nodes - 256)
-  size-ten-bound e = let r = rows in omega (arith, size-ten e)
-
 -- ---- the bytes of a state
+
+-- four ports of 24 queues, in either edition: sixteen bytes of settings, 4,096 of the map, four marks, 92 cells of 4, 200 lists of 8, and 52
+-- for each node index
+pub size-ten : (S : Settings) → S .ports ≡ 4 → S .queues ≡ 24 → size S ≡ 6084 + 52 * S .nodes
+unfolding size row
+size-ten S p q = rw (p, q) (omega arith)
+
+-- at most 64 bytes for each node above 256, over all ports together
+pub size-ten-bound : (S : Settings) → S .ports ≡ 4 → S .queues ≡ 24 → size S ≤ 65536 + 64 * (S .nodes - 256)
+size-ten-bound S p q = omega (arith, size-ten S p q)
 
 -- what a port takes of them, for so many queues and nodes
 abbrev pub portSize : ℕ → ℕ → ℕ

@@ -28,7 +28,7 @@ abbrev pub zeros : ℕ → List ℕ
 zeros zero = []
 zeros (suc n) = 0 ∷ zeros n
 
--- a setup of this build's ports and queues
+-- a setup of the ten-byte edition
 abbrev pub setUp : ℕ → ℕ → ℕ → ℕ → Call
 setUp N b D K = setup (settings N b D K)
 
@@ -166,6 +166,23 @@ wide-rows =
     ∷ setup (record { ports = 4; queues = 24; nodes = 1; beat = 64; slots = 2; credit = 0; edition = wide; packets = 1 }) ∷ [])
     (refused 2 ∷ refused 2 ∷ refused 2 ∷ refused 2 ∷ done ∷ done ∷ refused 15 ∷ done ∷ refused 2 ∷ refused 2 ∷ refused 2 ∷ [])
 
+-- a wide header of five ports and 17 queues, which take 3 bits and 5: the front of four bytes with seven zeros to spare, then the timestamp,
+-- two bytes of credit on offer and the transaction; flags: 128 poisoned, below it the reserved bits
+abbrev pub wideHeader : ℕ → ℕ → ℕ → ℕ → ℕ → List ℕ
+wideHeader dest source queue len flags =
+    sealed ((dest * 32 + source * 4 + queue / 8) ∷ (queue % 8 * 32 + len / 256) ∷ len % 256 ∷ flags ∷ 1 ∷ 2 ∷ 3 ∷ 4 ∷ 5 ∷ 6 ∷ 171 ∷ [])
+
+-- Such headers at the desk: ten bytes, a reserved bit, a source that is no port, a length one under the least and a queue that the switch
+-- doesn't have are refused; one of the last queue, from the last port and of the least length, crosses with all its fields.
+abbrev pub wide-arrivals : Card
+wide-arrivals =
+    says (setUpWide 5 17 1 1 ∷ act (mapTo 7 3) ∷ act (arrive 4 twelve) ∷ act (arrive 4 (wideHeader 7 4 16 14 129))
+    ∷ act (arrive 4 (wideHeader 7 7 16 14 128)) ∷ act (arrive 4 (wideHeader 7 4 16 13 128)) ∷ act (arrive 4 (wideHeader 7 4 17 14 128))
+    ∷ act (arrive 4 (wideHeader 7 4 16 14 128)) ∷ act (stitch 4) ∷ act (prefetch 3 16) ∷ act (credit 3 16 1) ∷ act (turn 3) ∷ [])
+    (done ∷ done ∷ refused 6 ∷ refused 20 ∷ refused 8 ∷ refused 9 ∷ refused 19
+    ∷ entry 8192 ∷ stitched (32 ∷ 0 ∷ 0 ∷ 14 ∷ 16 ∷ 3 ∷ 1 ∷ 2 ∷ 3 ∷ 4 ∷ []) ∷ entry 8192 ∷ done
+    ∷ leaves (record { node = 8192; len = 14; queue = 16; dest = 7; stamp = 0x01020304; poisoned = 1; transaction = 171; price = 1 }) outside ∷ [])
+
 -- before a round: one of queue 0 has come in at port 0, two of queue 5 for port 2 at port 1, with outward credit for one of them, and one of
 -- the last queue for port 3 at port 2
 abbrev pub waiting : List Call
@@ -210,7 +227,7 @@ cards =
     ∷ act (arrive 0 (header 0 0 31 12)) ∷ act (arrive 0 (sealed (nine 0 0 23 12 2))) ∷ [])
     (done ∷ refused 20 ∷ refused 19 ∷ refused 19 ∷ entry 0 ∷ [])
     ∷ one-by-one 24 ∷ one-by-one 31
-    ∷ crossing ∷ wide-rows
+    ∷ crossing ∷ wide-rows ∷ wide-arrivals
     ∷ rounds [] (zeros 15) (refused 3) (zeros 15)
     ∷ rounds (setUp 2 64 1 0 ∷ act (arrive 1 (header 0 1 0 12)) ∷ act (arrive 0 twelve) ∷ []) (zeros 16) done
     (0 ∷ 0 ∷ 0 ∷ 0 ∷ 0 ∷ 1 ∷ 0 ∷ 0 ∷ 0 ∷ 1 ∷ 0 ∷ 0 ∷ 0 ∷ 1 ∷ 0 ∷ 0 ∷ [])

@@ -23,7 +23,7 @@ abbrev pub isSetup : Call → Bool
 isSetup (setup T) = true
 isSetup (act a) = false
 
--- memory of n bytes: a setting not in its row, then memory shorter than N needs
+-- memory of n bytes: a setting not in its row, then memory shorter than its settings need
 abbrev pub setupRules : ℕ → Settings → List Rule
 setupRules n S = refuse 2 (not (inRows S)) ∷ refuse 1 (ltb n (size S)) ∷ []
 

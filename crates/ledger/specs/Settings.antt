@@ -1,5 +1,6 @@
 -- Paper 01, "What the switch has", and paper 02, Q-7: the settings, which values each may have, and the bytes that a state of such settings
--- takes. Ports and queues are settings like the others, so that nothing but `inRow` knows how many there may be. Assumes nothing.
+-- takes. Ports and queues are settings like the others: how many there may be, `inRow` alone knows, and `settings` how many go with
+-- the ten-byte header. Assumes nothing.
 use mathlib.Core.Bool.{Bool, true, cond, _&&_}
 use Prim.Native.Nat.{ℕ, zero, suc, _+_, _-_, _*_}
 use lib.Dec.{eqb, leb}

@@ -1,7 +1,6 @@
 -- `forms::width_of` meets its contract: a number has no more leading zeros than bits. Assumes nothing.
 use mathlib.Core.Path.{_≡_, refl, sym}
 use Prim.Native.Nat.{_-_}
-use native.Mathlib.Omega.{arith}
 use borrow.Author.Needs.{needs}
 use lib.Count.{leadingZeros, leading-le}
 use Rattle.ledger.specs.Header.{widthOf}
@@ -10,7 +9,7 @@ use Rattle.forms.proofs.width_of.Statement.{statement}
 use Rattle.forms.proofs.width_of.Tie as tie
 
 sub-result-2 : tie.Need-sub-result-2
-sub-result-2 c = omega (arith, leading-le 32 (c .args .n - 1))
+sub-result-2 c = leading-le 32 _
 
 returns : tie.Need-returns
 returns c =
