@@ -14,7 +14,6 @@ use Rattle.numbers.proofs.Bytes.{number-lt, number-apart, number-stored-small}
 use Rattle.numbers.proofs.Fields.{bits-of-join, bits-high, bits-low}
 use Rattle.ledger.specs.Settings.{Settings}
 use Rattle.layout.specs.Tables.{all}
-use Rattle.layout.specs.Picture.{tabulate}
 use Rattle.memory.proofs.Chains.{length-tabulate, getD-table, table-set}
 use Rattle.memory.proofs.Image.{tabulate-all}
 use Rattle.once.specs.Bits.{markAt, setMark, marksIn}

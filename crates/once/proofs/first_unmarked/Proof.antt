@@ -60,7 +60,8 @@ returns c =
     let at = r .before .before in
     let a = start at .args in
     let in-all = r .before .loop-test .taken in
-    sym (are (start at) ∙ at .loop .inv .1 ∙ mark-clear (a .s .lists) (marks-of (a .marks .now) (a .s .all)) (at .loop .i) (rw length-tabulate in-all) (read r ∙ c .if1 .taken))
+    let ms = marks-of (a .marks .now) (a .s .all) in
+    sym (are (start at) ∙ at .loop .inv .1 ∙ mark-clear (a .s .lists) ms (at .loop .i) (rw length-tabulate in-all) (read r ∙ c .if1 .taken))
 
 add-i : tie.Need-add-i Inv-loop μ-loop
 add-i c = search needs
@@ -73,17 +74,17 @@ loop-again c =
     let r = c .before in
     let at = r .before .before in
     let a = start at .args in
-    let in-all = r .before .loop-test .taken in (
-      omega arith,
-      at .loop .inv .1
-          ∙ mark-set (a .s .lists) (marks-of (a .marks .now) (a .s .all)) (at .loop .i) (rw length-tabulate in-all) (λ e. c .if1 .left (sym (read r) ∙ e)),
-    )
+    let in-all = r .before .loop-test .taken in
+    let ms = marks-of (a .marks .now) (a .s .all) in
+    let set = λ e. c .if1 .left (sym (read r) ∙ e) in
+    (omega arith, at .loop .inv .1 ∙ mark-set (a .s .lists) ms (at .loop .i) (rw length-tabulate in-all) set)
 
 returns-2 : tie.Need-returns-2 Inv-loop μ-loop
 returns-2 c =
     let at = c .before in
     let a = start at .args in
-    sym (are (start at) ∙ at .loop .inv .1 ∙ mark-none (a .s .lists) (marks-of (a .marks .now) (a .s .all)) (at .loop .i) (rw length-tabulate (c .loop-test .left)))
+    let ms = marks-of (a .marks .now) (a .s .all) in
+    sym (are (start at) ∙ at .loop .inv .1 ∙ mark-none (a .s .lists) ms (at .loop .i) (rw length-tabulate (c .loop-test .left)))
 
 pub first-unmarked-spec : {M : Type 1} → statement M
 first-unmarked-spec =

@@ -1,6 +1,6 @@
 -- `once::mark_at` meets its contract: it is a bit of a byte. Assumes nothing.
 use mathlib.Core.Path.{ap, _∙_}
-use Prim.Native.Nat.{ℕ, _%_}
+use Prim.Native.Nat.{_%_}
 use borrow.Author.Needs.{needs}
 use Rattle.numbers.specs.Fields.{bits}
 use Rattle.once.specs.Bits.{markAt}

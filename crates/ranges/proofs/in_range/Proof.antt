@@ -27,7 +27,8 @@ get4-requires c κs =
     let n = c .before .before in
     let start = n .before .before in
     let a = start .args in
-    let low = prefetch-lt (settingsOf (a .s)) (a .m .now) (a .i - n .number-items .result) (omega arith) (omega (arith, n .number-items .ensures, start .pre .low)) in
+    let many = n .number-items .ensures in
+    let low = prefetch-lt (settingsOf (a .s)) (a .m .now) (a .i - n .number-items .result) (omega arith) (omega (arith, many, start .pre .low)) in
     record { laid = start .pre .held .laid; long = start .pre .held .long; wide = refl; inside = omega (arith, c .prefetch-list .ensures) }
 
 cast-count : tie.Need-cast-count

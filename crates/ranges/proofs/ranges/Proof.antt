@@ -1,9 +1,8 @@
 -- `ranges::ranges` meets its contract: a number that is out of range is the first item that is, and else the lists decide. Assumes nothing.
-use mathlib.Core.Path.{_≡_, sym, ap, _∙_}
+use mathlib.Core.Path.{sym, ap, _∙_}
 use Prim.Native.Nat.{ℕ, _+_, _*_}
 use native.Mathlib.Omega.{arith}
 use borrow.Author.Needs.{needs}
-use Rattle.ledger.specs.declared.Finding.the-variants.{Whole}
 use Rattle.layout.specs.Tables.{settingsOf}
 use Rattle.ranges.specs.First.{first}
 use Rattle.ranges.specs.Ranges.{fitsAt, rangesFound}
