@@ -12,7 +12,6 @@ use Rattle.numbers.specs.Bytes.{number, store, digits}
 use Rattle.numbers.specs.Fields.{total, unpack, pack, Fit}
 use Rattle.numbers.proofs.Bytes.{number-lt, number-split, length-digits, digits-join, pow-bytes}
 use Rattle.numbers.proofs.Fields.{bits-high, bits-low, bits-whole, pack-lt}
-use Rattle.header.specs.Writer.{padded}
 
 pub total-append : (ws vs : List ℕ) → total (ws ++ vs) ≡ total ws + total vs
 total-append [] vs = sym (zero-add (total vs))
@@ -139,18 +138,28 @@ digits-aligned k j v =
     let e : v * 256 ^ j ≡ v * 256 ^ j + 0 = omega arith in
     ap (digits (k + j)) e ∙ digits-join k j v 0 (one-le-pow j 256 (zero-lt-suc 255)) ∙ ap (λ (l : List ℕ). digits k v ++ l) (digits-zero j)
 
+-- a room of R bytes: zeros follow those that are written
+abbrev pub padTo : ℕ → List ℕ → List ℕ
+padTo R xs = xs ++ replicate (R - length xs) 0
+
 -- k bytes of a number are written behind xs in a room of zeros, and the zeros behind them again
-pub put : (K k : ℕ) (xs : List ℕ) (at n v : ℕ) (m m′ : List ℕ)
-    → m ≡ padded xs → length xs ≡ at → k ≤ K → at + K ≤ 12 → n ≡ v * 256 ^ (K - k) → m′ ≡ store K m at n → m′ ≡ padded (xs ++ digits k v)
-put K k xs at n v m m′ start len few room is stored =
+pub put : (R K k : ℕ) (xs : List ℕ) (at n v : ℕ) (m m′ : List ℕ)
+    → m ≡ padTo R xs
+    → length xs ≡ at
+    → k ≤ K
+    → at + K ≤ R
+    → n ≡ v * 256 ^ (K - k)
+    → m′ ≡ store K m at n
+    → m′ ≡ padTo R (xs ++ digits k v)
+put R K k xs at n v m m′ start len few room is stored =
     let j : ℕ = K - k in
-    let z : ℕ = 12 - length xs - K in
+    let z : ℕ = R - length xs - K in
     let whole : K ≡ k + j = omega arith in
-    let zeros : 12 - length xs ≡ K + z = omega arith in
-    let left : 12 - length (xs ++ digits k v) ≡ j + z = simp (length-append, length-digits) (omega arith) in
-    let behind : replicate {A = ℕ} (12 - length xs) 0 ≡ replicate K 0 ++ replicate z 0 =
+    let zeros : R - length xs ≡ K + z = omega arith in
+    let left : R - length (xs ++ digits k v) ≡ j + z = simp (length-append, length-digits) (omega arith) in
+    let behind : replicate {A = ℕ} (R - length xs) 0 ≡ replicate K 0 ++ replicate z 0 =
     ap (λ (i : ℕ). replicate {A = ℕ} i 0) zeros ∙ sym (replicate-append-replicate K z 0) in
-    let over : store K (padded xs) (length xs) n ≡ xs ++ (digits K n ++ replicate z 0) =
+    let over : store K (padTo R xs) (length xs) n ≡ xs ++ (digits K n ++ replicate z 0) =
     ap (λ (l : List ℕ). store K (xs ++ l) (length xs) n) behind ∙ store-over K xs (replicate K 0) (replicate z 0) n (length-replicate K 0) in
     let told : digits K n ≡ digits k v ++ replicate j 0 =
     ap₂ digits whole is ∙ digits-aligned k j v in

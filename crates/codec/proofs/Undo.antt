@@ -23,11 +23,11 @@ use Rattle.ledger.specs.Header.{fieldsOf, headerRules}
 use Rattle.ledger.specs.Rules.{Rule, refuse, guard, Clear}
 use Rattle.ledger.proofs.Tests.{true≢false, leb-yes, leb-no, leb-not, ltb-yes, ltb-no, ltb-not, eqb-yes, eqb-is, not-yes}
 use Rattle.ledger.proofs.Steps.{cleared}
-use Rattle.header.specs.Label.{Label, labelOf, values, countsIn, refused, gives}
-use Rattle.header.specs.Reader.{readerRules, reads}
-use Rattle.header.specs.Writer.{holds, bodyFor, headerFor, writerRules, writes, Misfit}
-use Rattle.header.proofs.Sums.{crc8-lt}
-use Rattle.header.proofs.Labels.{Holds, holds-means, means-holds, length-body, length-header}
+use Rattle.codec.specs.Label.{Label, labelOf, values, countsIn, refused, gives}
+use Rattle.codec.specs.Reader.{readerRules, reads}
+use Rattle.codec.specs.Writer.{holds, bodyFor, headerFor, writerRules, writes, Misfit}
+use Rattle.codec.proofs.Sums.{crc8-lt}
+use Rattle.codec.proofs.Labels.{Holds, holds-means, means-holds, length-body, length-header}
 
 -- ---- what an answer says of the rules
 

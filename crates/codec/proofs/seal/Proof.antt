@@ -1,13 +1,13 @@
--- `header::seal` meets its contract: the checksum goes behind the bytes that it is of. Assumes nothing.
+-- `codec::seal` meets its contract: the checksum goes behind the bytes that it is of. Assumes nothing.
 use mathlib.Core.Path.{_≡_, ap, _∙_}
 use native.Mathlib.Omega.{arith}
 use borrow.Author.Needs.{needs}
 use lib.ListN.{length, length-take}
-use Rattle.header.specs.Label.{labelIn}
+use Rattle.codec.specs.Label.{labelIn}
 use Rattle.header.proofs.Shapes.{Shaped, shaped}
-use Rattle.header.proofs.Labels.{room-body, header-stored}
-use Rattle.header.proofs.seal.Statement.{statement}
-use Rattle.header.proofs.seal.Tie as tie
+use Rattle.codec.proofs.Labels.{room-body, header-stored}
+use Rattle.codec.proofs.seal.Statement.{statement}
+use Rattle.codec.proofs.seal.Tie as tie
 
 shape : (c : tie.Start) → Shaped (c .args .form)
 shape c = shaped (c .args .form) (c .pre .0)

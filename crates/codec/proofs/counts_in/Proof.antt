@@ -1,8 +1,8 @@
--- `header::counts_in` meets its contract. Assumes nothing.
+-- `codec::counts_in` meets its contract. Assumes nothing.
 use borrow.Author.Needs.{needs}
-use Rattle.header.specs.Label.{countsIn}
-use Rattle.header.proofs.counts_in.Statement.{statement}
-use Rattle.header.proofs.counts_in.Tie as tie
+use Rattle.codec.specs.Label.{countsIn}
+use Rattle.codec.proofs.counts_in.Statement.{statement}
+use Rattle.codec.proofs.counts_in.Tie as tie
 
 ports-in-requires : tie.Need-ports-in-requires
 ports-in-requires c κs = search needs

@@ -3,9 +3,9 @@ use mathlib.Core.Path.{_≡_}
 use mathlib.Core.List.{List, [], _∷_}
 use Prim.Native.Nat.{ℕ}
 use Rattle.ledger.specs.Settings.{tenBytes, wide}
-use Rattle.header.specs.Label.{Label, refused, gives}
-use Rattle.header.specs.Reader.{reads}
-use Rattle.header.specs.Writer.{writes}
+use Rattle.codec.specs.Label.{Label, refused, gives}
+use Rattle.codec.specs.Reader.{reads}
+use Rattle.codec.specs.Writer.{writes}
 
 abbrev pub label : ℕ → ℕ → ℕ → ℕ → ℕ → ℕ → ℕ → ℕ → Label
 label d s q l p t o x = record { dest = d; source = s; queue = q; len = l; poisoned = p; stamp = t; offered = o; transaction = x }

@@ -5,7 +5,7 @@ use Prim.Native.Nat.{ℕ}
 use lib.Dec.{leb}
 use Rattle.ledger.specs.Settings.{portsIn, queuesIn, wide}
 use Rattle.ledger.specs.Header.{Fields}
-use Rattle.header.specs.declared.Label as code
+use Rattle.codec.specs.declared.Label as code
 
 -- what a header says; its reserved bits and its checksum are fixed by the rest
 pub record Label : Type 0 where
@@ -34,6 +34,10 @@ labelOf f = record {
 abbrev pub values : Label → List ℕ
 values v =
     v .dest ∷ v .source ∷ v .queue ∷ v .len ∷ v .poisoned ∷ 0 ∷ v .stamp ∷ v .offered ∷ v .transaction ∷ []
+
+-- those of the front: up to the reserved bits
+abbrev pub frontValues : Label → List ℕ
+frontValues v = v .dest ∷ v .source ∷ v .queue ∷ v .len ∷ v .poisoned ∷ 0 ∷ []
 
 -- "port and queue counts join setup, reader and writer, with refusal 2 outside their rows"; so does the edition
 unfoldable pub countsIn : ℕ → ℕ → ℕ → Bool

@@ -7,9 +7,9 @@ use Rattle.crc.specs.Crc.{crcBit, crcBits, crcByte, crcFrom, crc8}
 use Rattle.ledger.specs.Settings.{portsIn, queuesIn}
 use Rattle.ledger.specs.Header.{widthOf, formOf, frontBits, frontBytes, spare, bodySize, headerSize, leastLength, fieldsOf}
 use Rattle.ledger.specs.Sound.{All}
-use Rattle.header.specs.Label.{countsIn}
-use Rattle.header.specs.Writer.{holds, bodyFor, headerFor}
-use Rattle.header.specs.Cards.{Holds, cards}
+use Rattle.codec.specs.Label.{countsIn}
+use Rattle.codec.specs.Writer.{holds, bodyFor, headerFor}
+use Rattle.codec.specs.Cards.{Holds, cards}
 
 pub cards-hold : All Holds cards
 unfolding number digits bits crcBit crcBits crcByte crcFrom crc8 portsIn queuesIn leadingZeros widthOf formOf frontBits frontBytes spare bodySize

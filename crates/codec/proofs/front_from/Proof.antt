@@ -1,4 +1,4 @@
--- `header::front_from` meets its contract: each value that is joined keeps the number as narrow as the fields so far. Assumes nothing.
+-- `codec::front_from` meets its contract: each value that is joined keeps the number as narrow as the fields so far. Assumes nothing.
 use Prim.Native.Nat.{ℕ, _+_, _-_, _*_, _^_, _<_}
 use native.Mathlib.Omega.{arith}
 use borrow.Author.Needs.{needs}
@@ -6,12 +6,12 @@ use lib.Pow.{pow-pos}
 use Rattle.numbers.specs.Fields.{Fit}
 use Rattle.ledger.specs.Header.{widths}
 use Rattle.forms.specs.Formed.{formIn}
-use Rattle.header.specs.Label.{values, labelIn}
+use Rattle.codec.specs.Label.{values, labelIn}
 use Rattle.header.proofs.Shapes.{Shaped, shaped}
 use Rattle.header.proofs.Parts.{joined-lt, join-word}
-use Rattle.header.proofs.Labels.{front-packed}
-use Rattle.header.proofs.front_from.Statement.{statement}
-use Rattle.header.proofs.front_from.Tie as tie
+use Rattle.codec.proofs.Labels.{front-packed}
+use Rattle.codec.proofs.front_from.Statement.{statement}
+use Rattle.codec.proofs.front_from.Tie as tie
 
 shape : (c : tie.Start) → Shaped (c .args .form)
 shape c = shaped (c .args .form) (c .pre .0)

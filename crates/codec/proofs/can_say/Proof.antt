@@ -1,10 +1,10 @@
--- `header::can_say` meets its contract. Assumes nothing.
+-- `codec::can_say` meets its contract. Assumes nothing.
 use native.Mathlib.Omega.{arith}
 use borrow.Author.Needs.{needs}
-use Rattle.header.specs.Writer.{holds}
+use Rattle.codec.specs.Writer.{holds}
 use Rattle.header.proofs.Shapes.{Shaped, shaped}
-use Rattle.header.proofs.can_say.Statement.{statement}
-use Rattle.header.proofs.can_say.Tie as tie
+use Rattle.codec.proofs.can_say.Statement.{statement}
+use Rattle.codec.proofs.can_say.Tie as tie
 
 shape : (c : tie.Start) → Shaped (c .args .form)
 shape c = shaped (c .args .form) (c .pre)

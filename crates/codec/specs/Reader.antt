@@ -2,13 +2,12 @@
 use mathlib.Core.Bool.{not}
 use mathlib.Core.List.{List, [], _∷_}
 use Prim.Native.Nat.{ℕ}
-use Rattle.ledger.specs.Header.{Form, formOf, fieldsOf, headerRules}
+use Rattle.ledger.specs.Header.{formOf, fieldsOf, headerRules}
 use Rattle.ledger.specs.Rules.{Rule, refuse, guard}
 use Rattle.ledger.specs.Answers.{numberOf}
-use Rattle.header.specs.Judge.{Verdict, bad, good}
-use Rattle.header.specs.Label.{Label, labelOf, labelIn, countsIn, Answer, refused, gives}
-use Rattle.header.specs.declared.HeaderRead.{HeaderRead}
-use Rattle.header.specs.declared.HeaderRead.the-variants as reads′
+use Rattle.codec.specs.Label.{Label, labelOf, labelIn, countsIn, Answer, refused, gives}
+use Rattle.codec.specs.declared.HeaderRead.{HeaderRead}
+use Rattle.codec.specs.declared.HeaderRead.the-variants as reads′
 
 -- "The reader's order is 2, 6, 7, 20, 9, 19": an arrival's, without its source
 abbrev pub readerRules : ℕ → ℕ → ℕ → List ℕ → List Rule
@@ -16,10 +15,6 @@ readerRules e p q h = refuse 2 (not (countsIn e p q)) ∷ headerRules (formOf e 
 
 abbrev pub reads : ℕ → ℕ → ℕ → List ℕ → Answer Label
 reads e p q h = guard (readerRules e p q h) refused (gives (labelOf (fieldsOf (formOf e p q) h)))
-
--- what is left of it once the form is known
-abbrev pub readable : Form → ℕ → List ℕ → Verdict
-readable F n h = guard (headerRules F n [] h) bad (good (fieldsOf F h))
 
 abbrev pub readOf : HeaderRead → Answer Label
 readOf (reads′.Label v) = gives (labelIn v)

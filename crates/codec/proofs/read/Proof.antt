@@ -1,16 +1,16 @@
--- `header::read` meets its contract: the counts, then what the header's own refusals say. Assumes nothing.
+-- `codec::read` meets its contract: the counts, then what the header's own refusals say. Assumes nothing.
 use mathlib.Core.Path.{_≡_, sym, ap, _∙_}
 use mathlib.Core.Bool.{true}
 use borrow.Author.Needs.{needs}
 use borrow.Author.Tests.{not-true, not-false}
 use Rattle.ledger.specs.Answers.{numberOf}
 use Rattle.forms.specs.Formed.{formIn}
 use Rattle.header.specs.Parse.{headerOf}
 use Rattle.header.specs.Judge.{verdictOf}
-use Rattle.header.specs.Label.{gives, countsIn}
-use Rattle.header.proofs.Labels.{counts-mean, no-counts-read, reads-bad, reads-good}
-use Rattle.header.proofs.read.Statement.{statement}
-use Rattle.header.proofs.read.Tie as tie
+use Rattle.codec.specs.Label.{gives, countsIn}
+use Rattle.codec.proofs.Labels.{counts-mean, no-counts-read, reads-bad, reads-good}
+use Rattle.codec.proofs.read.Statement.{statement}
+use Rattle.codec.proofs.read.Tie as tie
 
 abbrev start : tie.Else1 → tie.Start
 start c = c .before .before .before

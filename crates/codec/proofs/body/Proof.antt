@@ -1,4 +1,4 @@
--- `header::body` meets its contract: four stores, one after another. Assumes nothing.
+-- `codec::body` meets its contract: four stores, one after another. Assumes nothing.
 use mathlib.Core.Path.{_≡_, refl, ap, _∙_}
 use Prim.Native.Nat.{ℕ, _+_, _-_, _*_, _^_, _<_}
 use native.Mathlib.Omega.{arith}
@@ -9,12 +9,12 @@ use Rattle.numbers.specs.Fields.{Fit}
 use Rattle.numbers.proofs.Bytes.{length-store}
 use Rattle.ledger.specs.Header.{widths}
 use Rattle.forms.specs.Formed.{formIn}
-use Rattle.header.specs.Label.{values, labelIn}
+use Rattle.codec.specs.Label.{values, labelIn}
 use Rattle.header.proofs.Shapes.{Shaped, shaped}
 use Rattle.header.proofs.Parts.{joined-lt, join-word}
-use Rattle.header.proofs.Labels.{body-stored}
-use Rattle.header.proofs.body.Statement.{statement}
-use Rattle.header.proofs.body.Tie as tie
+use Rattle.codec.proofs.Labels.{body-stored}
+use Rattle.codec.proofs.body.Statement.{statement}
+use Rattle.codec.proofs.body.Tie as tie
 
 shape : (c : tie.Start) → Shaped (c .args .form)
 shape c = shaped (c .args .form) (c .pre .0)

@@ -1,12 +1,12 @@
--- `header::all_fit` meets its contract: a test for each field that a number may not fit. Assumes nothing.
+-- `codec::all_fit` meets its contract: a test for each field that a number may not fit. Assumes nothing.
 use mathlib.Core.Path.{refl}
 use native.Mathlib.Omega.{arith}
 use borrow.Author.Needs.{needs}
 use Rattle.forms.specs.Formed.{formIn}
-use Rattle.header.specs.Label.{labelIn}
-use Rattle.header.proofs.Labels.{all-fit}
-use Rattle.header.proofs.all_fit.Statement.{statement}
-use Rattle.header.proofs.all_fit.Tie as tie
+use Rattle.codec.specs.Label.{labelIn}
+use Rattle.codec.proofs.Labels.{all-fit}
+use Rattle.codec.proofs.all_fit.Statement.{statement}
+use Rattle.codec.proofs.all_fit.Tie as tie
 
 fits-requires : tie.Need-fits-requires
 fits-requires c κs = search needs

@@ -14,8 +14,8 @@ use Rattle.ledger.specs.Rules.{Rule, refuse, guard}
 use Rattle.ledger.specs.Answers.{numberOf}
 use Rattle.ledger.specs.declared.Plain.{Plain}
 use Rattle.ledger.specs.declared.Plain.the-variants.{Done, No}
-use Rattle.header.specs.Label.{Label, values, countsIn, Answer, refused, gives}
-use Rattle.header.specs.declared.Written.{Written}
+use Rattle.codec.specs.Label.{Label, values, countsIn, Answer, refused, gives}
+use Rattle.codec.specs.declared.Written.{Written}
 
 -- what a header of form F in a switch of n queues can say: each value fits its field, its length is the least or more, and the switch has its
 -- queue

@@ -1,4 +1,4 @@
--- `header::write` meets its contract: the counts, then what the label may be, then its bytes. Assumes nothing.
+-- `codec::write` meets its contract: the counts, then what the label may be, then its bytes. Assumes nothing.
 use mathlib.Core.Path.{_≡_, refl, sym, _∙_, subst}
 use mathlib.Core.Bool.{true}
 use mathlib.Core.List.{List}
@@ -7,12 +7,12 @@ use borrow.Author.Needs.{needs}
 use borrow.Author.Tests.{not-true, not-false}
 use Rattle.ledger.specs.declared.Plain.the-variants.{Done}
 use Rattle.forms.specs.Formed.{formIn}
-use Rattle.header.specs.Label.{labelIn, countsIn, Answer}
-use Rattle.header.specs.Writer.{holds, Answers}
-use Rattle.header.specs.declared.Written.{Written}
-use Rattle.header.proofs.Labels.{counts-mean, holds-means, no-counts, no-fit, written, length-header}
-use Rattle.header.proofs.write.Statement.{statement}
-use Rattle.header.proofs.write.Tie as tie
+use Rattle.codec.specs.Label.{labelIn, countsIn, Answer}
+use Rattle.codec.specs.Writer.{holds, Answers}
+use Rattle.codec.specs.declared.Written.{Written}
+use Rattle.codec.proofs.Labels.{counts-mean, holds-means, no-counts, no-fit, written, length-header}
+use Rattle.codec.proofs.write.Statement.{statement}
+use Rattle.codec.proofs.write.Tie as tie
 
 abbrev start : tie.Else1 → tie.Start
 start c = c .before .before

@@ -18,20 +18,19 @@ use Rattle.ledger.specs.Settings.{portsIn, queuesIn, wide}
 use Rattle.ledger.specs.Header.{Form, Fields, formOf, widths, spare, frontBytes, bodySize, headerSize, leastLength, fieldsOf, headerRules}
 use Rattle.ledger.proofs.Tests.{and-left, and-right, leb-yes, leb-is, ltb-yes, ltb-is}
 use Rattle.ledger.proofs.Rows.{ports-range, queues-range}
-use Rattle.ledger.proofs.Passes.{guard-after}
 use Rattle.ledger.proofs.Steps.{cleared}
 use Rattle.forms.specs.declared.HeaderForm.{HeaderForm}
 use Rattle.forms.specs.Formed.{formIn, Formed}
-use Rattle.header.specs.Front.{frontWidths, frontValues}
-use Rattle.header.specs.Judge.{bad, good, byteRules, fieldRules, opened, settled}
-use Rattle.header.specs.Label.{Label, labelOf, values, countsIn, refused, gives}
-use Rattle.header.specs.Reader.{reads, readable}
-use Rattle.header.specs.Writer.{holds, bodyFor, headerFor, writes, padded}
+use Rattle.header.specs.Front.{frontWidths}
+use Rattle.header.specs.Judge.{bad, good, readable}
+use Rattle.codec.specs.Label.{Label, labelOf, values, frontValues, countsIn, refused, gives}
+use Rattle.codec.specs.Reader.{reads}
+use Rattle.codec.specs.Writer.{holds, bodyFor, headerFor, writes, padded}
 use Rattle.header.proofs.Shapes.{shaped}
 use Rattle.header.proofs.Parts.{bytewise, joined-packs, pack-parts, digits-above-bytes, digits-bytes, put}
-use Rattle.header.proofs.Sums.{crc8-lt}
+use Rattle.codec.proofs.Sums.{crc8-lt}
 use Rattle.header.proofs.Reading.{backBytes, body-parts}
 use Rattle.header.proofs.Verdicts.{first-bad, first-good}
 
 -- ---- the counts
 
@@ -49,16 +48,6 @@ counts-mean e p q t =
     record { some-ports = port .0; few-ports = port .1; some-queues = queue .0; few-queues = queue .1 }
 
 -- ---- the reader
-
-module _ (F : Form) (n : ℕ) (h : List ℕ) where
-  pub unreadable : (r : ℕ) → bad r ≡ opened F h → bad r ≡ readable F n h
-  unreadable r e = first-bad (byteRules F h) (fieldRules F n (fieldsOf F h)) (fieldsOf F h) r bad (good (fieldsOf F h)) e
-
-  pub reads-on : (f : Fields) → good f ≡ opened F h → settled F n f ≡ readable F n h
-  reads-on f e =
-      let first = first-good (byteRules F h) (fieldsOf F h) f e in
-      ap (settled F n) (first .0)
-      ∙ sym (guard-after (byteRules F h) (fieldRules F n (fieldsOf F h)) bad (good (fieldsOf F h)) (first .1))
 
 module _ (e p q : ℕ) (h : List ℕ) where
   pub no-counts-read : countsIn e p q ≡ false → refused 2 ≡ reads e p q h
@@ -198,11 +187,11 @@ body-stored f ok v fit m₀ m₁ m₂ m₃ m₄ front credit ef ec e₀ e₁ e�
     let is : f .front ≡ k = ok .front-is in
     let front-word : front ≡ w * 256 ^ (4 - k) = ef ∙ ap (λ (n : ℕ). w * 2 ^ (8 * (4 - n))) is ∙ ap (λ (n : ℕ). w * n) (sym (pow-bytes (4 - k))) in
     let credit-word : credit ≡ v .offered * 256 ^ (2 - o) = ec ∙ rw (← pow-bytes (2 - o)) (omega arith) in
-    let one = put 4 k [] 0 front w m₀ m₁ e₀ refl (omega arith) (omega arith) front-word e₁ in
-    let two = put 4 4 (digits k w) (f .front) (v .stamp) (v .stamp) m₁ m₂ one (length-digits k w ∙ sym is) (omega arith) (omega arith) (omega arith) e₂ in
-    let three = put 2 o (digits k w ++ digits 4 (v .stamp)) (f .front + 4) credit (v .offered) m₂ m₃ two
+    let one = put 12 4 k [] 0 front w m₀ m₁ e₀ refl (omega arith) (omega arith) front-word e₁ in
+    let two = put 12 4 4 (digits k w) (f .front) (v .stamp) (v .stamp) m₁ m₂ one (length-digits k w ∙ sym is) (omega arith) (omega arith) (omega arith) e₂ in
+    let three = put 12 2 o (digits k w ++ digits 4 (v .stamp)) (f .front + 4) credit (v .offered) m₂ m₃ two
     (simp (length-append, length-digits) (omega arith)) (s .few-offer) (omega arith) credit-word e₃ in
-    let four = put 1 1 ((digits k w ++ digits 4 (v .stamp)) ++ digits o (v .offered)) (f .size - 2) (v .transaction) (v .transaction) m₃ m₄ three
+    let four = put 12 1 1 ((digits k w ++ digits 4 (v .stamp)) ++ digits o (v .offered)) (f .size - 2) (v .transaction) (v .transaction) m₃ m₄ three
     (simp (length-append, length-digits) (omega arith)) (omega arith) (omega arith) (omega arith) e₄ in
     four ∙ ap padded (body-bytes F v fit)
 
@@ -227,7 +216,7 @@ header-stored f ok v b b′ sum e es e′ =
     let len : length B ≡ f .size - 1 = length-body F v ∙ omega arith in
     let whole : sum ≡ crc8 B = es ∙ ap (λ (l : List ℕ). crc8 (take (f .size - 1) l)) e ∙ ap crc8 (take-at B _ (f .size - 1) len) in
     let byte : digits 1 sum ≡ crc8 B ∷ [] = ap (digits 1) whole ∙ digits-one (crc8 B) ∙ ap (λ (c : ℕ). c ∷ []) (mod-eq-of-lt (crc8-lt B)) in
-    put 1 1 B (f .size - 1) sum sum b b′ e len (omega arith) (omega arith) (omega arith) e′
+    put 12 1 1 B (f .size - 1) sum sum b b′ e len (omega arith) (omega arith) (omega arith) e′
     ∙ ap (λ (l : List ℕ). padded (B ++ l)) byte
 
 -- ---- the writer

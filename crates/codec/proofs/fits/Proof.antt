@@ -1,11 +1,11 @@
--- `header::fits` meets its contract: a one above so many zeros is that power of two. Assumes nothing.
+-- `codec::fits` meets its contract: a one above so many zeros is that power of two. Assumes nothing.
 use mathlib.Core.Path.{_≡_, ap, _∙_}
 use Prim.Native.Nat.{_^_}
 use native.Mathlib.Omega.{arith}
 use lib.Dec.{ltb}
 use lib.Pow.{pow-lt}
-use Rattle.header.proofs.fits.Statement.{statement}
-use Rattle.header.proofs.fits.Tie as tie
+use Rattle.codec.proofs.fits.Statement.{statement}
+use Rattle.codec.proofs.fits.Tie as tie
 
 join-requires : tie.Need-join-requires
 join-requires c κs = (c .pre, omega (arith, pow-lt (c .pre)))

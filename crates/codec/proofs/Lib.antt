@@ -1,0 +1,4 @@
+pub mod Sums
+pub mod Labels
+pub mod Undo
+pub mod Cards
