@@ -2,3 +2,5 @@ pub mod Sums
 pub mod Labels
 pub mod Undo
 pub mod Cards
+pub mod Answers
+pub mod Arrivals
