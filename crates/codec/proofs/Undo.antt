@@ -254,6 +254,26 @@ module _ (e p q : ℕ) (v : Label) (ok : countsIn e p q ≡ true) where
 pub uncounted : (e p q : ℕ) (v : Label) (h : List ℕ) → countsIn e p q ≡ false → (writes e p q v ≡ refused 2) × (reads e p q h ≡ refused 2)
 uncounted e p q v h no′ = (rw no′, rw no′)
 
+-- ---- 0 is no refusal's number
+
+abbrev Numbered : List Rule → Type 0
+Numbered [] = Unit {0}
+Numbered (refuse n b ∷ rs) = (1 ≤ n) × Numbered rs
+
+never-zero : {X : Type 0} (rs : List Rule) (x : X) (n : ℕ) → Numbered rs → guard rs refused (gives x) ≡ refused n → 1 ≤ n
+never-zero [] x n k e = absurd (let z : _≡_ {A = ℕ} 0 1 = cc in omega arith)
+never-zero (refuse m true ∷ rs) x n k e = let is : m ≡ n = cc in omega (arith, k .0)
+never-zero (refuse m false ∷ rs) x n k e = never-zero rs x n (k .1) e
+
+pub read-never-zero : (e p q : ℕ) (h : List ℕ) (n : ℕ) → reads e p q h ≡ refused n → 1 ≤ n
+read-never-zero e p q h n r =
+    never-zero (readerRules e p q h) (labelOf (fieldsOf (formOf e p q) h)) n
+    (omega arith, (omega arith, (omega arith, (omega arith, (omega arith, (omega arith, tt))))))
+    r
+
+pub write-never-zero : (e p q : ℕ) (v : Label) (n : ℕ) → writes e p q v ≡ refused n → 1 ≤ n
+write-never-zero e p q v n w = never-zero (writerRules e p q v) (headerFor (formOf e p q) v) n (omega arith, (omega arith, tt)) w
+
 -- ---- sizes
 
 -- "Sizes are 11, 11, 12 and 12 bytes for 4/24, 8/16, 16/32 and 32/64", and ten of the ten-byte header
