@@ -13,7 +13,9 @@ use Rattle.numbers.specs.Bytes.{store, digits}
 use Rattle.numbers.specs.Fields.{pack, fitting, Fit}
 use Rattle.numbers.proofs.Bytes.{length-digits, digits-one, pow-bytes}
 use Rattle.numbers.proofs.Fields.{fitting-means, fit-fitting}
+use Rattle.numbers.proofs.Parts.{bytewise, joined-packs, pack-parts, digits-above-bytes, digits-bytes, put}
 use Rattle.crc.specs.Crc.{crc8}
+use Rattle.crc.proofs.Sums.{crc8-lt}
 use Rattle.ledger.specs.Settings.{portsIn, queuesIn, wide}
 use Rattle.ledger.specs.Header.{Form, Fields, formOf, widths, spare, frontBytes, bodySize, headerSize, leastLength, fieldsOf, headerRules}
 use Rattle.ledger.proofs.Tests.{and-left, and-right, leb-yes, leb-is, ltb-yes, ltb-is}
@@ -23,14 +25,12 @@ use Rattle.forms.specs.declared.HeaderForm.{HeaderForm}
 use Rattle.forms.specs.Formed.{formIn, Formed}
 use Rattle.header.specs.Front.{frontWidths}
 use Rattle.header.specs.Judge.{bad, good, readable}
+use Rattle.header.proofs.Shapes.{shaped}
+use Rattle.header.proofs.Reading.{backBytes, body-parts}
+use Rattle.header.proofs.Verdicts.{first-bad, first-good}
 use Rattle.codec.specs.Label.{Label, labelOf, values, frontValues, countsIn, refused, gives}
 use Rattle.codec.specs.Reader.{reads}
 use Rattle.codec.specs.Writer.{holds, bodyFor, headerFor, writes, padded}
-use Rattle.header.proofs.Shapes.{shaped}
-use Rattle.header.proofs.Parts.{bytewise, joined-packs, pack-parts, digits-above-bytes, digits-bytes, put}
-use Rattle.codec.proofs.Sums.{crc8-lt}
-use Rattle.header.proofs.Reading.{backBytes, body-parts}
-use Rattle.header.proofs.Verdicts.{first-bad, first-good}
 
 -- ---- the counts
 

@@ -1,4 +1,3 @@
-pub mod Sums
 pub mod Labels
 pub mod Undo
 pub mod Cards

@@ -17,6 +17,7 @@ use Rattle.numbers.specs.Fields.{total, unpack, pack, fitting, Fit}
 use Rattle.numbers.proofs.Bytes.{number-lt, number-digits, digits-number, pow-bytes}
 use Rattle.numbers.proofs.Fields.{fits, fit-fitting, fitting-means, pack-lt, pack-unpack, unpack-pack}
 use Rattle.crc.specs.Crc.{crc8}
+use Rattle.crc.proofs.Sums.{crc8-lt}
 use Rattle.ledger.specs.Settings.{tenBytes, wide}
 use Rattle.ledger.specs.Header.{Form, Fields, inOrder, widthOf, formOf, widths, frontBits, frontBytes, spare, bodySize, headerSize, leastLength}
 use Rattle.ledger.specs.Header.{fieldsOf, headerRules}
@@ -26,7 +27,6 @@ use Rattle.ledger.proofs.Steps.{cleared}
 use Rattle.codec.specs.Label.{Label, labelOf, values, countsIn, refused, gives}
 use Rattle.codec.specs.Reader.{readerRules, reads}
 use Rattle.codec.specs.Writer.{holds, bodyFor, headerFor, writerRules, writes, Misfit}
-use Rattle.codec.proofs.Sums.{crc8-lt}
 use Rattle.codec.proofs.Labels.{Holds, holds-means, means-holds, length-body, length-header}
 
 -- ---- what an answer says of the rules

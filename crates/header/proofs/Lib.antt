@@ -1,4 +1,3 @@
 pub mod Shapes
-pub mod Parts
 pub mod Reading
 pub mod Verdicts

@@ -12,13 +12,13 @@ use borrow.Author.Tests.{eq-eqb, ne-eqb, eqb-true, eqb-false}
 use Rattle.numbers.specs.Bytes.{number}
 use Rattle.numbers.specs.Fields.{bits, total, unpack}
 use Rattle.numbers.proofs.Bytes.{number-lt, number-split, pow-bytes}
+use Rattle.numbers.proofs.Parts.{unpack-parts, bytewise, numbersAt, pow-total, unpack-bytes}
 use Rattle.ledger.specs.Header.{Form, Fields, fieldsOf, spare, frontBytes, bodySize, headerSize, widths, inOrder}
 use Rattle.header.specs.Front.{frontWidths}
 use Rattle.header.specs.Parse.{fields, wrongSize, parsed, headerOf, parsedOf}
 use Rattle.header.specs.declared.HeaderFields.{HeaderFields}
 use Rattle.header.specs.declared.Parsed.{Parsed}
 use Rattle.header.specs.declared.Parsed.the-variants.{Header, WrongSize}
-use Rattle.header.proofs.Parts.{unpack-parts, bytewise, numbersAt, pow-total, unpack-bytes}
 
 -- ---- where the fields stand
 

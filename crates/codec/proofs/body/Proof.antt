@@ -7,11 +7,11 @@ use lib.ListN.{length}
 use lib.Pow.{pow-pos}
 use Rattle.numbers.specs.Fields.{Fit}
 use Rattle.numbers.proofs.Bytes.{length-store}
+use Rattle.numbers.proofs.Parts.{joined-lt, join-word}
 use Rattle.ledger.specs.Header.{widths}
 use Rattle.forms.specs.Formed.{formIn}
-use Rattle.codec.specs.Label.{values, labelIn}
 use Rattle.header.proofs.Shapes.{Shaped, shaped}
-use Rattle.header.proofs.Parts.{joined-lt, join-word}
+use Rattle.codec.specs.Label.{values, labelIn}
 use Rattle.codec.proofs.Labels.{body-stored}
 use Rattle.codec.proofs.body.Statement.{statement}
 use Rattle.codec.proofs.body.Tie as tie

@@ -1,8 +1,8 @@
 -- `codec::can_say` meets its contract. Assumes nothing.
 use native.Mathlib.Omega.{arith}
 use borrow.Author.Needs.{needs}
-use Rattle.codec.specs.Writer.{holds}
 use Rattle.header.proofs.Shapes.{Shaped, shaped}
+use Rattle.codec.specs.Writer.{holds}
 use Rattle.codec.proofs.can_say.Statement.{statement}
 use Rattle.codec.proofs.can_say.Tie as tie
 

@@ -4,11 +4,11 @@ use native.Mathlib.Omega.{arith}
 use borrow.Author.Needs.{needs}
 use lib.Pow.{pow-pos}
 use Rattle.numbers.specs.Fields.{Fit}
+use Rattle.numbers.proofs.Parts.{joined-lt, join-word}
 use Rattle.ledger.specs.Header.{widths}
 use Rattle.forms.specs.Formed.{formIn}
-use Rattle.codec.specs.Label.{values, labelIn}
 use Rattle.header.proofs.Shapes.{Shaped, shaped}
-use Rattle.header.proofs.Parts.{joined-lt, join-word}
+use Rattle.codec.specs.Label.{values, labelIn}
 use Rattle.codec.proofs.Labels.{front-packed}
 use Rattle.codec.proofs.front_from.Statement.{statement}
 use Rattle.codec.proofs.front_from.Tie as tie

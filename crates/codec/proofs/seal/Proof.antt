@@ -3,8 +3,8 @@ use mathlib.Core.Path.{_≡_, ap, _∙_}
 use native.Mathlib.Omega.{arith}
 use borrow.Author.Needs.{needs}
 use lib.ListN.{length, length-take}
-use Rattle.codec.specs.Label.{labelIn}
 use Rattle.header.proofs.Shapes.{Shaped, shaped}
+use Rattle.codec.specs.Label.{labelIn}
 use Rattle.codec.proofs.Labels.{room-body, header-stored}
 use Rattle.codec.proofs.seal.Statement.{statement}
 use Rattle.codec.proofs.seal.Tie as tie
