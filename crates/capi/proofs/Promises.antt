@@ -90,7 +90,7 @@ pub nothing-differs-repair : (m : List ℕ) → (numberIn (repaired m .0) ≡ 0 
 nothing-differs-repair m h =
     rw (refused-repair-keeps m (refusal-only (λ x old. old) (λ n old. refl) (repaired m .0) m h .0))
 
--- nor of the reader of headers and of the writer their rooms; their 0 too says that it was done: read-never-zero, write-never-zero
+-- nor of the reader and of the writer of headers their rooms; that their 0 says done is `read-never-zero` and `write-never-zero` of codec
 pub nothing-differs-read : (e p q : ℕ) (h room : List ℕ) → (labelRoom (reads e p q h) room .0 ≡ 0 → ⊥)
     → labelRoom (reads e p q h) room ≡ (labelRoom (reads e p q h) room .0, room)
 nothing-differs-read e p q h room = go (reads e p q h)

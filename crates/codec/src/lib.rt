@@ -1,4 +1,4 @@
-// What a header says, as the reader hands it back and the writer is handed it: a label.
+// What a header says, as the reader hands it back and the writer is handed it.
 use forms::HeaderForm;
 use header::HeaderFields;
 use header::Judged;
@@ -17,7 +17,7 @@ ghost use Rattle.codec.specs.Label.{labelOf, values, frontValues, labelI
 ghost use Rattle.codec.specs.Reader.{reads, readOf};
 ghost use Rattle.codec.specs.Writer.{holds, bodyFor, headerFor, writes, padded, Answers};
 
-// Numbers of any size.
+// A label: numbers of any size.
 pub struct Label {
     pub destination: u32,
     pub source: u32,
