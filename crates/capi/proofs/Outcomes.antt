@@ -6,12 +6,12 @@ use Prim.Native.Nat.{ℕ}
 use native.Mathlib.Omega.{arith}
 use denote.Ref.{now}
 use lib.ListN.{getD, replicate}
+use Rattle.ledger.specs.Outcome.{Contract, OneOutcome}
 use Rattle.ledger.specs.Calls.{turn}
 use Rattle.ledger.specs.Desk.{act}
 use Rattle.memory.specs.Memory.{M}
 use Rattle.memory.proofs.Demands.{off-state}
 use Rattle.memory.proofs.Image.{zero-no-state}
-use Rattle.switch.specs.Outcome.{Contract, OneOutcome}
 use Rattle.switch.proofs.Outcomes.{parted, roomed, lent}
 use Rattle.rooms.specs.Rooms.{told}
 use Rattle.capi.proofs.vr_size

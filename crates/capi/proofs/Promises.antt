@@ -20,6 +20,11 @@ use Rattle.memory.proofs.Square.{refusal-keeps-bytes}
 use Rattle.memory.proofs.Rounds.{refused-round-keeps}
 use Rattle.memory.proofs.Audit.{refused-audit-keeps}
 use Rattle.memory.proofs.Door.{refused-repair-keeps}
+use Rattle.codec.specs.Label as headers
+use Rattle.codec.specs.Label.{Label, Answer}
+use Rattle.codec.specs.Reader.{reads}
+use Rattle.codec.specs.Writer.{writes}
+use Rattle.labels.specs.Labels.{labelRoom, headerRoom}
 use Rattle.rooms.specs.Rooms.{numberIn, told, toldIn, toldRound, entryRoom, recordRoom, sentRoom, readyRoom}
 use Rattle.ledger.specs.Audit.{placeRoom}
 
@@ -84,6 +89,23 @@ nothing-differs-audit m room h =
 pub nothing-differs-repair : (m : List ℕ) → (numberIn (repaired m .0) ≡ 0 → ⊥) → told (repaired m) ≡ (numberIn (repaired m .0), m)
 nothing-differs-repair m h =
     rw (refused-repair-keeps m (refusal-only (λ x old. old) (λ n old. refl) (repaired m .0) m h .0))
+
+-- nor of the reader and of the writer of headers their rooms; that their 0 says done is `read-never-zero` and `write-never-zero` of codec
+pub nothing-differs-read : (e p q : ℕ) (h room : List ℕ) → (labelRoom (reads e p q h) room .0 ≡ 0 → ⊥)
+    → labelRoom (reads e p q h) room ≡ (labelRoom (reads e p q h) room .0, room)
+nothing-differs-read e p q h room = go (reads e p q h)
+  where
+    go : (a : Answer Label) → (labelRoom a room .0 ≡ 0 → ⊥) → labelRoom a room ≡ (labelRoom a room .0, room)
+    go (headers.refused n) k = refl
+    go (headers.gives v) k = absurd (k refl)
+
+pub nothing-differs-write : (e p q : ℕ) (v : Label) (room : List ℕ) (size : ℕ) → (headerRoom (writes e p q v) room size .0 ≡ 0 → ⊥)
+    → headerRoom (writes e p q v) room size ≡ (headerRoom (writes e p q v) room size .0, room, size)
+nothing-differs-write e p q v room size = go (writes e p q v)
+  where
+    go : (a : Answer (List ℕ)) → (headerRoom a room size .0 ≡ 0 → ⊥) → headerRoom a room size ≡ (headerRoom a room size .0, room, size)
+    go (headers.refused n) k = refl
+    go (headers.gives b) k = absurd (k refl)
 
 -- the other settings do not count: memory of this size is never too short for a setup of the same ports, queues and nodes
 pub size-any : (S T : Settings) → S .ports ≡ T .ports → S .queues ≡ T .queues → S .nodes ≡ T .nodes → size S ≡ size T

@@ -13,8 +13,8 @@ ghost use Rattle.memory.specs.Rounds.{roundOn};
 ghost use Rattle.memory.specs.Audit.{auditOn};
 ghost use Rattle.memory.specs.Repair.{repaired};
 ghost use Rattle.sound.specs.Sound.{brokenIn};
-ghost use Rattle.header.specs.Reader.{reads};
-ghost use Rattle.header.specs.Writer.{writes};
+ghost use Rattle.codec.specs.Reader.{reads};
+ghost use Rattle.codec.specs.Writer.{writes};
 ghost use Rattle.labels.specs.Labels.{labelAt, labelRoom, headerRoom};
 ghost use Rattle.rooms.specs.Rooms.{told, toldIn, toldRound, shown, entryRoom, recordRoom, sentRoom, readyRoom, foundNumbers};
 ghost use Rattle.ledger.specs.Audit.{placeRoom};
@@ -163,7 +163,7 @@ pub extern "C" fn vr_read_header(
     ensures { λ r. ⌜ _≡_ {A = ℕ × List ℕ} (r, now (fields .exit))
         (labelRoom (reads edition ports queues (now (header .entry))) (now (fields .entry))) ⌝ }
 {
-    labels::put_label(header::read(edition, ports, queues, header), fields)
+    labels::put_label(codec::read(edition, ports, queues, header), fields)
 }
 
 #[no_mangle]
@@ -179,6 +179,6 @@ pub extern "C" fn vr_write_header(
         (headerRoom (writes edition ports queues (labelAt (now (fields .entry)))) (now (room .entry)) (now (size .entry))) ⌝ }
 {
     let label = labels::label_at(fields);
-    let written = header::write(edition, ports, queues, label);
+    let written = codec::write(edition, ports, queues, label);
     labels::put_header(written, room, size)
 }

@@ -1,2 +1,3 @@
 pub mod Crc
 pub mod Steps
+pub mod Sums

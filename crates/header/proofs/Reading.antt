@@ -12,13 +12,13 @@ use borrow.Author.Tests.{eq-eqb, ne-eqb, eqb-true, eqb-false}
 use Rattle.numbers.specs.Bytes.{number}
 use Rattle.numbers.specs.Fields.{bits, total, unpack}
 use Rattle.numbers.proofs.Bytes.{number-lt, number-split, pow-bytes}
+use Rattle.numbers.proofs.Parts.{unpack-parts, bytewise, numbersAt, pow-total, unpack-bytes}
 use Rattle.ledger.specs.Header.{Form, Fields, fieldsOf, spare, frontBytes, bodySize, headerSize, widths, inOrder}
 use Rattle.header.specs.Front.{frontWidths}
-use Rattle.header.specs.Parse.{fields, wrongSize, parsed, headerOf, readOf}
+use Rattle.header.specs.Parse.{fields, wrongSize, parsed, headerOf, parsedOf}
 use Rattle.header.specs.declared.HeaderFields.{HeaderFields}
 use Rattle.header.specs.declared.Parsed.{Parsed}
 use Rattle.header.specs.declared.Parsed.the-variants.{Header, WrongSize}
-use Rattle.header.proofs.Parts.{unpack-parts, bytewise, numbersAt, pow-total, unpack-bytes}
 
 -- ---- where the fields stand
 
@@ -109,11 +109,11 @@ pub headerOf-injective : (a b : HeaderFields) → headerOf a ≡ headerOf b → 
 unfolding back
 headerOf-injective a b e = ap back e
 
-pub readOf-injective : (a b : Parsed) → readOf a ≡ readOf b → a ≡ b
-readOf-injective (Header a) (Header b) e = cc (headerOf-injective a b (cc))
-readOf-injective (Header a) WrongSize e = absurd (let z : _≡_ {A = ℕ} 0 1 = cc in omega arith)
-readOf-injective WrongSize (Header b) e = absurd (let z : _≡_ {A = ℕ} 0 1 = cc in omega arith)
-readOf-injective WrongSize WrongSize e = refl
+pub parsedOf-injective : (a b : Parsed) → parsedOf a ≡ parsedOf b → a ≡ b
+parsedOf-injective (Header a) (Header b) e = cc (headerOf-injective a b (cc))
+parsedOf-injective (Header a) WrongSize e = absurd (let z : _≡_ {A = ℕ} 0 1 = cc in omega arith)
+parsedOf-injective WrongSize (Header b) e = absurd (let z : _≡_ {A = ℕ} 0 1 = cc in omega arith)
+parsedOf-injective WrongSize WrongSize e = refl
 
 module _ (F : Form) (h : List ℕ) where
   -- by the size

@@ -1,5 +1,5 @@
 -- The laws of judging a header: the answer's meaning determines it, and each verdict by the tests that lead to it. Assumes nothing.
-use mathlib.Core.Path.{_≡_, refl, sym}
+use mathlib.Core.Path.{_≡_, refl, sym, ap, _∙_}
 use mathlib.Core.Bool.{true, false}
 use mathlib.Core.List.{List, [], _∷_, _++_}
 use Prim.Native.Nat.{ℕ, _<_, _≤_}
@@ -14,7 +14,7 @@ use Rattle.ledger.proofs.Tests.{leb-is, leb-not}
 use Rattle.ledger.proofs.Passes.{Passes, passes, guard-after}
 use Rattle.ledger.proofs.Answers.{number-inj}
 use Rattle.header.specs.Parse.{fields, wrongSize, parsed}
-use Rattle.header.specs.Judge.{bad, good, verdict, verdictOf, byteRules, fieldRules, opened, settled}
+use Rattle.header.specs.Judge.{bad, good, verdict, verdictOf, byteRules, fieldRules, opened, settled, readable}
 use Rattle.header.specs.declared.Judged.{Judged}
 use Rattle.header.specs.declared.Judged.the-variants.{Good, No}
 use Rattle.header.proofs.Reading.{headerOf-injective, parsed-size, parsed-fields, parsed-wrong}
@@ -96,7 +96,21 @@ module _ (F : Form) (n p : ℕ) (h : List ℕ) where
     pub of-settled : f .source ≡ p → settled F n f ≡ verdict F n p h
     of-settled right = let own = eq-eqb (f .source) p right in rw (← rest, ← is, own)
 
--- what a good verdict says: the fields are the header's, and it has no fault
+-- ---- a header that arrives nowhere
+
+module _ (F : Form) (n : ℕ) (h : List ℕ) where
+  pub unreadable : (r : ℕ) → bad r ≡ opened F h → bad r ≡ readable F n h
+  unreadable r e = first-bad (byteRules F h) (fieldRules F n (fieldsOf F h)) (fieldsOf F h) r bad (good (fieldsOf F h)) e
+
+  pub reads-on : (f : Fields) → good f ≡ opened F h → settled F n f ≡ readable F n h
+  reads-on f e =
+      let first = first-good (byteRules F h) (fieldsOf F h) f e in
+      ap (settled F n) (first .0)
+      ∙ sym (guard-after (byteRules F h) (fieldRules F n (fieldsOf F h)) bad (good (fieldsOf F h)) (first .1))
+
+-- ---- what a verdict says
+
+-- a good one: the fields are the header's, and it has no fault
 pub good-means : (F : Form) (n p : ℕ) (h : List ℕ) (f : Fields) → good f ≡ verdict F n p h → (f ≡ fieldsOf F h) × Passes F n p h
 good-means F n p h f e =
     let means = first-good (arrivalRules F n p h) (fieldsOf F h) f e in

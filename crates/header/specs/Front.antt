@@ -2,7 +2,6 @@
 use mathlib.Core.List.{List, [], _∷_}
 use Prim.Native.Nat.{ℕ}
 use Rattle.ledger.specs.Header.{Form, spare}
-use Rattle.header.specs.Label.{Label}
 use Rattle.header.specs.declared.Front.{Front}
 
 -- the first six of the widths
@@ -11,7 +10,3 @@ frontWidths F = F .portBits ∷ F .portBits ∷ F .queueBits ∷ 13 ∷ 1 ∷ sp
 
 abbrev pub frontOf : Front → List ℕ
 frontOf f = f .dest ∷ f .source ∷ f .queue ∷ f .len ∷ f .poisoned ∷ f .reserved ∷ []
-
--- what a label says there
-abbrev pub frontValues : Label → List ℕ
-frontValues v = v .dest ∷ v .source ∷ v .queue ∷ v .len ∷ v .poisoned ∷ 0 ∷ []

@@ -5,7 +5,7 @@ use Prim.Native.Nat.{ℕ}
 use lib.ListN.{length, take}
 use lib.Dec.{eqb, ltb, leb}
 use Rattle.crc.specs.Crc.{crc8}
-use Rattle.ledger.specs.Header.{Form, Fields, fieldsOf, bodySize, headerSize, leastLength, arrivalRules}
+use Rattle.ledger.specs.Header.{Form, Fields, fieldsOf, bodySize, headerSize, leastLength, headerRules, arrivalRules}
 use Rattle.ledger.specs.Rules.{Rule, refuse, guard}
 use Rattle.ledger.specs.Answers.{numberOf}
 use Rattle.header.specs.Parse.{headerOf}
@@ -19,6 +19,10 @@ pub data Verdict : Type 0 where
 -- the first of the header's own refusals that applies at port p of a switch of n queues, by its number, or else the fields
 abbrev pub verdict : Form → ℕ → ℕ → List ℕ → Verdict
 verdict F n p h = guard (arrivalRules F n p h) bad (good (fieldsOf F h))
+
+-- of a header that arrives nowhere: its source is not asked
+abbrev pub readable : Form → ℕ → List ℕ → Verdict
+readable F n h = guard (headerRules F n [] h) bad (good (fieldsOf F h))
 
 abbrev pub verdictOf : Judged → Verdict
 verdictOf (Good f) = good (headerOf f)

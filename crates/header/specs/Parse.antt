@@ -32,6 +32,6 @@ headerOf f = record {
   check = f .check;
 }
 
-abbrev pub readOf : Parsed → Read
-readOf (Header f) = fields (headerOf f)
-readOf WrongSize = wrongSize
+abbrev pub parsedOf : Parsed → Read
+parsedOf (Header f) = fields (headerOf f)
+parsedOf WrongSize = wrongSize

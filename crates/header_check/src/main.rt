@@ -1,10 +1,10 @@
 // Judges ten-byte headers in a switch of 24 queues and prints a line for each: the refusal's number, or 0 and then destination, source,
 // queue, length, poisoned, timestamp and transaction. Then writes and reads headers of other forms: for each a line with the refusal's
 // number, or 0 and the header's bytes, and one with the refusal's number, or 0 and the label.
+use codec::HeaderRead;
+use codec::Label;
 use header::HeaderFields;
-use header::HeaderRead;
 use header::Judged;
-use header::Label;
 use ledger::Plain;
 
 fn number(n: u64) {
@@ -53,7 +53,7 @@ fn show_label(v: Label) {
 }
 
 fn show_read(edition: u32, ports: u32, queues: u32, h: &[u8]) {
-    match header::read(edition, ports, queues, h) {
+    match codec::read(edition, ports, queues, h) {
         HeaderRead::Label(v) => show_label(v),
         HeaderRead::No(r) => number(r.number() as u64),
     }
@@ -73,7 +73,7 @@ fn show_bytes(b: [u8; 12], n: u32) {
 }
 
 fn show_written(edition: u32, ports: u32, queues: u32, v: Label) {
-    let w = header::write(edition, ports, queues, v);
+    let w = codec::write(edition, ports, queues, v);
     let answer = w.answer;
     let bytes = w.bytes;
     match answer {

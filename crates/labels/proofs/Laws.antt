@@ -12,11 +12,11 @@ use Rattle.ledger.specs.declared.Plain.{Plain}
 use Rattle.ledger.specs.declared.Plain.the-variants.{Done, No}
 use Rattle.ledger.specs.Header.{formOf, headerSize}
 use Rattle.ledger.proofs.Header.{narrow, header-small}
-use Rattle.header.specs.Label.{Label, countsIn, Answer, refused, gives}
-use Rattle.header.specs.Writer.{holds, writes, bytesOf, padded, answered, Answers}
-use Rattle.header.specs.declared.Written.{Written}
-use Rattle.header.proofs.Labels as labels
-use Rattle.header.proofs.Labels.{counts-mean, no-counts, no-fit, length-header}
+use Rattle.codec.specs.Label.{Label, countsIn, Answer, refused, gives}
+use Rattle.codec.specs.Writer.{holds, writes, bytesOf, padded, answered, Answers}
+use Rattle.codec.specs.declared.Written.{Written}
+use Rattle.codec.proofs.Labels as labels
+use Rattle.codec.proofs.Labels.{counts-mean, no-counts, no-fit, length-header}
 use Rattle.labels.specs.Labels.{headerRoom, over, written, writtenRoom}
 
 -- ---- byte by byte

@@ -5,8 +5,8 @@ use lib.ListN.{length, getD, take, drop}
 use Rattle.ledger.specs.Answers.{numberOf}
 use Rattle.ledger.specs.declared.Plain.{Plain}
 use Rattle.ledger.specs.declared.Plain.the-variants.{Done, No}
-use Rattle.header.specs.Label.{Label, Answer, refused, gives}
-use Rattle.header.specs.declared.Written.{Written}
+use Rattle.codec.specs.Label.{Label, Answer, refused, gives}
+use Rattle.codec.specs.declared.Written.{Written}
 
 -- ---- struct vr_header: destination, source, queue, length, poisoned, timestamp, credit, transaction
 

@@ -1,8 +1,8 @@
 // What the reader's and the writer's answers leave in the rooms that a caller of C lends: struct vr_header, eight numbers, and the twelve bytes
 // of a header with their count.
-use header::HeaderRead;
-use header::Label;
-use header::Written;
+use codec::HeaderRead;
+use codec::Label;
+use codec::Written;
 use ledger::Plain;
 use ledger::Refusal;
 ghost use mathlib.Core.Path.{_≡_};
@@ -10,8 +10,8 @@ ghost use mathlib.Core.List.{List};
 ghost use Prim.Native.Nat.{ℕ, _≤_};
 ghost use lib.ListN.{length};
 ghost use Rattle.ledger.specs.Answers.{numberOf};
-ghost use Rattle.header.specs.Label.{labelIn};
-ghost use Rattle.header.specs.Reader.{readOf};
+ghost use Rattle.codec.specs.Label.{labelIn};
+ghost use Rattle.codec.specs.Reader.{readOf};
 ghost use Rattle.labels.specs.Labels.{labelAt, labelNumbers, labelRoom, over, writtenRoom};
 
 fn refusal(no: Refusal) -> u32

@@ -14,4 +14,5 @@ pub mod Night
 pub mod Audit
 pub mod Repair
 pub mod Answers
+pub mod Outcome
 pub mod Cards

@@ -9,6 +9,7 @@ use borrow.Fn.Claims.{AllOf}
 use denote.Ref.{RefT}
 use lib.ListN.{getD, replicate}
 use Rattle.ledger.specs.Answers.{stitchReply}
+use Rattle.ledger.specs.Outcome.{Contract, OneOutcome}
 use Rattle.ledger.specs.Calls.{Reply, refused}
 use Rattle.ledger.specs.Calls as calls
 use Rattle.ledger.specs.Desk.{act}
@@ -20,7 +21,6 @@ use Rattle.memory.proofs.Demands.{off-state}
 use Rattle.memory.proofs.Image.{zero-no-state}
 use Rattle.ledger.specs.Answers.{recordIn}
 use Rattle.ledger.specs.declared.Stitched.{Stitched}
-use Rattle.switch.specs.Outcome.{Contract, OneOutcome}
 use Rattle.switch.proofs.set_up
 use Rattle.switch.proofs.arrive
 use Rattle.switch.proofs.stitch

@@ -1,7 +1,7 @@
 -- `capi::vr_read_header` meets its contract: the answer follows the reader's. Assumes nothing.
 use mathlib.Core.Path.{ap, _∙_}
 use borrow.Author.Needs.{needs}
-use Rattle.header.specs.Label.{Label, Answer}
+use Rattle.codec.specs.Label.{Label, Answer}
 use Rattle.labels.specs.Labels.{labelRoom}
 use Rattle.capi.proofs.vr_read_header.Statement.{statement}
 use Rattle.capi.proofs.vr_read_header.Tie as tie

@@ -1,8 +1,8 @@
 -- `capi::vr_write_header` meets its contract: the answer follows the writer's. Assumes nothing.
 use mathlib.Core.Path.{ap, _∙_}
 use borrow.Author.Needs.{needs}
-use Rattle.header.specs.Label.{Label, labelIn}
-use Rattle.header.specs.Writer.{writes}
+use Rattle.codec.specs.Label.{Label, labelIn}
+use Rattle.codec.specs.Writer.{writes}
 use Rattle.labels.specs.Labels.{headerRoom}
 use Rattle.labels.proofs.Laws.{writes-size, writes-room}
 use Rattle.capi.proofs.vr_write_header.Statement.{statement}

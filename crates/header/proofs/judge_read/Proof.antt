@@ -5,7 +5,7 @@ use Rattle.ledger.specs.Answers.{numberOf}
 use Rattle.forms.specs.Formed.{formIn}
 use Rattle.header.specs.Parse.{headerOf}
 use Rattle.header.specs.Judge.{verdictOf}
-use Rattle.header.proofs.Labels.{unreadable, reads-on}
+use Rattle.header.proofs.Verdicts.{unreadable, reads-on}
 use Rattle.header.proofs.judge_read.Statement.{statement}
 use Rattle.header.proofs.judge_read.Tie as tie
 

@@ -8,7 +8,7 @@ use lib.ListN.{take, length-take}
 use Rattle.crc.specs.Crc.{crc8}
 use Rattle.ledger.specs.Header.{Form, Fields, bodySize}
 use Rattle.forms.specs.Formed.{formIn}
-use Rattle.header.specs.Parse.{fields, parsed, headerOf, readOf}
+use Rattle.header.specs.Parse.{fields, parsed, headerOf, parsedOf}
 use Rattle.header.proofs.Shapes.{Shaped, shaped}
 use Rattle.header.proofs.Reading.{parsed-size}
 use Rattle.header.proofs.Verdicts.{of-size, of-sum, of-reserved, of-bytes}
@@ -29,7 +29,7 @@ abbrev fields-of : tie.After-f → Fields
 fields-of c = headerOf (c .f .given .0 .0)
 
 found : (c : tie.After-f) → parsed (form-of c) (bytes c) ≡ fields (fields-of c)
-found c = sym (c .before .before .parse .ensures) ∙ ap readOf (c .f .given .1)
+found c = sym (c .before .before .parse .ensures) ∙ ap parsedOf (c .f .given .1)
 
 shape : (c : tie.After-f) → Shaped (start c .args .form)
 shape c = shaped (start c .args .form) (start c .pre)
@@ -62,7 +62,7 @@ returns : tie.Need-returns
 returns c =
     let parse = c .before .before in
     let a = parse .before .before .args in
-    of-size (formIn (a .form)) (a .h .now) (sym (parse .parse .ensures) ∙ ap readOf (c .enum-told .given .1))
+    of-size (formIn (a .form)) (a .h .now) (sym (parse .parse .ensures) ∙ ap parsedOf (c .enum-told .given .1))
 
 sub-body : tie.Need-sub-body
 sub-body c = let s = shape (c .before .before) in omega arith

@@ -1,0 +1,5 @@
+pub mod Labels
+pub mod Undo
+pub mod Cards
+pub mod Answers
+pub mod Arrivals

@@ -1,0 +1,4 @@
+pub mod Label
+pub mod Reader
+pub mod Writer
+pub mod Cards
