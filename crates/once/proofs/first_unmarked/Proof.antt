@@ -75,9 +75,10 @@ loop-again c =
     let at = r .before .before in
     let a = start at .args in
     let in-all = r .before .loop-test .taken in
-    let ms = marks-of (a .marks .now) (a .s .all) in
-    let set = λ e. c .if1 .left (sym (read r) ∙ e) in
-    (omega arith, at .loop .inv .1 ∙ mark-set (a .s .lists) ms (at .loop .i) (rw length-tabulate in-all) set)
+    let ms = marks-of (a .marks .now) (a .s .all) in (
+      omega arith,
+      at .loop .inv .1 ∙ mark-set (a .s .lists) ms (at .loop .i) (rw length-tabulate in-all) (λ e. c .if1 .left (sym (read r) ∙ e)),
+    )
 
 returns-2 : tie.Need-returns-2 Inv-loop μ-loop
 returns-2 c =
