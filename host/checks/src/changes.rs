@@ -56,7 +56,8 @@ type Aim = fn(&mut Damaged, &mut Random);
 
 /// Together they break each rule in each way; (g) and (f) most, since that
 /// needs bytes that keep all the rules before.
-const AIMED: [Aim; 20] = [
+const AIMED: [Aim; 23] = [
+    Damaged::setting,
     Damaged::setting,
     Damaged::last_served,
     Damaged::map_entry,
@@ -73,6 +74,8 @@ const AIMED: [Aim; 20] = [
     Damaged::renamed,
     Damaged::record,
     Damaged::record,
+    Damaged::record,
+    Damaged::free_priced,
     Damaged::queue,
     Damaged::length,
     Damaged::arrival,
@@ -321,9 +324,19 @@ impl Damaged {
         (!nodes.is_empty()).then(|| self.tables.slot(random.pick(&nodes)))
     }
 
-    /// A field out of its range.
+    /// A price for a packet of queue 0, which is free.
+    fn free_priced(&mut self, random: &mut Random) {
+        if let Some(slot) = self.packet(random, true) {
+            self.tables.queue.set(&mut self.memory, slot, 0);
+            let price = random.pick(&[1, 2, 255]);
+            self.tables.price.set(&mut self.memory, slot, price);
+        }
+    }
+
+    /// A field out of its range; often the queue, for which a packet has to be in
+    /// ingress.
     fn record(&mut self, random: &mut Random) {
-        let field = random.below(7);
+        let field = random.pick(&[0, 1, 2, 2, 3, 4, 5, 5]);
         let slot = match self.packet(random, field == 2) {
             Some(slot) => slot,
             None => return,

@@ -2,7 +2,7 @@
 
 use std::fmt;
 
-use model::{Call, Reply, REFUSALS};
+use model::{Call, Reply, Shape, REFUSALS};
 
 const NAMES: [&str; 11] = [
     "setup",
@@ -22,6 +22,16 @@ const NAMES: [&str; 11] = [
 /// which is tried by itself.
 fn refusals() -> impl Iterator<Item = u8> {
     REFUSALS.into_iter().filter(|&number| number != 21)
+}
+
+/// Can an arrival at a switch of this shape be given it? A field that is full has
+/// no queue too many, and some headers have no reserved bits.
+fn can_be(number: u8, shape: &Shape) -> bool {
+    match number {
+        19 => shape.queues < 1 << shape.queue_bits(),
+        20 => shape.reserved_bits() > 0,
+        _ => true,
+    }
 }
 
 #[derive(Debug, Clone, Default, PartialEq, Eq)]
@@ -91,6 +101,18 @@ impl Counts {
         refusals()
             .map(|number| (number, self.refused[number as usize]))
             .filter(|&(number, times)| times < least(number))
+            .collect()
+    }
+
+    /// The refusals that came less often than they should, of calls on switches of
+    /// one shape; and those that came though such a switch gives none.
+    pub fn amiss(&self, shape: &Shape, least: u64) -> Vec<(u8, u64)> {
+        refusals()
+            .map(|number| (number, self.refused[number as usize]))
+            .filter(|&(number, times)| match can_be(number, shape) {
+                true => times < least,
+                false => times > 0,
+            })
             .collect()
     }
 

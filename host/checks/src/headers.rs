@@ -130,24 +130,27 @@ impl Scribe {
         }
     }
 
-    /// So many headers of a seed, half of them read and half written.
+    /// So many headers of a seed, every second one written and the others read.
     pub fn run(&self, seed: u64, headers: u64) -> Result<Tally, String> {
         let mut random = Random::new(seed);
         let mut tally = Tally::default();
-        for _ in 0..headers / 2 {
-            let shape = any_shape(&mut random);
-            let bytes = any_bytes(&mut random, &shape);
-            let fields = match random.one_in(3) {
-                true => wrong_fields(&mut random, &shape),
-                false => right_fields(&mut random, &shape),
-            };
+        for number in 0..headers {
+            let of = any_shape(&mut random);
             // Now and then edition, ports and queues are no shape.
-            let (reads, writes) = match random.one_in(16) {
-                true => (no_shape(&mut random), no_shape(&mut random)),
-                false => (shape, shape),
+            let shape = match random.one_in(16) {
+                true => no_shape(&mut random),
+                false => of,
             };
-            tally.read[usize::from(self.reads(&reads, &bytes)?)] += 1;
-            tally.written[usize::from(self.writes(&writes, &fields)?)] += 1;
+            if number % 2 == 0 {
+                let bytes = any_bytes(&mut random, &of);
+                tally.read[usize::from(self.reads(&shape, &bytes)?)] += 1;
+            } else {
+                let fields = match random.one_in(3) {
+                    true => wrong_fields(&mut random, &of),
+                    false => right_fields(&mut random, &of),
+                };
+                tally.written[usize::from(self.writes(&shape, &fields)?)] += 1;
+            }
         }
         Ok(tally)
     }
@@ -165,6 +168,20 @@ impl Tally {
         let mine = self.read.iter_mut().chain(&mut self.written);
         for (cell, more) in mine.zip(other.read.iter().chain(&other.written)) {
             *cell += more;
+        }
+    }
+
+    /// How many headers were read and written.
+    pub fn headers(&self) -> u64 {
+        self.read.iter().chain(&self.written).sum()
+    }
+
+    /// How often each answer must have come among so many headers; none of a few,
+    /// which may have too little of everything.
+    pub fn least(headers: u64) -> u64 {
+        match headers {
+            0..=4999 => 0,
+            _ => headers / 1000,
         }
     }
 

@@ -11,6 +11,7 @@ pub mod finding;
 pub mod headers;
 pub mod library;
 pub mod night;
+pub mod program;
 pub mod reader;
 pub mod run;
 pub mod scale;

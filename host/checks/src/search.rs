@@ -410,6 +410,7 @@ pub fn run<D: Desk>(start: &Start, desk: &D, tally: &mut Tally) -> Result<(), St
         aim => search.aimed(aim),
     };
     made.map_err(told)?;
+    tally.starts += 1;
     if let Some(watch) = &search.scene.watch {
         tally.note(start.aim != Aim::Any, watch);
     }

@@ -38,6 +38,7 @@ type Table = BTreeMap<u32, [Waits; 2]>;
 
 #[derive(Debug, Clone, Default, PartialEq, Eq)]
 pub struct Tally {
+    pub starts: u64,
     /// Starts with a packet to watch.
     pub watched: u64,
     /// Whose stitch found too little credit, so that nothing was promised.
@@ -70,7 +71,26 @@ impl Tally {
         }
     }
 
+    /// The kinds of waits of which there are none, at random or aimed.
+    pub fn missing(&self) -> Vec<&'static str> {
+        let kinds = [
+            (&self.to_stitch, ["stitched, at random", "stitched, aimed"]),
+            (&self.to_leave, ["left, at random", "left, aimed"]),
+        ];
+        let none = |table: &Table, column: usize| table.values().all(|row| row[column].times == 0);
+        let mut missing = Vec::new();
+        for (table, names) in kinds {
+            for (column, name) in names.into_iter().enumerate() {
+                if none(table, column) {
+                    missing.push(name);
+                }
+            }
+        }
+        missing
+    }
+
     pub fn add(&mut self, other: &Tally) {
+        self.starts += other.starts;
         self.watched += other.watched;
         self.uncovered += other.uncovered;
         for (mine, theirs) in [

@@ -6,21 +6,17 @@ use std::sync::Mutex;
 use std::thread;
 use std::time::{Duration, Instant};
 
+use crate::program::say;
+
 /// No run takes a second; one that takes this long does not end.
 const LONGEST_RUN: Duration = Duration::from_secs(120);
 
 /// The number of a worker's run, so that the watcher sees whether it goes on.
 const RESTING: u64 = u64::MAX;
 
-/// A number among a program's words, or what stands for it.
-pub fn number(word: Option<String>, default: u64, usage: &str) -> u64 {
-    match word {
-        None => default,
-        Some(word) => word.replace('_', "").parse().unwrap_or_else(|_| {
-            eprintln!("{usage}");
-            exit(2);
-        }),
-    }
+/// How many parts of a size so many are, the last of which may be smaller.
+pub fn in_parts(all: u64, of: u64) -> u64 {
+    all / of + u64::from(all % of > 0)
 }
 
 /// Runs 0 to `runs` - 1 on all processors; the first failure ends the program.
@@ -51,7 +47,7 @@ pub fn on_all_processors<T: Send>(
                     match work(run) {
                         Ok(part) => add(&mut total.lock().unwrap(), part),
                         Err(failure) => {
-                            println!("{what} {run} FAILED\n{failure}");
+                            say(format!("{what} {run} FAILED\n{failure}"));
                             exit(1);
                         }
                     }
@@ -70,7 +66,7 @@ pub fn on_all_processors<T: Send>(
                         *last = run;
                         *since = Instant::now();
                     } else if run != RESTING && since.elapsed() > LONGEST_RUN {
-                        println!("{what} {run} FAILED: it does not end");
+                        say(format!("{what} {run} FAILED: it does not end"));
                         exit(1);
                     }
                 }
@@ -82,7 +78,7 @@ pub fn on_all_processors<T: Send>(
             .count();
         done.store(true, Ordering::Relaxed);
         if panicked > 0 {
-            println!("{what}: a worker panicked");
+            say(format!("{what}: a worker panicked"));
             exit(1);
         }
     });

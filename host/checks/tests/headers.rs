@@ -1,7 +1,7 @@
 //! Headers through the proved reader and writer, beside the model's; the long
 //! run is the program `headers`.
 
-use checks::headers::{Read, Scribe, Write, PROVED};
+use checks::headers::{Read, Scribe, Tally, Write, PROVED};
 use model::header::Header;
 use model::Shape;
 use traffic::headers::spelt;
@@ -11,9 +11,23 @@ use ventorupo::{Form, Refusal};
 /// Half of them read and half written, each undone by the other.
 #[test]
 fn reader_and_writer_agree_with_the_model() {
-    let tally = PROVED.run(7, 500_000).unwrap();
+    let tally = PROVED.run(7, 100_000).unwrap();
     println!("{tally}");
-    assert_eq!(tally.too_rare(2000), []);
+    assert_eq!(tally.headers(), 100_000);
+    assert_eq!(tally.too_rare(400), []);
+}
+
+/// None is dropped, and an odd one is read. Among few not every answer is asked
+/// for, among more each.
+#[test]
+fn as_many_headers_as_are_asked_for() {
+    for headers in [0, 1, 2, 3, 999] {
+        let tally = PROVED.run(8, headers).unwrap();
+        let [read, written] = [tally.read, tally.written].map(|times| times.iter().sum::<u64>());
+        assert_eq!((read, written), ((headers + 1) / 2, headers / 2));
+        assert_eq!(tally.headers(), headers);
+    }
+    assert_eq!([4999, 5000, 10_000_000].map(Tally::least), [0, 5, 10_000]);
 }
 
 /// Every edition, number of ports and number of queues near its row.

@@ -141,6 +141,13 @@ impl Phase {
     }
 }
 
+/// The most nodes a port for which there is memory, if there is any for one.
+fn most_nodes(shape: &Shape, memory_len: usize) -> Option<u32> {
+    (1..=MOST_NODES)
+        .rev()
+        .find(|&nodes| size(&Settings::of(*shape, nodes, 64, 1, 0)) <= memory_len)
+}
+
 /// A seeded run of calls.
 #[derive(Debug, Clone)]
 pub struct Traffic {
@@ -183,7 +190,12 @@ impl Traffic {
             return self.setup(model);
         }
         if self.random.percent(self.profile.hostile_share()) {
-            return self.hostile(ledger);
+            // Without this, few setups are refused while a switch is in use.
+            let setup = self.profile == Profile::Hostile && self.random.one_in(16);
+            return match setup {
+                true => self.refused_setup(model),
+                false => self.hostile(ledger),
+            };
         }
         self.sensible(ledger)
     }
@@ -284,18 +296,27 @@ impl Traffic {
             Profile::Resetup if self.random.one_in(4) => any_shape(&mut self.random),
             _ => self.shape,
         };
-        // The largest N that there is memory for.
-        let fits = (1..=MOST_NODES)
-            .rev()
-            .find(|&n| size(&Settings::of(shape, n, 64, 1, 0)) <= model.memory_len());
-        let mut settings = self.settings(shape, fits.unwrap_or(MOST_NODES));
+        let fits = most_nodes(&shape, model.memory_len());
+        let settings = self.settings(shape, fits.unwrap_or(MOST_NODES));
         let wrong =
             matches!(self.profile, Profile::Resetup | Profile::Hostile) && self.random.one_in(3);
-        if !wrong {
-            return Call::Setup(settings);
-        }
+        Call::Setup(match wrong {
+            true => self.made_wrong(settings, fits),
+            false => settings,
+        })
+    }
+
+    /// One that is meant to be refused, while the switch is in use.
+    fn refused_setup(&mut self, model: &Model) -> Call {
+        let fits = most_nodes(&self.shape, model.memory_len());
+        let settings = self.settings(self.shape, fits.unwrap_or(MOST_NODES));
+        Call::Setup(self.made_wrong(settings, fits))
+    }
+
+    /// Settings of which one is out of its row or too much for the memory, in
+    /// which so many nodes a port fit; or more than one.
+    fn made_wrong(&mut self, mut settings: Settings, fits: Option<u32>) -> Settings {
         let r = &mut self.random;
-        // More than one may be wrong.
         for _ in 0..r.among(1, 2) {
             match r.below(8) {
                 0 => settings.nodes = r.pick(&WRONG_NODES),
@@ -323,7 +344,7 @@ impl Traffic {
                 }
             }
         }
-        Call::Setup(settings)
+        settings
     }
 
     // Calls that make sense.

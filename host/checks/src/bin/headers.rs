@@ -2,24 +2,24 @@
 //! reader and writer, beside the model's and beside each other, on all
 //! processors.
 
-use std::process::exit;
 use std::time::Instant;
 
 use checks::headers::{Tally, PROVED};
-use checks::workers::{number, on_all_processors};
+use checks::program::{fail, say, Words};
+use checks::workers::{in_parts, on_all_processors};
 
-const USAGE: &str = "headers [HEADERS [SEED]]";
 const HEADERS_A_RUN: u64 = 100_000;
 
 fn main() {
-    let mut words = std::env::args().skip(1);
-    let headers = number(words.next(), 10_000_000, USAGE);
-    let seed = number(words.next(), 1, USAGE);
-    println!("{headers} headers, seed {seed}");
+    let mut words = Words::given("headers [HEADERS [SEED]]");
+    let headers = words.how_many(10_000_000);
+    let seed = words.number().unwrap_or(1);
+    words.end();
+    say(format!("{headers} headers, seed {seed}"));
     let begun = Instant::now();
     let tally = on_all_processors(
         "headers",
-        (headers + HEADERS_A_RUN - 1) / HEADERS_A_RUN,
+        in_parts(headers, HEADERS_A_RUN),
         Tally::default(),
         |part| {
             let left = headers - part * HEADERS_A_RUN;
@@ -28,11 +28,18 @@ fn main() {
         },
         |total, part| total.add(&part),
     );
-    println!("{tally}in {:.1?}", begun.elapsed());
-    let rare = tally.too_rare(headers / 1000);
-    if !rare.is_empty() {
-        println!("FAILED: too rare to count: {rare:?}");
-        exit(1);
+    let done = tally.headers();
+    say(format!("{tally}{done} headers in {:.1?}", begun.elapsed()));
+    if done != headers {
+        fail(format!("{done} headers were tried of {headers}"));
     }
-    println!("all agree");
+    let least = Tally::least(headers);
+    let rare = tally.too_rare(least);
+    if !rare.is_empty() {
+        fail(format!("less than {least} times: {rare:?}"));
+    }
+    match least {
+        0 => say("all agree; too few to ask for each answer"),
+        _ => say(format!("all agree; each answer came {least} times or more")),
+    }
 }

@@ -2,22 +2,23 @@
 //! a damaged memory for each 50 of them, with what the night crew asks of it, on
 //! switches of every shape and on all processors.
 
-use std::process::exit;
 use std::time::Instant;
 
 use checks::counts::Counts;
 use checks::damage::{self, Verdicts};
-use checks::workers::{number, on_all_processors};
+use checks::program::{fail, say, Words};
+use checks::workers::{in_parts, on_all_processors};
 use checks::{library, run};
 
-const USAGE: &str = "soak [CALLS [SEED]]";
 /// Of a small switch; of a large one fewer.
 const DAMAGED_A_RUN: usize = 100;
 const CALLS_FOR_A_DAMAGED: u64 = 50;
-/// From so many calls on, each refusal must have come often enough, and each
-/// way of breaking a rule.
-const MANY_CALLS: u64 = 1_000_000;
-/// Of ten million calls and 200,000 damaged memories, ten times as often.
+/// From so many calls on, each answer must have come often enough, and each way
+/// of breaking a rule: once for so many calls. Of setups there are few, and of
+/// calls before the first.
+const MANY_CALLS: u64 = 200_000;
+const CALLS_FOR_AN_ANSWER: u64 = 1000;
+const CALLS_FOR_1_TO_3: u64 = 10_000;
 const CALLS_FOR_A_WAY: u64 = 100_000;
 
 /// The plans of the first numbers, with so many parts in all.
@@ -34,12 +35,8 @@ fn enough<P>(parts: u64, plan: impl Fn(u64) -> (P, usize)) -> Vec<P> {
         .collect()
 }
 
-fn main() {
-    let mut words = std::env::args().skip(1);
-    let calls = number(words.next(), 200_000, USAGE);
-    let seed = number(words.next(), 1, USAGE);
-    println!("soak of {calls} calls, seed {seed}");
-
+/// The calls of a seed, library and model side by side.
+fn compared(seed: u64, calls: u64) -> Counts {
     let start = Instant::now();
     let plans = enough(calls, |number| {
         let plan = run::Plan::numbered(seed, number);
@@ -58,15 +55,22 @@ fn main() {
         },
         |total, part| total.add(&part),
     );
-    println!(
-        "{} calls compared in {:.1?}",
-        counts.calls(),
+    let done = counts.calls();
+    say(format!(
+        "{done} calls compared in {:.1?}\n{counts}",
         start.elapsed()
-    );
-    println!("{counts}");
+    ));
+    let planned: u64 = plans.iter().map(|plan| plan.calls as u64).sum();
+    if done != planned || done < calls {
+        fail(format!("{done} calls were made of {planned}"));
+    }
+    counts
+}
 
+/// So many damaged memories of a seed, and some more: runs are made to their end.
+fn damaged(seed: u64, memories: u64) -> Verdicts {
     let start = Instant::now();
-    let plans = enough(calls / CALLS_FOR_A_DAMAGED, |number| {
+    let plans = enough(memories, |number| {
         let plan = damage::Plan::numbered(seed, number, DAMAGED_A_RUN);
         (plan, plan.damaged)
     });
@@ -83,19 +87,34 @@ fn main() {
         },
         |total, part| total.add(&part),
     );
-    println!("{verdicts}\nin {:.1?}", start.elapsed());
-
-    if calls >= MANY_CALLS {
-        let rare = counts.too_rare(100, 1000);
-        if !rare.is_empty() || !counts.each_call_at_least(1000) {
-            println!("FAILED: too rare to count, refusal and times: {rare:?}");
-            exit(1);
-        }
-        let rare = verdicts.too_rare(calls / CALLS_FOR_A_WAY);
-        if !rare.is_empty() {
-            println!("FAILED: too rarely found broken: {rare:?}");
-            exit(1);
-        }
+    say(format!("{verdicts}\nin {:.1?}", start.elapsed()));
+    let done = verdicts.memories();
+    let planned: u64 = plans.iter().map(|plan| plan.damaged as u64).sum();
+    if done != planned || done < memories {
+        fail(format!("{done} memories were damaged of {planned}"));
     }
-    println!("all agree");
+    verdicts
+}
+
+fn main() {
+    let mut words = Words::given("soak [CALLS [SEED]]");
+    let calls = words.how_many(200_000);
+    let seed = words.number().unwrap_or(1);
+    words.end();
+    say(format!("soak of {calls} calls, seed {seed}"));
+    let counts = compared(seed, calls);
+    let verdicts = damaged(seed, in_parts(calls, CALLS_FOR_A_DAMAGED));
+    if calls < MANY_CALLS {
+        return say("all agree; too few to ask for each answer");
+    }
+    let least = calls / CALLS_FOR_AN_ANSWER;
+    let rare = counts.too_rare(calls / CALLS_FOR_1_TO_3, least);
+    if !rare.is_empty() || !counts.each_call_at_least(least) {
+        fail(format!("too rare to count, refusal and times: {rare:?}"));
+    }
+    let rare = verdicts.too_rare(calls / CALLS_FOR_A_WAY);
+    if !rare.is_empty() {
+        fail(format!("too rarely found broken: {rare:?}"));
+    }
+    say("all agree; each answer came, and each rule was broken in each way");
 }

@@ -3,42 +3,49 @@
 //! near they come to the promised most. With the ten-byte header where no ports
 //! and queues are named.
 
-use std::process::exit;
 use std::time::Instant;
 
+use checks::program::{fail, say, Words};
 use checks::search::{run, Start};
 use checks::waits::Tally;
-use checks::workers::{number, on_all_processors};
+use checks::workers::{in_parts, on_all_processors};
 use checks::wrapper;
 use model::Shape;
 
-const USAGE: &str = "worst_wait [STARTS [SEED [PORTS QUEUES]]]";
 const STARTS_A_RUN: u64 = 100;
+/// From so many starts on, packets of each kind must have been watched.
+const MANY_STARTS: u64 = 100;
+
+/// The shape that is named, or that of the ten-byte header.
+fn shape(words: &mut Words) -> Shape {
+    let shape = match words.more() {
+        true => Shape::wide(words.small(), words.small()),
+        false => Shape::TEN_BYTES,
+    };
+    match shape.in_its_rows() {
+        true => shape,
+        false => words.refuse(),
+    }
+}
 
 fn main() {
-    let mut words = std::env::args().skip(1);
-    let starts = number(words.next(), 100_000, USAGE);
-    let seed = number(words.next(), 1, USAGE);
-    let shape = match words.next() {
-        None => Shape::TEN_BYTES,
-        Some(ports) => Shape::wide(
-            number(Some(ports), 0, USAGE) as u32,
-            number(words.next(), 0, USAGE) as u32,
-        ),
-    };
-    if !shape.in_its_rows() {
-        eprintln!("{USAGE}");
-        exit(2);
-    }
-    println!("worst wait of {starts} starts, seed {seed}, {shape:?}");
+    let mut words = Words::given("worst_wait [STARTS [SEED [PORTS QUEUES]]]");
+    let starts = words.how_many(100_000);
+    let seed = words.number().unwrap_or(1);
+    let shape = shape(&mut words);
+    words.end();
+    say(format!(
+        "worst wait of {starts} starts, seed {seed}, {shape:?}"
+    ));
     let begun = Instant::now();
     let tally = on_all_processors(
         "starts",
-        (starts + STARTS_A_RUN - 1) / STARTS_A_RUN,
+        in_parts(starts, STARTS_A_RUN),
         Tally::default(),
         |part| {
             let mut tally = Tally::default();
-            for number in part * STARTS_A_RUN..starts.min((part + 1) * STARTS_A_RUN) {
+            let first = part * STARTS_A_RUN;
+            for number in first..first + STARTS_A_RUN.min(starts - first) {
                 let start = Start::numbered(seed, number, shape);
                 run(&start, &wrapper::call, &mut tally)?;
             }
@@ -46,5 +53,13 @@ fn main() {
         },
         |total, part| total.add(&part),
     );
-    println!("{tally}\nin {:.1?}: no promise broken", begun.elapsed());
+    say(format!("{tally}\nin {:.1?}", begun.elapsed()));
+    if tally.starts != starts {
+        fail(format!("{} starts were made of {starts}", tally.starts));
+    }
+    let missing = tally.missing();
+    if starts >= MANY_STARTS && !missing.is_empty() {
+        fail(format!("nothing to see: {missing:?}"));
+    }
+    say(format!("{starts} starts: no promise broken"));
 }

@@ -1,9 +1,6 @@
 //! Rounds made of the library's calls one by one, the right one and some with
 //! one slip each, so that tests can show that they would find it.
 
-// Not every test uses all of it.
-#![allow(dead_code)]
-
 use checks::{library, reader, Desk};
 use model::{Call, Reply, Shape};
 
@@ -90,6 +87,8 @@ pub fn with_round(made: Round) -> impl Desk {
 /// A slip, and whether a packet may wait longer than promised for it.
 pub struct Slip {
     pub name: &'static str,
+    // Asked for by the waits alone.
+    #[allow(dead_code)]
     pub delays: bool,
     pub made: Round,
 }
