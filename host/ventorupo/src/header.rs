@@ -3,10 +3,7 @@
 use std::fmt;
 use std::ops::Deref;
 
-use crate::{calls, done, Refusal, TEN_BYTES, WIDE};
-
-/// The most bytes that a header has.
-pub(crate) const MOST_BYTES: usize = 12;
+use crate::{calls, done, Refusal, HEADER_BYTES, TEN_BYTES, WIDE};
 
 /// What a header says. Any numbers may stand here; writing refuses those that
 /// don't fit their fields. Reserved bits and checksum are the writer's matter.
@@ -153,7 +150,7 @@ impl Form {
 
     /// The header that says this, its checksum made. Refused 2, then 21.
     pub fn write(&self, header: &Header) -> Result<HeaderBytes, Refusal> {
-        let (mut bytes, mut size) = ([0; MOST_BYTES], 0);
+        let (mut bytes, mut size) = ([0; HEADER_BYTES], 0);
         let Form {
             edition,
             ports,
@@ -172,11 +169,11 @@ impl Form {
     }
 }
 
-/// A header's bytes, up to twelve of them; they are a slice in all but name.
+/// A header's bytes, up to [`HEADER_BYTES`] of them; they are a slice in all but name.
 #[derive(Clone, Copy, PartialEq, Eq, Hash)]
 pub struct HeaderBytes {
     /// Past the size: zeros.
-    bytes: [u8; MOST_BYTES],
+    bytes: [u8; HEADER_BYTES],
     size: usize,
 }
 

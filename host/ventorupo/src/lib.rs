@@ -69,6 +69,15 @@ pub use night::{audit, find, repair, Finding, Rule};
 pub use refusal::Refusal;
 pub use settings::{size, Settings, MOST_PORTS, TEN_BYTES, WIDE};
 
+/// The most bytes that a header has, in any form; see [`Form::size`].
+///
+/// ```
+/// use ventorupo::{Form, HEADER_BYTES};
+///
+/// assert_eq!(Form::wide(32, 64).size(), Some(HEADER_BYTES));
+/// ```
+pub const HEADER_BYTES: usize = 12;
+
 /// The bytes that a round writes for each port's turn.
 pub const TURN_BYTES: usize = 4;
 

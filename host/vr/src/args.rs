@@ -1,6 +1,7 @@
 //! The command line.
 
 mod header;
+mod help;
 
 use std::ffi::{OsStr, OsString};
 use std::path::PathBuf;
@@ -8,38 +9,13 @@ use std::path::PathBuf;
 use ventorupo::{Form, Header};
 
 use crate::trouble::Trouble;
-
-pub const USAGE: &str = "\
-vr: images of a switch's state, explained, shown and repaired; headers made and shown
-
-    vr explain IMAGE         says that it is a sound state, or the first rule broken and what shows it
-    vr dump IMAGE [--json]   shows settings, map, credits and every list with its packets
-    vr repair IMAGE -o NEW   writes NEW: IMAGE with the starting state of its settings, the map kept
-    vr header make [FORM] --destination N --source N --queue N --length N [--poisoned N]
-                   [--timestamp N] [--credit N] [--transaction N] [-o NEW]
-                             says the header's bytes in hexadecimal, and writes them to NEW
-    vr header show [FORM] HEADER [--json]
-                             shows the fields of a header, or why it is none
-    vr help                  says this; so does --help behind a command
-
-IMAGE is a file of a state's bytes (docs/LAYOUT.md), and is never written. NEW must not be there yet:
-vr overwrites nothing. A name that starts with - is written ./-name. Bytes of IMAGE past the state go to
-NEW as they are. A repair drops every packet and all outward credit, also of a sound state; it is refused
-where a setting is not in its row or the image is too short, and then NEW is not made.
-
-HEADER is hexadecimal digits, in one word or several, or a file of a header's bytes; one whose name is
-such digits is written ./name. FORM is --ports N --queues N of a switch with wide headers; without it
-headers have ten bytes, for 4 ports and 24 queues. (--edition ten or --edition wide says it outright.)
-A number N is decimal or, behind 0x, hexadecimal; fields that are not named are 0.
-
-Exit status: 0 a sound state, repaired, made or shown; 1 a broken state, or refused; 2 it could not be
-done (a wrong command, a file that cannot be read or written), with the reason on standard error.
-";
+pub use help::Topic;
 
 /// What is to be done.
 #[derive(Debug, PartialEq, Eq)]
 pub enum Command {
-    Help,
+    Help(Topic),
+    Version,
     Explain {
         image: PathBuf,
     },
@@ -68,6 +44,8 @@ pub enum Command {
 pub enum Given {
     Bytes(Vec<u8>),
     File(PathBuf),
+    /// Standard input.
+    Input,
 }
 
 /// The words behind a command.
@@ -83,12 +61,12 @@ pub fn command(words: impl Iterator<Item = OsString>) -> Result<Command, Trouble
     let mut words = words;
     let name = words.next().ok_or_else(|| bad("no command".into()))?;
     let words: Vec<OsString> = words.collect();
-    let helps = |word: &OsString| word == "--help" || word == "-h";
+    if let Some(topic) = topic(&name, &words) {
+        return Ok(Command::Help(topic));
+    }
     match name.to_str() {
-        Some("help" | "--help" | "-h") => Ok(Command::Help),
-        Some("explain" | "dump" | "repair" | "header") if words.iter().any(helps) => {
-            Ok(Command::Help)
-        }
+        Some("help" | "--help" | "-h") => alone(&name, &words, Command::Help(Topic::All)),
+        Some("--version") => alone(&name, &words, Command::Version),
         Some("explain") => {
             let image = named(rest(words, &[])?.image)?;
             Ok(Command::Explain { image })
@@ -109,6 +87,34 @@ pub fn command(words: impl Iterator<Item = OsString>) -> Result<Command, Trouble
     }
 }
 
+/// The part of the help that is asked for behind a command.
+fn topic(name: &OsStr, words: &[OsString]) -> Option<Topic> {
+    let helps = |word: &OsString| word == "--help" || word == "-h";
+    if !words.iter().any(helps) {
+        return None;
+    }
+    match (name.to_str()?, words.first()?.to_str()) {
+        ("explain", _) => Some(Topic::Explain),
+        ("dump", _) => Some(Topic::Dump),
+        ("repair", _) => Some(Topic::Repair),
+        ("header", Some("make")) => Some(Topic::Make),
+        ("header", Some("show")) => Some(Topic::Show),
+        ("header", _) => Some(Topic::Header),
+        _ => None,
+    }
+}
+
+/// A command that has no words behind it.
+fn alone(name: &OsStr, words: &[OsString], command: Command) -> Result<Command, Trouble> {
+    match words.first() {
+        Some(word) => {
+            let (word, name) = (quoted(word), name.to_string_lossy());
+            Err(bad(format!("{word} is one word too many behind {name}")))
+        }
+        None => Ok(command),
+    }
+}
+
 /// The words behind a command that takes these options.
 fn rest(words: Vec<OsString>, options: &[&str]) -> Result<Rest, Trouble> {
     let mut words = words.into_iter();
@@ -118,6 +124,7 @@ fn rest(words: Vec<OsString>, options: &[&str]) -> Result<Rest, Trouble> {
         match word.to_str().filter(taken) {
             Some("--json") => rest.json = true,
             Some(_) => rest.put_new(words.next())?,
+            None if taken(&"-o") && name_joined(&word).is_some() => return Err(unknown(&word)),
             None => rest.put_image(word)?,
         }
     }
@@ -159,6 +166,19 @@ fn name_behind_o(name: Option<OsString>) -> Result<PathBuf, Trouble> {
 
 fn twice(option: &str) -> Trouble {
     bad(format!("{option} is there twice"))
+}
+
+/// The name that is written as in `-o=name`.
+fn name_joined(word: &OsStr) -> Option<String> {
+    let word = word.to_string_lossy();
+    word.strip_prefix("-o=").map(String::from)
+}
+
+/// A word where a command that has -o takes no name, so that none is meant.
+fn unknown(word: &OsStr) -> Trouble {
+    let name = name_joined(word);
+    let write = name.map_or_else(String::new, |name| format!("; write `-o {name}`"));
+    bad(format!("{} is no option here{write}", quoted(word)))
 }
 
 fn no_option(word: &OsStr) -> Trouble {
@@ -218,26 +238,33 @@ mod tests {
             let (image, new) = (image(), PathBuf::from("n"));
             assert_eq!(told(line), Ok(Command::Repair { image, new }));
         }
-        for line in [
-            "help",
-            "--help",
-            "-h",
-            "explain --help",
-            "dump -h",
-            "dump i --json --help",
-            "repair --help",
-            "repair i -o --help",
-            "header --help",
-            "header make -h",
-            "header show 00 --help",
-        ] {
-            assert_eq!(told(line), Ok(Command::Help));
-        }
         // Such names as they are to be written.
         for line in ["repair ./-i -o ./--json", "repair -o ./--json ./-i"] {
             let (image, new) = (PathBuf::from("./-i"), PathBuf::from("./--json"));
             assert_eq!(told(line), Ok(Command::Repair { image, new }));
         }
+    }
+
+    #[test]
+    fn help_is_of_the_command_before_it() {
+        for (line, topic) in [
+            ("help", Topic::All),
+            ("--help", Topic::All),
+            ("-h", Topic::All),
+            ("explain --help", Topic::Explain),
+            ("dump -h", Topic::Dump),
+            ("dump i --json --help", Topic::Dump),
+            ("repair --help", Topic::Repair),
+            ("repair i -o --help", Topic::Repair),
+            ("header --help", Topic::Header),
+            ("header mak --help", Topic::Header),
+            ("header make -h", Topic::Make),
+            ("header make --queue --help", Topic::Make),
+            ("header show 00 --help", Topic::Show),
+        ] {
+            assert_eq!(told(line), Ok(Command::Help(topic)), "{line}");
+        }
+        assert_eq!(told("--version"), Ok(Command::Version));
     }
 
     #[test]
@@ -257,6 +284,13 @@ mod tests {
             ("header", "header needs make or show behind it"),
             ("mend i", "`mend` is no command"),
             ("mend --help", "`mend` is no command"),
+            ("help foo", "`foo` is one word too many behind help"),
+            (
+                "--help explain",
+                "`explain` is one word too many behind --help",
+            ),
+            ("-h --help", "`--help` is one word too many behind -h"),
+            ("--version 1", "`1` is one word too many behind --version"),
             ("explain", "no image is named"),
             ("explain i j", "`j` is one name too many"),
             (
@@ -283,6 +317,11 @@ mod tests {
                 "-o needs a name behind it, not `--json`; for a file of that name write `./--json`",
             ),
             ("repair i -o n -o n", "-o is there twice"),
+            ("repair i -o=n", "`-o=n` is no option here; write `-o n`"),
+            (
+                "dump i -o=n",
+                "`-o=n` is no option here; for a file of that name write `./-o=n`",
+            ),
             ("repair i n", "`n` is one name too many"),
         ] {
             let wanted = format!("{what} (`vr help` tells the commands)");

@@ -5,11 +5,14 @@ use std::io::{self, ErrorKind, Read, Write};
 use std::os::unix::fs::{OpenOptionsExt, PermissionsExt};
 use std::path::Path;
 
+use ventorupo::HEADER_BYTES;
+
 use crate::layout::Shape;
 use crate::trouble::Trouble;
 
-/// The most bytes that a header has.
-const LONGEST_HEADER: usize = 12;
+/// The most bytes of a text of a header in hexadecimal: sixteen for each of its
+/// bytes are more than any spelling needs.
+const MOST_TEXT: usize = 16 * HEADER_BYTES;
 
 /// A file's start, as much as the largest state takes; whatever the file, no
 /// rule and no repair looks further.
@@ -35,13 +38,27 @@ pub fn read(path: &Path) -> Result<Start, Trouble> {
     })
 }
 
-/// Read a header, of which no more bytes than the longest has and one past it
-/// are looked at; answers also how many there are.
+/// Read a header, in bytes or as a text, of which no more than the longest text
+/// is looked at; answers also how many bytes there are.
 pub fn read_header(path: &Path) -> Result<(Vec<u8>, u64), Trouble> {
     let (file, about) = open(path, "a header")?;
-    let bytes = start(&file, path, LONGEST_HEADER + 1)?;
+    let bytes = start(file, path, MOST_TEXT)?;
     let there = about.len().max(bytes.len() as u64);
     Ok((bytes, there))
+}
+
+/// Read a header off standard input, which may go on for ever.
+pub fn read_input() -> Result<Vec<u8>, Trouble> {
+    let input = Path::new("standard input");
+    let bytes = start(io::stdin(), input, MOST_TEXT + 1)?;
+    let what = match bytes.len() {
+        0 => "is empty, and should have a header".into(),
+        many if many > MOST_TEXT => {
+            format!("has more than {MOST_TEXT} bytes, and a header at most {HEADER_BYTES}")
+        }
+        _ => return Ok(bytes),
+    };
+    Err(Trouble::with(input, what))
 }
 
 /// Only a file of bytes is taken: a pipe may never answer.
@@ -59,7 +76,7 @@ fn open(path: &Path, what: &str) -> Result<(File, Metadata), Trouble> {
 }
 
 /// At most so many bytes.
-fn start(file: &File, path: &Path, most: usize) -> Result<Vec<u8>, Trouble> {
+fn start(file: impl Read, path: &Path, most: usize) -> Result<Vec<u8>, Trouble> {
     let mut bytes = Vec::new();
     let read = file.take(most as u64).read_to_end(&mut bytes);
     read.map_err(|why| Trouble::with(path, why))?;

@@ -3,7 +3,7 @@
 use std::fmt;
 
 use crate::layout::Table::{self, *};
-use crate::layout::{row, Shape, EDITION, NODES, PORTS, QUEUES, TABLES};
+use crate::layout::{Shape, NODES, PORTS, QUEUES, ROWS, TABLES};
 
 /// The step between the entry ids of two ports.
 const IDS_PER_PORT: usize = 2048;
@@ -103,11 +103,11 @@ pub struct Image<'m> {
 }
 
 impl<'m> Image<'m> {
-    /// Where the tables stand follows from ports, queues and nodes, so far as
-    /// these are in their rows, which follow from the edition.
+    /// Where the tables stand follows from ports, queues and nodes, whatever the
+    /// edition is: one that is damaged hides nothing.
     pub fn new(bytes: &'m [u8]) -> Image<'m> {
         let plain = Image::shaped(bytes, Shape::default());
-        let known = |i| plain.setting_in_row(i).map_or(0, |n| n as usize);
+        let known = |i| plain.count(i).map_or(0, |n| n as usize);
         let shape = Shape {
             ports: known(PORTS),
             queues: known(QUEUES),
@@ -143,14 +143,13 @@ impl<'m> Image<'m> {
         self.get(Setting, i)
     }
 
-    /// A setting that is in its row; none where the edition can't be read.
-    pub fn setting_in_row(&self, i: usize) -> Option<u32> {
-        let row = row(i, self.setting(EDITION)?);
-        self.setting(i).filter(|&n| (row.has)(n))
+    /// A setting from which places follow; none where it is in no edition's row.
+    pub fn count(&self, i: usize) -> Option<u32> {
+        self.setting(i).filter(|&n| (ROWS[i].has)(n))
     }
 
     /// The bytes that a state of these settings takes; none where ports, queues
-    /// or nodes are not in their rows.
+    /// or nodes are in no edition's rows.
     pub fn needed(&self) -> Option<usize> {
         (self.shape.nodes > 0 && self.shape.ports > 0).then(|| self.shape.size())
     }
@@ -239,8 +238,8 @@ mod tests {
             }
             assert_eq!(image.get(Mapped, 2), (end == 19).then_some(1));
             assert_eq!(image.get(Mapped, 3), None);
-            // The edition says what the rows are.
-            assert_eq!(image.needed(), (end >= 14).then_some(6984));
+            // Ports, queues and nodes say it; the edition comes behind them.
+            assert_eq!(image.needed(), (end >= 6).then_some(6984));
             assert_eq!(image.get(Price, 7), None);
         }
     }
@@ -259,8 +258,10 @@ mod tests {
     #[test]
     fn without_ports_or_queues_nothing_but_the_map_has_a_place() {
         for settings in [
-            [5, 24, 2, 0],
-            [4, 23, 2, 0],
+            [1, 24, 2, 0],
+            [33, 24, 2, 0],
+            [4, 1, 2, 0],
+            [4, 65, 2, 0],
             [1, 24, 2, 1],
             [33, 24, 2, 1],
             [4, 1, 2, 1],
@@ -283,7 +284,10 @@ mod tests {
             ([2, 2, 1, 1], 4244),
             ([8, 16, 2, 1], 6984),
             ([32, 64, 1, 1], 45_904),
-            // An edition that is none has the wide rows.
+            // Whatever the edition, also where it has other rows or is none.
+            ([8, 16, 2, 0], 6984),
+            ([5, 24, 2, 0], 6707),
+            ([4, 23, 2, 0], 6108),
             ([8, 16, 2, 2], 6984),
         ] {
             let memory = image(settings);

@@ -1,8 +1,8 @@
 //! An image as JSON: a program may listen. What could not be read is null.
 
-use ventorupo::{Form, Header, Refusal};
+use ventorupo::{Form, Header};
 
-use crate::header::told;
+use crate::header::{told, Shown};
 use crate::image::{Entry, Image, Kind};
 use crate::layout::{Table, IDS, ROWS};
 use crate::lists::Walk;
@@ -20,6 +20,7 @@ pub fn json(view: &View) -> String {
         ("sound", view.finding.is_none().to_string()),
         ("finding", finding(view)),
         ("stops", text(view.stops())),
+        ("hint", text(view.hint())),
         ("bytes", view.there.to_string()),
         (
             "needed",
@@ -38,24 +39,22 @@ pub fn json(view: &View) -> String {
     members_of(&members)
 }
 
-/// A header of so many bytes: its fields, or its refusal with the words for it.
-pub fn header(form: Form, bytes: u64, read: &Result<Header, (Refusal, String)>) -> String {
-    let (fields, refused, words) = match read {
-        Ok(header) => (fields(form, header), null(), null()),
-        Err((refusal, words)) => (
-            null(),
-            refusal.number().to_string(),
-            text(Some(words.into())),
-        ),
+/// A header: its fields as far as there are any, and its refusal.
+pub fn header(shown: &Shown) -> String {
+    let form = shown.form;
+    let (refused, words) = match &shown.refused {
+        Some((refusal, words)) => (refusal.number().to_string(), Some(words.clone())),
+        None => (null(), None),
     };
+    let its = |header: &Header| fields(form, header);
     let members = [
         ("edition", form.edition.to_string()),
         ("ports", form.ports.to_string()),
         ("queues", form.queues.to_string()),
-        ("bytes", bytes.to_string()),
+        ("bytes", shown.there.to_string()),
         ("refused", refused),
-        ("words", words),
-        ("fields", fields),
+        ("words", text(words)),
+        ("fields", shown.fields.as_ref().map_or_else(null, its)),
     ];
     members_of(&members)
 }

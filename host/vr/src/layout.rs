@@ -203,6 +203,12 @@ impl Shape {
     }
 }
 
+/// The bytes of a state by the build before the wide headers, which had six
+/// settings, a map of four, four ports and 24 queues.
+pub fn size_before_wide(nodes: usize) -> usize {
+    1988 + 52 * nodes
+}
+
 #[cfg(test)]
 mod tests {
     use super::*;
@@ -285,6 +291,20 @@ mod tests {
             let mut wanted: Vec<usize> = TABLES.iter().map(|&t| shape.start(t)).collect();
             wanted.push(shape.size());
             assert_eq!(starts, wanted);
+        }
+    }
+
+    /// It was less by two settings and 4,092 entries of the map.
+    #[test]
+    fn older_sizes_are_the_papers() {
+        for (nodes, size) in [(1, 2040), (2, 2092), (256, 15_300), (2048, 108_484)] {
+            assert_eq!(size_before_wide(nodes), size);
+            let shape = Shape {
+                ports: 4,
+                queues: 24,
+                nodes,
+            };
+            assert_eq!(shape.size() - size, 2 * 2 + 4096 - 4);
         }
     }
 

@@ -9,6 +9,7 @@ pub mod args;
 mod fields;
 mod files;
 mod header;
+mod hex;
 pub mod image;
 pub mod json;
 pub mod layout;
@@ -31,10 +32,13 @@ use view::View;
 /// What is said of a repair that the library refuses.
 const REFUSED: &str = "repair refused (3): it needs settings in their rows and an image long enough for them; nothing was written";
 
-/// What a command says on standard output, and its exit status.
+/// What a command says, and its exit status.
 #[derive(Debug, PartialEq, Eq)]
 pub struct Answer {
+    /// On standard output.
     pub text: String,
+    /// On standard error: what is no part of what a pipe is to carry.
+    pub aside: Option<String>,
     pub status: u8,
     /// The file that it has made, which is there also if nothing can be said.
     pub written: Option<PathBuf>,
@@ -45,6 +49,7 @@ impl Answer {
     fn new(text: String, status: u8) -> Answer {
         Answer {
             text,
+            aside: None,
             status,
             written: None,
         }
@@ -54,7 +59,8 @@ impl Answer {
 /// Do what a command line asks for.
 pub fn answer(words: impl Iterator<Item = OsString>) -> Result<Answer, Trouble> {
     match args::command(words)? {
-        Command::Help => Ok(Answer::new(args::USAGE.into(), 0)),
+        Command::Help(topic) => Ok(Answer::new(topic.text(), 0)),
+        Command::Version => Ok(Answer::new(version(), 0)),
         Command::Explain { image } => Ok(explain(&view(&files::read(&image)?))),
         Command::Dump { image, json } => Ok(dump(&view(&files::read(&image)?), json)),
         Command::Repair { image, new } => repair(&image, &new),
@@ -63,17 +69,23 @@ pub fn answer(words: impl Iterator<Item = OsString>) -> Result<Answer, Trouble> 
     }
 }
 
+fn version() -> String {
+    format!("vr {}\n", env!("CARGO_PKG_VERSION"))
+}
+
 fn view(start: &Start) -> View<'_> {
     View::new(&start.bytes, start.there, ventorupo::find(&start.bytes))
 }
 
-/// The first line says it; the second, of a broken state, which rule that is.
+/// The first line says it; the second, of a broken state, which rule that is;
+/// the third, if there is one, what else it may be.
 pub fn explain(view: &View) -> Answer {
     let mut text = format!("{}\n", view.top());
     if let Some(finding) = view.finding {
         let (letter, asks) = (finding.rule.letter(), words::asks(finding.rule));
         text += &format!("rule ({letter}): {asks}; item {}\n", finding.item);
     }
+    text += &view.hint_line();
     Answer::new(text, view.status())
 }
 
@@ -91,7 +103,7 @@ fn repair(path: &Path, new: &Path) -> Result<Answer, Trouble> {
     let before = start.bytes.clone();
     let was = View::new(&before, start.there, ventorupo::find(&before));
     if ventorupo::repair(&mut start.bytes).is_err() {
-        let text = format!("{}\n{REFUSED}\n", was.top());
+        let text = format!("{}\n{REFUSED}\n{}", was.top(), was.hint_line());
         return Ok(Answer::new(text, 1));
     }
     let mut text = mend::told(&was, &Image::new(&start.bytes));
@@ -102,8 +114,7 @@ fn repair(path: &Path, new: &Path) -> Result<Answer, Trouble> {
         path.display()
     );
     Ok(Answer {
-        text,
-        status: 0,
         written: Some(new.into()),
+        ..Answer::new(text, 0)
     })
 }

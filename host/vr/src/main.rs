@@ -22,7 +22,17 @@ fn say(answer: Answer) -> Result<u8, Trouble> {
         .and_then(|()| out.flush());
     match written {
         Err(why) if why.kind() != ErrorKind::BrokenPipe => Err(unsaid(why, answer)),
-        _ => Ok(answer.status),
+        _ => {
+            tell(answer.aside);
+            Ok(answer.status)
+        }
+    }
+}
+
+/// Write a line on standard error; where that is closed, nobody wants it.
+fn tell(line: Option<String>) {
+    if let Some(line) = line {
+        let _ = writeln!(io::stderr(), "{line}");
     }
 }
 

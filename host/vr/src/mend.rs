@@ -55,7 +55,7 @@ fn packets(before: &View) -> String {
         before.lists.walks.iter().filter_map(count).sum::<usize>()
     };
     let [ingress, egress, prefetch] = [Kind::Ingress, Kind::Egress, Kind::Prefetch].map(of);
-    let all = ingress + egress + prefetch;
+    let all = counted((ingress + egress + prefetch) as u64, "packet");
     let stuck = |walk: &&Walk| walk.flaw.map_or(false, |flaw| flaw.stops());
     let more = match before.lists.walks.iter().filter(stuck).count() {
         0 => String::new(),
@@ -64,9 +64,7 @@ fn packets(before: &View) -> String {
             counted(lists as u64, "list")
         ),
     };
-    format!(
-        "dropped: packets {all} (ingress {ingress}, egress {egress}, prefetch {prefetch}){more}"
-    )
+    format!("dropped: {all} (ingress {ingress}, egress {egress}, prefetch {prefetch}){more}")
 }
 
 fn outward(before: &Image) -> String {

@@ -15,8 +15,8 @@ const SERVED_ACROSS: usize = 16;
 pub fn table(view: &View) -> String {
     let mut text = format!("{}\n\n", view.top());
     text += &format!("settings: {}\n", view.settings());
-    text += &format!("bytes: {} there, {} needed\n\n", view.there, needed(view));
-    text += &map(&view.image);
+    text += &format!("bytes: {} there, {} needed\n", view.there, needed(view));
+    text += &format!("{}\n{}", view.hint_line(), map(&view.image));
     for section in [served(&view.image), credits(&view.image), lists(view)] {
         text += &section;
     }

@@ -3,11 +3,11 @@
 use std::collections::BTreeMap;
 
 use crate::image::Image;
-use crate::layout::{Table, IDS, NODES, PORTS, QUEUES, ROWS, SETTINGS_BYTES};
+use crate::layout::{size_before_wide, Table, IDS, NODES, PORTS, QUEUES, ROWS, SETTINGS_BYTES};
 use crate::lists::Lists;
 use crate::words;
 
-use ventorupo::Finding;
+use ventorupo::{Finding, Rule};
 
 pub struct View<'m> {
     pub image: Image<'m>,
@@ -45,6 +45,24 @@ impl<'m> View<'m> {
         self.finding.is_some().into()
     }
 
+    /// What an image that is none may be instead. Nodes stand where they stood in
+    /// the older build.
+    pub fn hint(&self) -> Option<String> {
+        let nodes = self.image.count(NODES)?;
+        let older = self.there == size_before_wide(nodes as usize) as u64;
+        let none = self.finding.map_or(false, |found| found.rule == Rule::A);
+        let nodes = counted(nodes.into(), "node");
+        (older && none).then(|| {
+            format!("it is as long as an image of {nodes} a port by the build before the wide headers, which is to be set up afresh, not repaired (docs/DECISIONS.md, 79)")
+        })
+    }
+
+    /// A line for the hint, if there is one.
+    pub fn hint_line(&self) -> String {
+        let line = |hint| format!("hint: {hint}\n");
+        self.hint().map_or_else(String::new, line)
+    }
+
     /// The settings in one line.
     pub fn settings(&self) -> String {
         let said = |i: usize| format!("{} {}", ROWS[i].name, number(self.image.setting(i)));
@@ -55,7 +73,7 @@ impl<'m> View<'m> {
     /// Why not all tables can be read.
     pub fn stops(&self) -> Option<String> {
         let there = self.image.bytes.len();
-        let out = |&i: &usize| self.image.setting_in_row(i).is_none();
+        let out = |&i: &usize| self.image.count(i).is_none();
         if there < SETTINGS_BYTES {
             Some("the image ends within the settings".into())
         } else if let Some(i) = [PORTS, QUEUES].iter().copied().find(out) {

@@ -1,6 +1,8 @@
 //! Bad uses: a clear message on standard error, status 2, never a panic.
 
 mod common;
+#[path = "common/images.rs"]
+mod images;
 
 use std::ffi::{OsStr, OsString};
 use std::fs::{self, File};
@@ -9,7 +11,8 @@ use std::os::unix::ffi::OsStrExt;
 use std::path::Path;
 use std::process::Stdio;
 
-use common::{at, command, full, on, small, switch, vr, Folder, Said, SMALL};
+use common::{command, full, on, vr, Folder, Said};
+use images::{at, small, switch, SMALL};
 use ventorupo::Settings;
 
 const HINT: &str = " (`vr help` tells the commands)";
@@ -20,6 +23,11 @@ fn wrong_command_lines() {
         ("", "no command"),
         ("mend image", "`mend` is no command"),
         ("--json", "`--json` is no command"),
+        ("help foo", "`foo` is one word too many behind help"),
+        (
+            "--version foo",
+            "`foo` is one word too many behind --version",
+        ),
         ("explain", "no image is named"),
         ("dump", "no image is named"),
         ("dump --json", "no image is named"),
@@ -42,6 +50,10 @@ fn wrong_command_lines() {
         ("repair one two", "`two` is one name too many"),
         ("repair one -o", "-o needs a name behind it"),
         ("repair one -o new -o other", "-o is there twice"),
+        (
+            "repair one -o=new",
+            "`-o=new` is no option here; write `-o new`",
+        ),
     ] {
         let words: Vec<&str> = line.split_whitespace().collect();
         let said = vr(&words);

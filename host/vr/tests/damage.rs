@@ -2,13 +2,21 @@
 //! and vr's own reader sees what the library found.
 
 mod common;
+#[path = "common/dumps.rs"]
+mod dumps;
+#[path = "common/images.rs"]
+mod images;
+#[path = "common/reading.rs"]
+mod reading;
 
 use std::collections::BTreeMap;
 use std::ops::Range;
 
-use common::reading::{nodes_of_json, stored_of_json, stored_of_table, Json};
-use common::{busy, busy_of, on, settings_of, small, vr, Folder, SHAPES};
-use traffic::Random;
+use common::{on, vr, Folder};
+use dumps::{nodes_of_json, stored_of_json, stored_of_table};
+use images::{busy, busy_of, in_every_shape, largest, roomy, small};
+use reading::Json;
+use traffic::{Random, SHAPES};
 use ventorupo::{Finding, Rule, Settings};
 use vr::json::json;
 use vr::layout::{Shape, Table, TABLES};
@@ -109,10 +117,10 @@ fn damaged_states() {
     let mut rules: BTreeMap<Option<Rule>, u32> = BTreeMap::new();
     for run in 0..30 {
         let nodes = random.pick(&[1, 2, 3, 16, 40]);
-        let settings = settings_of(SHAPES[run as usize % SHAPES.len()], nodes);
+        let settings = in_every_shape(nodes)[run as usize % SHAPES.len()];
         let state = busy_of(settings, random.pick(&[0, 30, 100]), run).into_memory();
-        // The largest takes its time.
-        let images = if settings.ports == 32 { 15 } else { 60 };
+        // The larger ones take their time.
+        let images = if settings.ports > 16 { 15 } else { 60 };
         for _ in 0..images {
             let mut memory = state.clone();
             for _ in 0..random.among(1, 3) {
@@ -137,10 +145,9 @@ fn any_bytes_behind_good_settings() {
         Table::Count,
         Table::Next,
     ];
-    let largest = (SHAPES[5], 2);
-    let sizes = [1, 2, 16, 256, 2048].map(|nodes| (SHAPES[0], nodes));
-    for (counts, nodes) in sizes.into_iter().chain([largest, (SHAPES[3], 16)]) {
-        let settings = settings_of(counts, nodes);
+    let sizes = [1, 2, 16, 256, 2048].map(roomy);
+    let others = [largest(2), Settings::wide(5, 33, 16, 128, 3, 65_535)];
+    for settings in sizes.into_iter().chain(others) {
         let state = busy_of(settings, 10, 1).into_memory();
         for _ in 0..40 {
             let mut memory = state.clone();
@@ -195,7 +202,7 @@ fn damaged_files() {
     let state = busy(16, 60, 5).into_memory();
     for _ in 0..40 {
         let mut memory = state.clone();
-        damage(&mut memory, settings_of(SHAPES[0], 16), &mut random);
+        damage(&mut memory, roomy(16), &mut random);
         let status = ventorupo::find(&memory).is_some() as i32;
         let file = folder.file("image", &memory);
         for said in [

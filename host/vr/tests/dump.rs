@@ -2,17 +2,25 @@
 //! can be read of broken ones.
 
 mod common;
+#[path = "common/dumps.rs"]
+mod dumps;
+#[path = "common/images.rs"]
+mod images;
+#[path = "common/reading.rs"]
+mod reading;
 
 use std::ffi::OsStr;
 use std::fs;
 use std::path::Path;
 
-use common::reading::{
-    nodes_of_json, nodes_of_table, stored_of_json, stored_of_table, Json, Nodes, Stands, Stored,
+use common::{on, vr, Folder, Said};
+use dumps::{
+    nodes_of_json, nodes_of_table, stored_of_json, stored_of_table, Nodes, Stands, Stored,
 };
-use common::{
-    at, busy, busy_of, changed, on, settings_of, small, switch, vr, wide, Folder, Said, SHAPES,
+use images::{
+    at, busy, busy_of, changed, in_every_shape, largest, roomy, small, switch, wide, SMALL,
 };
+use reading::Json;
 use ventorupo::Settings;
 use vr::view::View;
 
@@ -120,29 +128,25 @@ fn places_are_the_audits() {
     for nodes in [1, 2, 16, 256, 2048] {
         for percent in [0, 50, 100] {
             let seed = u64::from(1000 * nodes + percent);
-            let (settings, switch) = (settings_of(SHAPES[0], nodes), busy(nodes, percent, seed));
+            let (settings, switch) = (roomy(nodes), busy(nodes, percent, seed));
             agrees_with_the_audit(&folder, switch.memory(), settings);
         }
-        let settings = Settings {
-            nodes,
-            ..common::SMALL
-        };
+        let settings = Settings { nodes, ..SMALL };
         agrees_with_the_audit(&folder, switch(settings).memory(), settings);
     }
-    agrees_with_the_audit(&folder, &small(), common::SMALL);
+    agrees_with_the_audit(&folder, &small(), SMALL);
 }
 
 #[test]
 fn places_are_the_audits_in_every_shape() {
     let folder = Folder::new("dump-shapes");
-    for (seed, shape) in (0..).zip(SHAPES) {
-        for (nodes, percent) in [(1, 100), (9, 50)] {
-            let settings = settings_of(shape, nodes);
+    for (nodes, percent) in [(1, 100), (9, 50)] {
+        for (seed, settings) in (0..).zip(in_every_shape(nodes)) {
             let switch = busy_of(settings, percent, seed);
             agrees_with_the_audit(&folder, switch.memory(), settings);
         }
     }
-    let most = settings_of(SHAPES[5], 2048);
+    let most = largest(2048);
     agrees_with_the_audit(&folder, switch(most).memory(), most);
 }
 
@@ -247,10 +251,10 @@ fn cut_off(table: &str) -> usize {
 }
 
 /// The lists whose element of a table stands behind a byte; of an image without
-/// its edition, which tells the rows of ports and queues, nothing is told.
+/// its ports and queues nothing is told.
 fn lists_behind(there: usize, table: usize, width: usize) -> usize {
     match there {
-        0..=13 => 0,
+        0..=3 => 0,
         _ => 200 - (there.saturating_sub(table) / width).min(200),
     }
 }
@@ -307,6 +311,38 @@ fn settings_out_of_their_rows() {
                 assert_eq!(nodes_of_table(&table.out), nodes_of_json(&dump));
             }
         }
+    }
+}
+
+/// Where the tables stand does not depend on the edition: whatever stands there,
+/// all is shown, and the finding has that edition's row.
+#[test]
+fn an_edition_that_is_damaged_hides_nothing() {
+    let folder = Folder::new("dump-edition");
+    let settings = Settings::wide(5, 17, 2, 128, 3, 65_535);
+    let sound = busy_of(settings, 100, 3).into_memory();
+    let shown = |edition: u8| {
+        let mut memory = sound.clone();
+        memory[13] = edition;
+        let file = folder.file("image", &memory);
+        let (table, json) = (on("dump", &file).out, Json::read(&json(&file).out));
+        assert_eq!(*json.of("stops"), Json::Null, "{table}");
+        assert_eq!(json.of("needed").number(), sound.len() as u64);
+        assert_eq!(nodes_of_table(&table).len(), 10);
+        // Behind finding and settings.
+        let (_, tables) = table.split_once("\nbytes: ").unwrap();
+        let lists = json.of("lists").clone();
+        (json.of("finding").clone(), tables.to_string(), lists)
+    };
+    let (finding, tables, lists) = shown(1);
+    assert_eq!(finding, Json::Null);
+    for (edition, words) in [
+        (0, "(a) setting ports: 5 is not in its row (4 in edition 0)"),
+        (2, "(a) setting edition: 2 is not in its row (0 or 1)"),
+    ] {
+        let (finding, same_tables, same_lists) = shown(edition);
+        assert_eq!(finding.of("words").text(), words);
+        assert_eq!((same_tables, same_lists), (tables.clone(), lists.clone()));
     }
 }
 

@@ -1,8 +1,13 @@
 //! `vr explain`: an image for each rule and each kind of item, in exact words.
 
 mod common;
+#[path = "common/images.rs"]
+mod images;
 
-use common::{at, changed, on, small, vr, wide, Change, Folder};
+use common::{on, vr, Folder};
+use images::{at, changed, small, switch, wide, Change};
+use ventorupo::Settings;
+use vr::args::Topic;
 
 /// The rule's line of what is said.
 fn asks(letter: char) -> &'static str {
@@ -355,23 +360,92 @@ fn rules_in_their_order() {
     }
 }
 
+/// An image of two nodes a port by the build before the wide headers: six
+/// settings, then a map of four.
+fn older(map: [u8; 4]) -> Vec<u8> {
+    let settings = [0, 4, 0, 24, 0, 2, 0, 64, 0, 1, 0, 16];
+    let rest = vec![0; 2092 - 16];
+    [&settings[..], &map, &rest].concat()
+}
+
+const HINT: &str = "hint: it is as long as an image of 2 nodes a port by the build before the wide headers, which is to be set up afresh, not repaired (docs/DECISIONS.md, 79)\n";
+
+/// Where its length tells it, an image of an older build is told from a broken
+/// one.
+#[test]
+fn an_image_of_an_older_build() {
+    let folder = Folder::new("explain-older");
+    for (map, words) in [
+        ([0; 4], "(a) the image is too short: it has 2092 bytes, a state of 4 ports, 24 queues and 2 nodes a port takes 6188"),
+        ([0, 1, 2, 3], "(a) setting packets: 515 is not in its row (0)"),
+        ([3, 2, 1, 0], "(a) setting edition: 770 is not in its row (0 or 1)"),
+    ] {
+        let file = folder.file("image", &older(map));
+        let said = on("explain", &file).out;
+        assert!(said.starts_with(words), "{said}");
+        assert!(said.ends_with(&format!("\n{HINT}")), "{said}");
+        assert_eq!(said.lines().count(), 3);
+        let table = on("dump", &file).out;
+        let bytes = "\nbytes: 2092 there, 6188 needed\n";
+        assert!(table.contains(&format!("{bytes}{HINT}\nport ")), "{table}");
+        let json = vr(&["dump".as_ref(), "--json".as_ref(), file.as_os_str()]).out;
+        let hint = HINT.trim_end().trim_start_matches("hint: ");
+        assert!(json.contains(&format!("\n  \"hint\": \"{hint}\",\n")), "{json}");
+        let new = folder.path("new");
+        let said = vr(&["repair".as_ref(), file.as_os_str(), "-o".as_ref(), new.as_os_str()]);
+        assert!(said.out.ends_with(&format!("nothing was written\n{HINT}")), "{}", said.out);
+        assert!(!new.exists());
+    }
+}
+
+/// Of another length, or of a state that happens to have that one, there is
+/// nothing to be told.
+#[test]
+fn no_image_of_an_older_build() {
+    let folder = Folder::new("explain-not-older");
+    for there in [16, 2091, 2093] {
+        let mut bytes = older([0; 4]);
+        bytes.resize(there, 0);
+        let said = on("explain", &folder.file("image", &bytes)).out;
+        assert!(said.starts_with("(a) ") && !said.contains("hint"), "{said}");
+    }
+    // 2 ports, 2 queues and 90 nodes take 6558 bytes.
+    let mut state = switch(Settings::wide(2, 2, 90, 64, 1, 16)).into_memory();
+    state.resize(1988 + 52 * 90, 0);
+    let said = |state: &[u8]| on("explain", &folder.file("image", state)).out;
+    assert_eq!(said(&state), "a sound state\n");
+    state[4112] = 2;
+    assert!(said(&state).starts_with("(b) ") && !said(&state).contains("hint"));
+}
+
+/// All of it, or a command's part.
 #[test]
 fn help_is_no_trouble() {
-    for line in [
-        "help",
-        "--help",
-        "-h",
-        "explain --help",
-        "dump --help",
-        "dump image --json -h",
-        "repair --help",
-        "header --help",
-        "header make --help",
-        "header show -h",
+    for (line, topic) in [
+        ("help", Topic::All),
+        ("--help", Topic::All),
+        ("-h", Topic::All),
+        ("explain --help", Topic::Explain),
+        ("dump --help", Topic::Dump),
+        ("dump image --json -h", Topic::Dump),
+        ("repair --help", Topic::Repair),
+        ("header --help", Topic::Header),
+        ("header make --help", Topic::Make),
+        ("header show -h", Topic::Show),
     ] {
         let words: Vec<&str> = line.split_whitespace().collect();
         let said = vr(&words);
-        assert_eq!((said.status, said.out.as_str()), (Some(0), vr::args::USAGE));
+        assert_eq!((said.status, said.out), (Some(0), topic.text()));
         assert_eq!(said.err, "");
     }
+}
+
+#[test]
+fn the_version_is_cargos() {
+    let said = vr(&["--version"]);
+    let wanted = format!("vr {}\n", env!("CARGO_PKG_VERSION"));
+    assert_eq!(
+        (said.status, said.out, said.err),
+        (Some(0), wanted, String::new())
+    );
 }

@@ -1,14 +1,18 @@
 //! `vr header`: headers made and shown, and why some are none.
 
 mod common;
+#[path = "common/reading.rs"]
+mod reading;
 
 use std::ffi::OsString;
 use std::fs::{self, File};
+use std::io::Write;
 use std::path::Path;
+use std::process::Stdio;
 
-use common::reading::Json;
-use common::{command, full, settings_of, vr, Folder, Said, SHAPES};
-use traffic::Random;
+use common::{command, full, vr, Folder, Said};
+use reading::Json;
+use traffic::{Random, SHAPES};
 use ventorupo::{Form, Header, TEN_BYTES};
 
 const HINT: &str = " (`vr help` tells the commands)";
@@ -28,9 +32,13 @@ fn says(line: &str, text: &str) {
 
 /// It must be refused with just these words.
 fn refused(line: &str, words: &str) {
+    refused_with(line, &format!("{words}\n"));
+}
+
+/// It must be refused, and say just this.
+fn refused_with(line: &str, text: &str) {
     let said = header(line);
-    let text = format!("{words}\n");
-    assert_eq!((said.out, said.err.as_str()), (text, ""), "{line}");
+    assert_eq!((said.out.as_str(), said.err.as_str()), (text, ""), "{line}");
     assert_eq!(said.status, Some(1));
 }
 
@@ -123,7 +131,12 @@ fn shown_as_json() {
     assert_eq!((said.status, json.of("refused").number()), (Some(1), 7));
     let words = "refused (7): checksum differs: it is 73, and should be 72";
     assert_eq!(json.of("words").text(), words);
-    assert_eq!(*json.of("fields"), Json::Null);
+    // Its fields, as they stand.
+    assert_eq!(json.of("fields").of("length").number(), 12);
+    for none in ["00", "--ports 33 --queues 2 00"] {
+        let said = header(&format!("show --json {none}"));
+        assert_eq!(*Json::read(&said.out).of("fields"), Json::Null);
+    }
 }
 
 /// A file of the bytes that make has written.
@@ -133,8 +146,11 @@ fn written_and_shown_again() {
     let new = folder.path("new");
     let fields = "--destination 3 --source 1 --queue 5 --length 100 --credit 40000";
     let line = format!("make --ports 8 --queues 16 {fields} -o {}", new.display());
-    let text = format!("6540C8000000009C400043\nwritten: {}\n", new.display());
-    says(&line, &text);
+    // What is no header stands where no pipe carries it.
+    let said = header(&line);
+    assert_eq!(said.out, "6540C8000000009C400043\n");
+    assert_eq!(said.err, format!("written: {}\n", new.display()));
+    assert_eq!(said.status, Some(0));
     let bytes = [0x65, 0x40, 0xC8, 0, 0, 0, 0, 0x9C, 0x40, 0, 0x43];
     assert_eq!(fs::read(&new).unwrap(), bytes);
     let show = format!("show --ports 8 --queues 16 {}", new.display());
@@ -169,34 +185,6 @@ fn every_refusal_of_the_reader() {
     );
     for (line, words) in [
         (
-            "0F802D000000000000F8",
-            "refused (7): checksum differs: it is F8, and should be F7",
-        ),
-        (
-            "0F802D000000000000F7",
-            "refused (20): a reserved bit of the header is 1: they are 1",
-        ),
-        (
-            "0F802C00000000000028",
-            "refused (9): length under the header's size plus 2: it is 11, and 12 is the least",
-        ),
-        (
-            "0F803000000000000064",
-            "refused (19): header's queue above the last: it is 31, and 23 is the last",
-        ),
-        (
-            "--ports 5 --queues 33 FE00070500000000000000EB",
-            "refused (20): a reserved bit of the header is 1: they are 000101",
-        ),
-        (
-            "--ports 5 --queues 33 FE10068000000000000000E0",
-            "refused (9): length under the header's size plus 2: it is 13, and 14 is the least",
-        ),
-        (
-            "--ports 5 --queues 33 FE1007000000000000000026",
-            "refused (19): header's queue above the last: it is 33, and 32 is the last",
-        ),
-        (
             "--ports 33 --queues 2 00",
             "refused (2): a setting not in its row: ports 33 (2 to 32)",
         ),
@@ -212,8 +200,85 @@ fn every_refusal_of_the_reader() {
             "--edition ten --queues 23 00",
             "refused (2): a setting not in its row: queues 23 (24 in edition 0)",
         ),
+        (
+            "--ports 33 --queues 1 00",
+            "refused (2): a setting not in its row: ports 33 (2 to 32), queues 1 (2 to 64)",
+        ),
+        (
+            "--edition ten --ports 5 --queues 23 00",
+            "refused (2): a setting not in its row: ports 5 (4 in edition 0), queues 23 (24 in edition 0)",
+        ),
     ] {
         refused(&format!("show {line}"), words);
+    }
+}
+
+/// What stands in a header of ten bytes that is refused for one of its fields.
+fn ten_bytes(words: &str, length: u32, queue: u32) -> String {
+    format!(
+        "{words}
+
+read as a ten-byte header for 4 ports and 24 queues: 10 bytes
+
+      field  bits  number
+destination     2       0
+     source     2       0
+      queue     5      {queue:>2}
+     length    13      {length:>2}
+   poisoned     1       0
+  timestamp    32       0
+     credit     8       0
+transaction     8       0
+"
+    )
+}
+
+/// The same in a wide header.
+fn wide(words: &str, length: u32, queue: u32) -> String {
+    format!(
+        "{words}
+
+read as a wide header for 5 ports and 33 queues: 12 bytes
+
+      field  bits  number
+destination     3       7
+     source     3       7
+      queue     6      {queue:>2}
+     length    13      {length:>2}
+   poisoned     1       0
+  timestamp    32       0
+     credit    16       0
+transaction     8       0
+"
+    )
+}
+
+/// Behind the reason stand the fields: a header is refused for one of them, and
+/// the others may be of use.
+#[test]
+fn refused_for_a_field() {
+    let checksum = "refused (7): checksum differs: it is F8, and should be F7";
+    let only = "refused (20): a reserved bit of the header is 1: it is the only one";
+    let least = "refused (9): length under the header's size plus 2: it is 11, and 12 is the least";
+    let last = "refused (19): header's queue above the last: it is 31, and 23 is the last";
+    for (digits, words, length) in [
+        ("0F802D000000000000F8", checksum, 11),
+        ("0F802D000000000000F7", only, 11),
+        ("0F802C00000000000028", least, 11),
+        ("0F803000000000000064", last, 12),
+    ] {
+        refused_with(&format!("show {digits}"), &ten_bytes(words, length, 31));
+    }
+    let several = "refused (20): a reserved bit of the header is 1: all 6 are 000101";
+    let least = "refused (9): length under the header's size plus 2: it is 13, and 14 is the least";
+    let last = "refused (19): header's queue above the last: it is 33, and 32 is the last";
+    for (digits, words, length, queue) in [
+        ("FE00070500000000000000EB", several, 14, 32),
+        ("FE10068000000000000000E0", least, 13, 33),
+        ("FE1007000000000000000026", last, 14, 33),
+    ] {
+        let line = format!("show --ports 5 --queues 33 {digits}");
+        refused_with(&line, &wide(words, length, queue));
     }
 }
 
@@ -306,9 +371,16 @@ fn wrong_command_lines() {
         ),
         (
             "show 000",
-            "3 hexadecimal digits are no whole bytes; for a file of that name write `./000`",
+            "`000` has 3 hexadecimal digits: no whole bytes; for a file of that name write `./000`",
         ),
         ("show 00 0g", "`0g` is not hexadecimal"),
+        ("show 00 -", "`-`, for standard input, stands alone"),
+        ("make --json", "`--json` is no option here"),
+        (
+            "make --detsination=1",
+            "`--detsination=1` is no option here",
+        ),
+        ("make -o=new", "`-o=new` is no option here; write `-o new`"),
         (
             "show 00 --prots 8",
             "`--prots` is no option here; for a file of that name write `./--prots`",
@@ -316,6 +388,117 @@ fn wrong_command_lines() {
     ] {
         trouble(line, &format!("{what}{HINT}"));
     }
+    let said = vr(&["header", "show", ""]);
+    let wanted = "vr: an empty word is neither a file nor hexadecimal";
+    assert_eq!(said.err, format!("{wanted}{HINT}\n"));
+}
+
+#[test]
+fn options_with_an_equals_sign() {
+    let fields = "--destination=3 --source=1 --queue=0x5 --length=100 --credit=40000";
+    let bytes = "6540C8000000009C400043\n";
+    says(&format!("make --ports=8 --queues=16 {fields}"), bytes);
+    says(
+        &format!("show --edition=wide --ports=8 --queues=16 {bytes}"),
+        SHOWN,
+    );
+}
+
+/// Digits as other tools write them.
+#[test]
+fn shown_in_other_spellings() {
+    for spelt in [
+        "0x6540C8000000009C400043",
+        "65:40:c8:00:00:00:00:9c:40:00:43",
+        "65,40,C8,00,00,00,00,9C,40,00,43",
+        "65-40-C8-00-00-00-00-9C-40-00-43",
+        "0x65, 0x40, 0xC8, 0x00, 0x00, 0x00, 0x00, 0x9C, 0x40, 0x00, 0x43",
+    ] {
+        says(&format!("show --ports 8 --queues 16 {spelt}"), SHOWN);
+    }
+}
+
+/// A run of `vr header` with this on its standard input.
+fn piped(line: &str, input: &[u8]) -> Said {
+    let mut vr = command();
+    vr.arg("header").args(line.split_whitespace());
+    let (input_pipe, out) = (Stdio::piped(), Stdio::piped());
+    let vr = vr.stdin(input_pipe).stdout(out).stderr(Stdio::piped());
+    let mut child = vr.spawn().unwrap();
+    // It reads no more than it needs, and may be done before this is.
+    let _ = child.stdin.take().unwrap().write_all(input);
+    child.wait_with_output().unwrap().into()
+}
+
+#[test]
+fn shown_off_standard_input() {
+    let line = "show --ports 8 --queues 16 -";
+    let bytes = [0x65, 0x40, 0xC8, 0, 0, 0, 0, 0x9C, 0x40, 0, 0x43];
+    let digits = b"6540C8000000009C400043\n";
+    let spelt = b"0x65 0x40 0xC8\n0x00 0x00 0x00 0x00\r\n0x9C 0x40 0x00 0x43\n";
+    for input in [&bytes[..], digits, spelt] {
+        let said = piped(line, input);
+        assert_eq!((said.out.as_str(), said.err.as_str()), (SHOWN, ""));
+        assert_eq!(said.status, Some(0));
+    }
+    let said = piped("show -", &bytes);
+    let six = "refused (6): header not of its edition's size: it has";
+    let wide = "11 bytes, and should have 10; of a wide one --ports and --queues must be told\n";
+    assert_eq!(said.out, format!("{six} {wide}"));
+    let said = piped("show --json -", b"00003000000000000072");
+    assert_eq!(Json::read(&said.out).of("bytes").number(), 10);
+    for (input, what) in [
+        (vec![], "is empty, and should have a header"),
+        (
+            vec![b'0'; 193],
+            "has more than 192 bytes, and a header at most 12",
+        ),
+        (
+            vec![0; 1 << 20],
+            "has more than 192 bytes, and a header at most 12",
+        ),
+    ] {
+        let said = piped("show -", &input);
+        assert_eq!(said.err, format!("vr: standard input: {what}\n"));
+        assert_eq!((said.status, said.out.as_str()), (Some(2), ""));
+    }
+    let said = piped("show -", &[b'0'; 192]);
+    let text = "192 bytes, and should have 10; as hexadecimal digits it is 96 bytes\n";
+    assert_eq!(said.out, format!("{six} {text}"));
+}
+
+/// A file of hexadecimal digits is read as them if that makes a header.
+#[test]
+fn shown_of_a_text_file() {
+    let folder = Folder::new("header-text");
+    let show = |bytes: &[u8]| format!("show {}", folder.file("text", bytes).display());
+    let counts = "--ports 8 --queues 16";
+    let text = b"65:40:C8:00:00:00:00:9C:40:00:43\n";
+    says(&format!("{} {counts}", show(text)), SHOWN);
+    let ten = header(&show(b"6BFFFEDEADBEEFFF7FDF\n"));
+    assert!(ten.out.starts_with("a ten-byte header "), "{}", ten.out);
+    let six = "refused (6): header not of its edition's size: it has";
+    for (text, what) in [
+        (
+            &b"6540C8000000009C400043\n"[..],
+            "23 bytes, and should have 10; as hexadecimal digits it is 11 bytes; of a wide one --ports and --queues must be told",
+        ),
+        (
+            b"00\n",
+            "3 bytes, and should have 10; as hexadecimal digits it is 1 byte",
+        ),
+        (
+            b"6BFFFEDE ADBEEFFF7FD\n",
+            "21 bytes, and should have 10; as a text, `ADBEEFFF7FD` has 11 hexadecimal digits: no whole bytes",
+        ),
+        // A letter that is no digit.
+        (b"6BFFFEDEADBEEFFF7FDG", "20 bytes, and should have 10"),
+    ] {
+        refused(&show(text), &format!("{six} {what}"));
+    }
+    // Ten bytes that are digits are a header all the same.
+    let said = header(&show(b"0123456789"));
+    assert!(said.out.starts_with("refused (7): "), "{}", said.out);
 }
 
 #[test]
@@ -323,8 +506,13 @@ fn files_that_cannot_be_read_or_written() {
     let folder = Folder::new("header-files");
     let named = |path: &Path, why: &str| format!("{}: {why}", path.display());
     let missing = folder.path("missing");
-    let why = named(&missing, "No such file or directory (os error 2)");
+    let no_file = "No such file or directory (os error 2)";
+    let why = named(&missing, &format!("{no_file}, and it is not hexadecimal"));
     trouble(&format!("show {}", missing.display()), &why);
+    trouble(
+        "show 6BFFFG",
+        &format!("6BFFFG: {no_file}, and it is not hexadecimal"),
+    );
     let inside = folder.path("");
     let why = named(&inside, "is a directory, not a header");
     trouble(&format!("show {}", inside.display()), &why);
@@ -373,6 +561,16 @@ fn a_header_of_which_nothing_can_be_said() {
     assert_eq!(fs::read(&new).unwrap().len(), 10);
 }
 
+/// Any of the shapes that all programs are tested with.
+fn some_form(random: &mut Random) -> Form {
+    let shape = random.pick(&SHAPES);
+    Form {
+        edition: shape.edition,
+        ports: shape.ports,
+        queues: shape.queues,
+    }
+}
+
 /// In this process.
 fn told(line: &str) -> (String, u8) {
     let words = format!("header {line}");
@@ -404,39 +602,47 @@ fn some_header(form: Form, random: &mut Random) -> Header {
     Header::from_numbers(numbers)
 }
 
+/// The fields in their order.
+const NAMES: [&str; 8] = [
+    "destination",
+    "source",
+    "queue",
+    "length",
+    "poisoned",
+    "timestamp",
+    "credit",
+    "transaction",
+];
+
+/// Show says these fields of what make has said.
+fn shows(options: &str, text: &str, header: &Header) {
+    let (shown, status) = told(&format!("show --json {options} {text}"));
+    let json = Json::read(&shown);
+    for (name, number) in NAMES.iter().zip(header.numbers()) {
+        assert_eq!(json.of("fields").of(name).number(), number.into());
+    }
+    assert_eq!(status, 0);
+}
+
 /// What make says is what the library writes, and show undoes it; and of what is
 /// refused this tool's own reader always knows the reason.
 #[test]
 fn made_and_shown_in_every_shape() {
     let mut random = Random::new(21);
-    let names = [
-        "destination",
-        "source",
-        "queue",
-        "length",
-        "poisoned",
-        "timestamp",
-        "credit",
-        "transaction",
-    ];
     let (mut made, mut refusals) = (0, 0);
     for _ in 0..2000 {
-        let form = settings_of(random.pick(&SHAPES), 1).form();
+        let form = some_form(&mut random);
         let header = some_header(form, &mut random);
-        let fields = names.iter().zip(header.numbers());
+        let fields = NAMES.iter().zip(header.numbers());
         let fields: Vec<String> = fields
             .map(|(name, number)| format!("--{name} {number}"))
             .collect();
         let options = options(form);
         let (text, status) = told(&format!("make {options} {}", fields.join(" ")));
         match form.write(&header) {
-            Ok(_) => {
-                let shown = told(&format!("show --json {options} {text}"));
-                let json = Json::read(&shown.0);
-                for (name, number) in names.iter().zip(header.numbers()) {
-                    assert_eq!(json.of("fields").of(name).number(), number.into());
-                }
-                assert_eq!((status, shown.1), (0, 0));
+            Ok(bytes) => {
+                assert_eq!((text.trim_end(), status), (digits(&bytes).as_str(), 0));
+                shows(&options, &text, &header);
                 made += 1;
             }
             Err(refusal) => {
@@ -448,6 +654,10 @@ fn made_and_shown_in_every_shape() {
         }
     }
     assert!(made > 300 && refusals > 300, "{made} {refusals}");
+}
+
+fn digits(bytes: &[u8]) -> String {
+    bytes.iter().map(|byte| format!("{byte:02X}")).collect()
 }
 
 /// CRC-8, for headers that nobody would write.
@@ -463,7 +673,7 @@ fn any_bytes_at_all() {
     let mut random = Random::new(22);
     let mut numbers = Vec::new();
     for _ in 0..4000 {
-        let form = settings_of(random.pick(&SHAPES), 1).form();
+        let form = some_form(&mut random);
         let size = form.size().unwrap() + usize::from(random.one_in(9));
         let width = random.pick(&[2, 256]);
         let mut bytes: Vec<u8> = (0..size).map(|_| random.below(width) as u8).collect();
@@ -474,8 +684,7 @@ fn any_bytes_at_all() {
         if !random.one_in(5) {
             summed(&mut bytes);
         }
-        let digits: String = bytes.iter().map(|byte| format!("{byte:02x}")).collect();
-        let (text, status) = told(&format!("show {} {digits}", options(form)));
+        let (text, status) = told(&format!("show {} {}", options(form), digits(&bytes)));
         assert!(!text.contains("report"), "{text}");
         let number = form
             .read(&bytes)

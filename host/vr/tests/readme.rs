@@ -1,8 +1,13 @@
 //! The sessions in the README, run.
 
 mod common;
+#[path = "common/images.rs"]
+mod images;
 
-use common::{at, changed, command, Folder, Said};
+use std::process::Command;
+
+use common::{program, Folder, Said};
+use images::{at, changed};
 
 /// The commands of a session, each with what it must say.
 fn session(number: usize) -> Vec<(String, String)> {
@@ -30,16 +35,24 @@ fn fits(text: &str, wanted: &str) -> bool {
     lines.any(|line| fits(&behind[line..], rest))
 }
 
-/// A session of so many commands, in a folder.
+/// A line as a shell has it, in which `vr` may stand behind a pipe too.
+fn run(line: &str, folder: &Folder) -> Said {
+    let script = format!("vr() {{ \"$VR\" \"$@\"; }}; vr {line}");
+    let mut shell = Command::new("sh");
+    shell.args(["-c", &script]).env("VR", program());
+    let output = shell.current_dir(folder.path("")).output();
+    output.unwrap().into()
+}
+
+/// A session of so many commands, in a folder. On a screen both outputs are to
+/// be seen.
 fn is_as_written(number: usize, commands: usize, folder: &Folder) {
     let session = session(number);
     assert_eq!(session.len(), commands);
     for (line, wanted) in session {
-        let words = line.split_whitespace();
-        let output = command().args(words).current_dir(folder.path("")).output();
-        let said = Said::from(output.unwrap());
-        assert!(fits(&said.out, &wanted), "{}", said.out);
-        assert_eq!(said.err, "");
+        let said = run(&line, folder);
+        let seen = said.out + &said.err;
+        assert!(fits(&seen, &wanted), "{seen}");
     }
 }
 
@@ -52,5 +65,5 @@ fn the_session_is_as_written() {
 
 #[test]
 fn the_session_of_headers_is_as_written() {
-    is_as_written(1, 6, &Folder::new("readme-headers"));
+    is_as_written(1, 7, &Folder::new("readme-headers"));
 }

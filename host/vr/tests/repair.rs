@@ -1,6 +1,8 @@
 //! `vr repair`: a copy mended, and nothing lost.
 
 mod common;
+#[path = "common/images.rs"]
+mod images;
 
 use std::ffi::OsStr;
 use std::fs::{self, Permissions};
@@ -8,10 +10,8 @@ use std::os::unix::fs::PermissionsExt;
 use std::path::Path;
 use std::process::Command;
 
-use common::{
-    at, busy_of, changed, command, full, on, settings_of, small, switch, vr, wide, Change, Folder,
-    Said, SHAPES, SMALL,
-};
+use common::{command, full, on, vr, Folder, Said};
+use images::{at, busy_of, changed, in_every_shape, largest, small, switch, wide, Change, SMALL};
 use ventorupo::Settings;
 
 fn repair(image: &Path, new: &Path) -> Said {
@@ -46,7 +46,7 @@ fn what_is_kept_and_dropped() {
          kept: map, 4094 ids to port 0, 1 id to port 1, 1 id to port 3\n\
          dropped: map entry 2, whose port 9 is none of 4\n\
          kept: 10 bytes past the state\n\
-         dropped: packets 4 (ingress 2, egress 1, prefetch 1)\n\
+         dropped: 4 packets (ingress 2, egress 1, prefetch 1)\n\
          dropped: outward credit 65635 (of 2 queues)\n\
          as after setup: free lists, arrival credits, last served queues\n\
          written: {}; {} is as it was\n",
@@ -113,7 +113,7 @@ fn every_rule_is_mended() {
         let new = folder.path(format!("new{rule}"));
         let said = repair(&image, &new);
         assert!(said.out.starts_with(&format!("was: ({rule}) ")));
-        let packets = format!("\ndropped: packets 4 (ingress 2, egress 1, prefetch 1){stuck}\n");
+        let packets = format!("\ndropped: 4 packets (ingress 2, egress 1, prefetch 1){stuck}\n");
         assert!(said.out.contains(&packets), "{}", said.out);
         assert_eq!((said.status, said.err.as_str()), (Some(0), ""));
         assert_eq!(fs::read(&new).unwrap(), fresh([0, 1, 2, 3]));
@@ -265,7 +265,7 @@ fn a_wide_image() {
     let wanted = "was: (b) port 4: last served queue 3 is none of 3\n\
                   kept: ports 5, queues 3, nodes 1, beat 64, slots 1, credit 16, edition 1, packets 0\n\
                   kept: map, 4093 ids to port 0, 1 id to port 1, 1 id to port 3, 1 id to port 4\n\
-                  dropped: packets 2 (ingress 1, egress 0, prefetch 1)\n\
+                  dropped: 2 packets (ingress 1, egress 0, prefetch 1)\n\
                   dropped: outward credit 9 (of 1 queue)\n";
     assert!(said.out.starts_with(wanted), "{}", said.out);
     let mut switch = switch(Settings::wide(5, 3, 1, 64, 1, 16));
@@ -279,13 +279,13 @@ fn a_wide_image() {
 #[test]
 fn bytes_past_the_state_go_along() {
     let folder = Folder::new("repair-past");
-    for (i, shape) in SHAPES.into_iter().enumerate() {
+    for (i, settings) in in_every_shape(16).into_iter().enumerate() {
         let nodes = if i % 2 == 0 { 16 } else { 256 };
-        let state = busy_of(settings_of(shape, nodes), 10, 9).into_memory();
+        let settings = Settings { nodes, ..settings };
+        let state = busy_of(settings, 10, 9).into_memory();
         past_the_state(&folder, &format!("new{i}"), &state);
     }
-    // The largest.
-    let state = switch(settings_of((1, 32, 64), 2048)).into_memory();
+    let state = switch(largest(2048)).into_memory();
     past_the_state(&folder, "largest", &state);
 }
 

@@ -1,13 +1,18 @@
 //! The command line of `vr header`.
 
 use std::collections::BTreeMap;
-use std::ffi::{OsStr, OsString};
+use std::ffi::OsString;
 use std::path::PathBuf;
 
 use ventorupo::{Form, Header, TEN_BYTES, WIDE};
 
-use super::{bad, file_named, is_dashed, name_behind_o, no_option, quoted, twice, Command, Given};
+use super::{bad, file_named, is_dashed, name_behind_o, no_option, quoted, twice, unknown};
+use super::{Command, Given};
+use crate::hex::{self, NoBytes};
 use crate::trouble::Trouble;
+
+/// The word for standard input.
+const INPUT: &str = "-";
 
 /// The options with a number behind them: those of the form, those of the
 /// fields that every header has to be told, and those that are 0 else.
@@ -44,7 +49,7 @@ fn make(words: impl Iterator<Item = OsString>) -> Result<Command, Trouble> {
     let numbers = [&COUNTS[..], &NEEDED, &OTHERS].concat();
     let words = Words::read(words, &numbers, &["--edition", "-o"])?;
     if let Some(word) = words.plain.first() {
-        return Err(bad(format!("{} is no option here", quoted(word))));
+        return Err(unknown(word));
     }
     let needed = |option| {
         let number = words.numbers.get(option).copied();
@@ -71,6 +76,10 @@ fn make(words: impl Iterator<Item = OsString>) -> Result<Command, Trouble> {
 
 fn show(words: impl Iterator<Item = OsString>) -> Result<Command, Trouble> {
     let words = Words::read(words, &COUNTS, &["--edition", "--json"])?;
+    let option = |word: &&OsString| is_dashed(word) && *word != INPUT;
+    if let Some(word) = words.plain.iter().find(option) {
+        return Err(no_option(word));
+    }
     Ok(Command::Show {
         form: words.form()?,
         json: words.json,
@@ -88,14 +97,14 @@ impl Words {
     ) -> Result<Words, Trouble> {
         let mut read = Words::default();
         while let Some(word) = words.next() {
-            let of = |option: &&&'static str| word == **option;
-            let other = others.iter().find(|&&option| word == *option);
-            match (numbers.iter().find(of), other) {
-                (Some(option), _) => read.put_number(option, words.next())?,
-                (_, Some(&"--edition")) => read.put_edition(words.next())?,
-                (_, Some(&"--json")) => read.json = true,
-                (_, Some(_)) => read.put_new(words.next())?,
-                _ if is_dashed(&word) => return Err(no_option(&word)),
+            let (name, value) = parted(&word);
+            let number = numbers.iter().find(|&&option| name == option);
+            let other = others.iter().find(|&&option| name == option);
+            match (number, other) {
+                (Some(option), _) => read.put_number(option, value.or_else(|| words.next()))?,
+                (_, Some(&"--edition")) => read.put_edition(value.or_else(|| words.next()))?,
+                (_, Some(&"--json")) if value.is_none() => read.json = true,
+                (_, Some(&"-o")) => read.put_new(words.next())?,
                 _ => read.plain.push(word),
             }
         }
@@ -168,44 +177,54 @@ fn number(word: &str) -> Option<u32> {
     number.filter(|_| plain)
 }
 
-/// Bytes in hexadecimal digits, in one word or several, or a file's name.
+/// An option and its value, which may be joined by `=`.
+fn parted(word: &OsString) -> (String, Option<OsString>) {
+    let word = word.to_string_lossy();
+    match word.split_once('=') {
+        Some((name, value)) if name.starts_with("--") => (name.into(), Some(value.into())),
+        _ => (word.into(), None),
+    }
+}
+
+/// Bytes in hexadecimal digits, in one word or several, or a file's name, or
+/// standard input.
 fn given(words: Vec<OsString>) -> Result<Given, Trouble> {
-    let digits: Option<Vec<String>> = words.iter().map(|word| hexadecimal(word)).collect();
-    match (digits, &words[..]) {
-        (_, []) => Err(bad(
+    match &words[..] {
+        [] => Err(bad(
             "header show needs a header, in hexadecimal or in a file".into(),
         )),
-        (Some(digits), _) => bytes(&digits.concat(), &words).map(Given::Bytes),
-        (None, [name]) => Ok(Given::File(name.into())),
-        (None, several) => {
-            let other = several.iter().find(|word| hexadecimal(word).is_none());
-            let other = other.map(|word| quoted(word)).unwrap_or_default();
-            Err(bad(format!("{other} is not hexadecimal")))
+        [word] if word == INPUT => Ok(Given::Input),
+        [word] if word.is_empty() => {
+            Err(bad("an empty word is neither a file nor hexadecimal".into()))
         }
+        [word] => match bytes(word) {
+            Ok(bytes) => Ok(Given::Bytes(bytes)),
+            Err(NoBytes::NotHexadecimal) => Ok(Given::File(word.into())),
+            Err(halved) => Err(bad(format!("{halved}; {}", file_named(word)))),
+        },
+        several => several_words(several).map(Given::Bytes),
     }
 }
 
-/// The digits of a word that has hexadecimal digits and blanks alone.
-fn hexadecimal(word: &OsStr) -> Option<String> {
-    let digits: String = word.to_str()?.split_whitespace().collect();
-    let all = digits.chars().all(|digit| digit.is_ascii_hexdigit());
-    (all && !digits.is_empty()).then_some(digits)
-}
-
-fn bytes(digits: &str, words: &[OsString]) -> Result<Vec<u8>, Trouble> {
-    if digits.len() % 2 == 1 {
-        let many = digits.len();
-        let file = match words {
-            [name] => format!("; {}", file_named(name)),
-            _ => String::new(),
+fn several_words(words: &[OsString]) -> Result<Vec<u8>, Trouble> {
+    let mut all = Vec::new();
+    for word in words {
+        let what = match bytes(word) {
+            Ok(bytes) => {
+                all.extend(bytes);
+                continue;
+            }
+            Err(_) if word == INPUT => "`-`, for standard input, stands alone".into(),
+            Err(NoBytes::NotHexadecimal) => format!("{} is not hexadecimal", quoted(word)),
+            Err(halved) => halved.to_string(),
         };
-        return Err(bad(format!(
-            "{many} hexadecimal digits are no whole bytes{file}"
-        )));
+        return Err(bad(what));
     }
-    let byte = |at: usize| u8::from_str_radix(&digits[at..at + 2], 16);
-    let bytes: Result<Vec<u8>, _> = (0..digits.len()).step_by(2).map(byte).collect();
-    bytes.map_err(|why| bad(why.to_string()))
+    Ok(all)
+}
+
+fn bytes(word: &OsString) -> Result<Vec<u8>, NoBytes> {
+    hex::bytes(word.to_str().ok_or(NoBytes::NotHexadecimal)?)
 }
 
 #[cfg(test)]
@@ -243,6 +262,7 @@ mod tests {
             "make --ports 8 --queues 16",
             "make --queues 16 --ports 0x8",
             "make --edition wide --ports 8 --queues 0x10",
+            "make --edition=wide --ports=8 --queues=0x10",
         ] {
             assert_eq!(told(&format!("{line} {LEAST}")), Ok(wide()));
         }
@@ -276,6 +296,12 @@ mod tests {
         assert_eq!(told(line), show(wide, bytes(), false));
         assert_eq!(told("show ./6540c8"), show(ten, file("./6540c8"), false));
         assert_eq!(told("show h"), show(ten, file("h"), false));
+        assert_eq!(told("show -"), show(ten, Given::Input, false));
+        let line = "show --json - --ports=8 --queues=0x10";
+        assert_eq!(told(line), show(wide, Given::Input, true));
+        for line in ["show 0x6540C8", "show 65:40:c8", "show 65,40, C8"] {
+            assert_eq!(told(line), show(ten, bytes(), false), "{line}");
+        }
         // The library refuses what no switch has.
         let none = Form {
             ports: 5,
@@ -329,9 +355,19 @@ mod tests {
                 "--edition needs ten or wide behind it, not `1`",
             ),
             ("make 12", "`12` is no option here"),
+            // It takes no file, so none of such a name is meant.
+            ("make --json", "`--json` is no option here"),
+            ("make --desination=1", "`--desination=1` is no option here"),
+            ("make -", "`-` is no option here"),
+            ("make -o=new", "`-o=new` is no option here; write `-o new`"),
             (
-                "make --json",
-                "`--json` is no option here; for a file of that name write `./--json`",
+                "make --queue=",
+                "--queue needs a number behind it, 0 to 4294967295, not ``",
+            ),
+            ("make --queue=1 --queue 1", "--queue is there twice"),
+            (
+                "make --edition=tne",
+                "--edition needs ten or wide behind it, not `tne`",
             ),
             ("make -o", "-o needs a name behind it"),
             ("make -o a -o b", "-o is there twice"),
@@ -349,10 +385,19 @@ mod tests {
             ),
             (
                 "show abc",
-                "3 hexadecimal digits are no whole bytes; for a file of that name write `./abc`",
+                "`abc` has 3 hexadecimal digits: no whole bytes; for a file of that name write `./abc`",
             ),
-            ("show ab c", "3 hexadecimal digits are no whole bytes"),
+            ("show ab c", "`c` has 1 hexadecimal digit: no whole bytes"),
+            (
+                "show ab:c:de:f0",
+                "`c` has 1 hexadecimal digit: no whole bytes; for a file of that name write `./ab:c:de:f0`",
+            ),
             ("show ab cx", "`cx` is not hexadecimal"),
+            ("show ab -", "`-`, for standard input, stands alone"),
+            (
+                "show --json=1 00",
+                "`--json=1` is no option here; for a file of that name write `./--json=1`",
+            ),
             ("show one two", "`one` is not hexadecimal"),
             (
                 "show --queue 1 00",

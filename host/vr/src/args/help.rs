@@ -1,0 +1,163 @@
+//! What `vr help` says, and `--help` behind a command.
+
+/// What help is asked for.
+#[derive(Debug, Clone, Copy, PartialEq, Eq)]
+pub enum Topic {
+    All,
+    Explain,
+    Dump,
+    Repair,
+    Header,
+    Make,
+    Show,
+}
+
+const TOP: &str = "\
+vr: images of a switch's state, explained, shown and repaired; headers made and shown
+";
+
+const EXPLAIN: &str = "    \
+    vr explain IMAGE         says that it is a sound state, or the first rule broken and what shows it
+";
+
+const DUMP: &str = "    \
+    vr dump IMAGE [--json]   shows settings, map, credits and every list with its packets
+";
+
+const REPAIR: &str = "    \
+    vr repair IMAGE -o NEW   writes NEW: IMAGE with the starting state of its settings, the map kept
+";
+
+const MAKE: &str = "    \
+    vr header make [FORM] --destination N --source N --queue N --length N [--poisoned N]
+                   [--timestamp N] [--credit N] [--transaction N] [-o NEW]
+                             says the header's bytes in hexadecimal, with 0 for fields that are not
+                             named; with -o, writes them to NEW too
+";
+
+const SHOW: &str = "    \
+    vr header show [FORM] HEADER [--json]
+                             shows the fields of a header, and why it is none if it is none
+";
+
+const OTHERS: &str = "    \
+    vr help                  says this; --help behind a command says its part
+    vr --version             says the version
+";
+
+const IMAGES: &str = "\
+IMAGE is a file of a state's bytes (docs/LAYOUT.md), and is never written. A name that starts with - is
+written ./-name.
+";
+
+const REPAIRS: &str = "\
+A repair drops every packet and all outward credit, also of a sound state; bytes of IMAGE past the state
+go to NEW as they are. It is refused where a setting is not in its row or the image is too short, and then
+NEW is not made.
+";
+
+const NEW: &str = "\
+NEW must not be there yet: vr overwrites nothing.
+";
+
+const HEADERS: &str = "\
+HEADER is hexadecimal digits, in one word or several, or a file of a header's bytes or of such digits, or -
+for standard input. 0x may stand in front of bytes, and blanks or : , - between them. A file whose name is
+such digits is written ./name.
+";
+
+const FORMS: &str = "\
+FORM is --ports N --queues N of a switch with wide headers; without it headers have ten bytes, for 4 ports
+and 24 queues. (--edition ten or --edition wide says it outright.)
+";
+
+const NUMBERS: &str = "\
+A number N is decimal or, behind 0x, hexadecimal; --name=N is --name N.
+";
+
+const STATUS: &str = "\
+Exit status: 0 a sound state, repaired, made or shown; 1 a broken state, or refused; 2 it could not be
+done (a wrong command, a file that cannot be read or written), with the reason on standard error.
+";
+
+impl Topic {
+    /// The help for it: paragraphs, the first of which are the commands.
+    pub fn text(self) -> String {
+        let (commands, notes) = self.parts();
+        let mut paragraphs = vec![commands.concat()];
+        paragraphs.extend(notes.iter().map(|note| note.to_string()));
+        paragraphs.push(STATUS.into());
+        if self == Topic::All {
+            paragraphs.insert(0, TOP.into());
+        }
+        paragraphs.join("\n")
+    }
+
+    /// Commands, and what is to be known of their words.
+    fn parts(self) -> (&'static [&'static str], &'static [&'static str]) {
+        match self {
+            Topic::All => (
+                &[EXPLAIN, DUMP, REPAIR, MAKE, SHOW, OTHERS],
+                &[IMAGES, REPAIRS, NEW, HEADERS, FORMS, NUMBERS],
+            ),
+            Topic::Explain => (&[EXPLAIN], &[IMAGES]),
+            Topic::Dump => (&[DUMP], &[IMAGES]),
+            Topic::Repair => (&[REPAIR], &[IMAGES, REPAIRS, NEW]),
+            Topic::Header => (&[MAKE, SHOW], &[HEADERS, FORMS, NUMBERS, NEW]),
+            Topic::Make => (&[MAKE], &[FORMS, NUMBERS, NEW]),
+            Topic::Show => (&[SHOW], &[HEADERS, FORMS, NUMBERS]),
+        }
+    }
+}
+
+#[cfg(test)]
+mod tests {
+    use super::*;
+
+    #[test]
+    fn a_part_is_of_its_command_alone() {
+        let commands = [
+            (Topic::Explain, "vr explain"),
+            (Topic::Dump, "vr dump"),
+            (Topic::Repair, "vr repair"),
+            (Topic::Make, "vr header make"),
+            (Topic::Show, "vr header show"),
+        ];
+        let all = Topic::All.text();
+        for (topic, its) in commands {
+            let text = topic.text();
+            assert!(text.starts_with(&format!("    {its} ")), "{text}");
+            for (other, command) in commands {
+                assert_eq!(text.contains(command), topic == other, "{text}");
+            }
+            // Every paragraph of a part stands in the whole.
+            assert!(text.split("\n\n").all(|part| all.contains(part)), "{text}");
+        }
+    }
+
+    /// A word in capitals is explained where it is used.
+    #[test]
+    fn words_in_capitals_are_explained() {
+        let topics = [
+            (Topic::Explain, &["IMAGE"][..]),
+            (Topic::Repair, &["IMAGE", "NEW"]),
+            (Topic::Header, &["HEADER", "FORM", "NEW"]),
+            (Topic::Make, &["FORM", "NEW"]),
+            (Topic::Show, &["HEADER", "FORM"]),
+        ];
+        for (topic, names) in topics {
+            let text = topic.text();
+            for name in ["IMAGE", "NEW", "HEADER", "FORM"] {
+                let explained = text.contains(&format!("\n{name} "));
+                assert_eq!(explained, names.contains(&name), "{name}: {text}");
+            }
+        }
+    }
+
+    #[test]
+    fn lines_fit_a_page() {
+        let all = Topic::All.text();
+        assert!(all.lines().all(|line| line.len() <= 108));
+        assert!(all.ends_with(".\n") && !all.contains("\n\n\n"));
+    }
+}
