@@ -8,9 +8,9 @@ use Rattle.ledger.specs.Settings.{Settings}
 use Rattle.ledger.specs.Rules.{Rule, refuse, guard}
 use Rattle.ledger.specs.Header.{Form, Fields, form, fieldsOf, arrivalRules}
 use Rattle.ledger.specs.Ledger.{isNode, Packet, recorded, free, ingress, place#, arrivalOf, Place·In}
-use Rattle.ledger.specs.Calls.{refused, entry, arrive, firstOf, lastRules, rules}
+use Rattle.ledger.specs.Calls.{refused, entry, arrive, firstOf, lacks, lastRules, rules}
 use Rattle.ledger.specs.Sound.{weigh, one, Roomy}
-use Rattle.ledger.proofs.Tests.{leb-is, leb-not, ltb-is, ltb-not}
+use Rattle.ledger.proofs.Tests.{leb-is, leb-not}
 use Rattle.ledger.proofs.Places.{place#-lt}
 use Rattle.ledger.proofs.Header.{fields-in}
 use Rattle.ledger.proofs.Passes as ledger
@@ -22,12 +22,12 @@ use Rattle.layout.specs.declared.Table.the-variants.{Arrival, Count}
 use Rattle.layout.specs.Tables.{lists, get, settingsOf}
 use Rattle.layout.specs.Picture.{ledgerIn}
 use Rattle.memory.specs.Ends.{popMem, pushMem, Tidy}
-use Rattle.memory.specs.Writes.{headOf, recordMem, creditMem, arriveMem}
+use Rattle.memory.specs.Writes.{headOf, recordMem, creditMem, arriveMem, markMem, refusedMem}
 use Rattle.memory.specs.Judged as memory
 use Rattle.memory.specs.Judged.{Judgement, judged, Works}
 use Rattle.memory.specs.Memory.{acted}
 use Rattle.memory.proofs.Chains.{item-node, state-tidy}
-use Rattle.memory.proofs.Judged.{judged-clear, acted-good, acted-bad}
+use Rattle.memory.proofs.Judged.{judged-clear, acted-good, acted-refused}
 use Rattle.memory.proofs.Paint.{empty-is, some-is, counted-some, pop-item, record-kept}
 use Rattle.memory.proofs.Pop.{pop-tidy, pop-node, pop-gone}
 use Rattle.arrivals.specs.Admission.{Admission, accepted, rejected, packetFor, judgedFields, judgedArrival, CanTakeIn}
@@ -50,18 +50,18 @@ module _ (S : Settings) (ok : Roomy S) (p : ℕ) (hp : p < S .ports) where
     abbrev k : Packet
     k = packetFor S m p f
 
-    pub no-credit : arrivalOf S (ledgerIn S m) p (k .queue) < k .price → rejected 10 ≡ judgedFields S m p f
+    pub no-credit : lacks S (ledgerIn S m) p (k .queue) (k .price) ≡ true → rejected 10 ≡ judgedFields S m p f
     unfolding judgedFields
-    no-credit h = rw (ltb-is (arrivalOf S (ledgerIn S m) p (k .queue)) (k .price) h)
+    no-credit h = rw h
 
-    module _ (afford : k .price ≤ arrivalOf S (ledgerIn S m) p (k .queue)) where
+    module _ (afford : lacks S (ledgerIn S m) p (k .queue) (k .price) ≡ false) where
       pub no-node : get S m Count (place# S (free p)) ≡ 0 → rejected 11 ≡ judgedFields S m p f
       unfolding judgedFields
-      no-node e = rw (ltb-not (arrivalOf S (ledgerIn S m) p (k .queue)) (k .price) afford, empty-is S m (place# S (free p)) (lists-in .0) e)
+      no-node e = rw (afford, empty-is S m (place# S (free p)) (lists-in .0) e)
 
       pub admits : (get S m Count (place# S (free p)) ≡ 0 → ⊥) → accepted k ≡ judgedFields S m p f
       unfolding judgedFields
-      admits n = rw (ltb-not (arrivalOf S (ledgerIn S m) p (k .queue)) (k .price) afford, some-is S m (place# S (free p)) (lists-in .0) n)
+      admits n = rw (afford, some-is S m (place# S (free p)) (lists-in .0) n)
 
 -- ---- the judge of an arrival
 
@@ -119,8 +119,10 @@ judged-plainly : (S : Settings) (m : List ℕ) (p : ℕ) (h : List ℕ) → judg
 unfolding judged judgedArrival
 judged-plainly S m p h = guard-plainly (rules S (ledgerIn S m) (arrive p h)) (packetFor S m p (fieldsOf (form S) h))
 
-pub turned-away : (S : Settings) (m : List ℕ) (p : ℕ) (h : List ℕ) (n : ℕ) → rejected n ≡ judgedArrival S m p h → acted S m (arrive p h) ≡ (refused n, m)
-turned-away S m p h n e = acted-bad S m (arrive p h) n (judged-plainly S m p h ∙ ap plainly (sym e))
+pub turned-away : (S : Settings) (m : List ℕ) (p : ℕ) (h : List ℕ) (n : ℕ) → rejected n ≡ judgedArrival S m p h
+    → acted S m (arrive p h) ≡ (refused n, markMem S p n m)
+unfolding refusedMem
+turned-away S m p h n e = acted-refused S m (arrive p h) n (judged-plainly S m p h ∙ ap plainly (sym e))
 
 -- what is known once the judge accepted packet k
 pub record Arrives (s : Shape) (m : List ℕ) (p : ℕ) (h : List ℕ) (k : Packet) : Type 0 where

@@ -12,10 +12,12 @@ ghost use Prim.Native.Nat.{ℕ};
 ghost use Rattle.ledger.specs.Header.{form};
 ghost use Rattle.ledger.specs.Ledger.{recorded};
 ghost use Rattle.ledger.specs.Answers.{sentOf, entryReply};
-ghost use Rattle.ledger.specs.Calls.{Reply, arrive};
+ghost use Rattle.ledger.specs.Calls.{Reply, arrive, lacks};
 ghost use Rattle.header.specs.Judge.{verdict, verdictOf};
 ghost use Rattle.header.specs.Parse.{headerOf};
 ghost use Rattle.layout.specs.Tables.{settingsOf, Laid};
+ghost use Rattle.layout.specs.Picture.{ledgerIn};
+ghost use Rattle.parts.specs.Parts.{InCell};
 ghost use Rattle.memory.specs.Writes.{arriveMem};
 ghost use Rattle.memory.specs.Judged.{Works};
 ghost use Rattle.memory.specs.Memory.{acted};
@@ -46,6 +48,17 @@ fn packet_of(s: Shape, x: EntryId, f: HeaderFields) -> Sent
     }
 }
 
+// Whether port p lacks the credit for a price in queue q; a halt counts as that.
+fn wanting(m: &[u8], s: Shape, p: usize, q: usize, price: u16) -> bool
+    requires { ⌜ InCell s p q (now m) ⌝ }
+    ensures { λ r. ⌜ r ≡ lacks (settingsOf s) (ledgerIn (settingsOf s) (now (m .entry))) p q price ⌝ }
+{
+    if halts::held_up(m, s, p, q) {
+        return true;
+    }
+    parts::arrival(m, s, p, q) < price
+}
+
 // The refusals that are left where the port and the header are right: credit, then a free node.
 fn admit(m: &[u8], s: Shape, p: usize, f: HeaderFields) -> Admitted
     requires { ⌜ CanAdmit s p (headerOf f) (now m) ⌝ }
@@ -54,8 +67,7 @@ fn admit(m: &[u8], s: Shape, p: usize, f: HeaderFields) -> Admitted
     let free = geometry::free_list(s, p);
     let k = packet_of(s, lists::first(m, s, free), f);
     let price = k.price as u16;
-    let credit = parts::arrival(m, s, p, k.queue as usize);
-    if credit < price {
+    if wanting(m, s, p, k.queue as usize, price) {
         return Admitted::No(Refusal::NoCredit);
     }
     if lists::count(m, s, free) == 0 {
@@ -107,14 +119,17 @@ fn take_in(m: &mut [u8], s: Shape, p: usize, k: Sent)
     parts::set_arrival(m, s, p, q, credit - price);
 }
 
-// The header recorded for the port's first free node, which goes to the end of the ingress list.
+// The header recorded for the port's first free node, which goes to the end of the ingress list. A port that lies is halted.
 pub fn arrive(m: &mut [u8], s: Shape, port: u32, h: &[u8]) -> Entry
     requires { ⌜ Works s (now m) ⌝ }
     ensures { λ r. ⌜ _≡_ {A = Reply × List ℕ} (entryReply r, now (m .exit)) (acted (settingsOf s) (now (m .entry)) (arrive port (now (h .entry)))) ⌝ }
 {
     let admitted = judge_arrive(m, s, port, h);
     match admitted {
-        Admitted::No(r) => Entry::No(r),
+        Admitted::No(r) => {
+            halts::halt(m, s, port, r);
+            Entry::No(r)
+        }
         Admitted::Good(k) => {
             take_in(m, s, port as usize, k);
             let id = k.entry;

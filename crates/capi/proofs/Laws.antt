@@ -1,5 +1,5 @@
 -- The size, and where of a number past every entry id; with no code. Assumes nothing.
-use mathlib.Core.Path.{_≡_}
+use mathlib.Core.Path.{_≡_, refl}
 use mathlib.Core.Bool.{true, false}
 use mathlib.Core.List.{List}
 use Prim.Native.Nat.{ℕ, _<_}
@@ -23,7 +23,7 @@ unfolding M
 beyond m y k = (λ s. go s (state-dec m), λ n. off-state m n (whereIs y))
   where
     go : State m → (d : Dec (State m)) → tested m d (whereIs y) ≡ (refused 15, m)
-    go s (yes t) = acted-bad (settingsIn m) m (whereIs y) 15 (unfold judged in rw (no-node (settingsIn m) (t .sound .rows) y k))
+    go s (yes t) = acted-bad (settingsIn m) m (whereIs y) refl 15 (unfold judged in rw (no-node (settingsIn m) (t .sound .rows) y k))
     go s (no n) = absurd (n s)
 
 -- so the room stays, whichever id it is asked for

@@ -35,6 +35,7 @@ few S r =
     }
 
 pub record Small (s : Shape) : Type 0 where
+  pub small-ports : s .ports ≤ 32
   pub small-cells : s .cells ≤ 2016
   pub small-lists : s .lists ≤ 4160
   pub small-all : s .all ≤ 65536
@@ -47,6 +48,7 @@ unfolding startOf
 small s l =
     let f = few (settingsOf s) (l .roomy) in
     record {
+      small-ports = l .roomy .few-ports;
       small-cells = omega arith;
       small-lists = omega arith;
       small-all = omega arith;

@@ -6,24 +6,25 @@ use lib.ListN.{take}
 use Rattle.numbers.specs.Bytes.{number, store}
 use Rattle.ledger.specs.Settings.{Settings, settingCount, ids, row}
 use Rattle.ledger.specs.Header.{form, leastLength}
-use Rattle.ledger.specs.Ledger.{Column, arrival, outward, last, mapped}
+use Rattle.ledger.specs.Ledger.{Column, arrival, outward, last, mapped, halted}
 use Rattle.ledger.specs.Sound.{sum, Roomy}
 use mathlib.Core.Path.{_≡_}
 use Rattle.layout.specs.declared.Shape.{Shape}
 use Rattle.layout.specs.declared.Table.{Table}
-use Rattle.layout.specs.declared.Table.the-variants.{Setting, Mapped, Last, Arrival, Outward, Head, Tail, Count, Next, Length, Stamp, Queue}
+use Rattle.layout.specs.declared.Table.the-variants.{Setting, Mapped, Last, Halted, Arrival, Outward, Head, Tail, Count, Next, Length, Stamp, Queue}
 use Rattle.layout.specs.declared.Table.the-variants.{Dest, Poisoned, Transaction, Price}
 
 -- the tables in their order: the settings, the columns of numbers, then what there is for each list, then for each node
 abbrev pub columnTables : ℕ
-columnTables = 4
+columnTables = 5
 
 abbrev pub turnOf : Table → ℕ
 turnOf Setting = 0
 turnOf Mapped = 1
 turnOf Last = 2
-turnOf Arrival = 3
-turnOf Outward = 4
+turnOf Halted = 3
+turnOf Arrival = 4
+turnOf Outward = 5
 turnOf Head = 1 + columnTables
 turnOf Tail = 2 + columnTables
 turnOf Count = 3 + columnTables
@@ -41,6 +42,7 @@ abbrev pub width : Table → ℕ
 width Setting = 2
 width Mapped = 1
 width Last = 1
+width Halted = 1
 width Arrival = 2
 width Outward = 2
 width Head = 2
@@ -69,6 +71,7 @@ abbrev pub many : Settings → Table → ℕ
 many S Setting = settingCount
 many S Mapped = ids
 many S Last = S .ports
+many S Halted = S .ports
 many S Arrival = cells S
 many S Outward = cells S
 many S Head = lists S
@@ -89,6 +92,7 @@ tableOf arrival = Arrival
 tableOf outward = Outward
 tableOf last = Last
 tableOf mapped = Mapped
+tableOf halted = Halted
 
 abbrev pub bytesOf : Settings → Table → ℕ
 bytesOf S t = many S t * width t
@@ -96,7 +100,7 @@ bytesOf S t = many S t * width t
 -- the tables by their turns, and their sizes
 abbrev pub tables : List Table
 tables =
-    Setting ∷ Mapped ∷ Last ∷ Arrival ∷ Outward ∷ Head ∷ Tail ∷ Count
+    Setting ∷ Mapped ∷ Last ∷ Halted ∷ Arrival ∷ Outward ∷ Head ∷ Tail ∷ Count
     ∷ Next ∷ Length ∷ Stamp ∷ Queue ∷ Dest ∷ Poisoned ∷ Transaction ∷ Price ∷ []
 
 abbrev pub sizes : Settings → List ℕ

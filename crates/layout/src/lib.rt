@@ -13,6 +13,7 @@ pub enum Table {
     Setting,
     Mapped,
     Last,
+    Halted,
     Arrival,
     Outward,
     Head,
@@ -87,7 +88,7 @@ pub fn shape_of(told: Settings) -> Shape
     let cells = ports * (queues - 1);
     let lists = ports * row;
     let all = ports * nodes;
-    let arrival = 4112 + ports;
+    let arrival = 4112 + 2 * ports;
     let head = arrival + 4 * cells;
     let next = head + 8 * lists;
     Shape {
@@ -125,6 +126,7 @@ pub fn start_of(s: Shape, t: Table) -> usize
         Table::Setting => 0,
         Table::Mapped => 16,
         Table::Last => 4112,
+        Table::Halted => 4112 + s.ports,
         Table::Arrival => s.arrival,
         Table::Outward => s.arrival + 2 * cells,
         Table::Head => head,

@@ -5,7 +5,7 @@ use mathlib.Core.List.{List, [], _∷_}
 use Prim.Native.Nat.{ℕ}
 use native.Mathlib.Omega.{arith}
 use lib.ListN.{getD}
-use Rattle.ledger.specs.Answers.{numberOf, kindOf, exitOf, sentOf, plainReply, stitchReply, entryReply, turnReply, readyReply, whereReply}
+use Rattle.ledger.specs.Answers.{numberOf, kindOf, exitOf, sentOf, plainReply, stitchReply, entryReply, turnReply, readyReply, whereReply, reportReply}
 use Rattle.ledger.specs.declared.Refusal.{Refusal}
 use Rattle.ledger.specs.declared.Refusal.the-variants.{ShortMemory, BadSetting, NoState, NoPort, NoQueue, HeaderSize, Checksum, Source}
 use Rattle.ledger.specs.declared.Refusal.the-variants.{TooShort, NoCredit, NoFreeNode, NothingThere, SlotsInUse, TooMuchCredit, NoSuchId}
@@ -25,6 +25,8 @@ use Rattle.ledger.specs.declared.Readiness.{Readiness}
 use Rattle.ledger.specs.declared.Readiness.the-variants as words
 use Rattle.ledger.specs.declared.Whereabouts.{Whereabouts}
 use Rattle.ledger.specs.declared.Whereabouts.the-variants as places
+use Rattle.ledger.specs.declared.Reported.{Reported}
+use Rattle.ledger.specs.declared.Reported.the-variants as reports
 use Rattle.ledger.specs.Calls.{refused, entry, leaves, found, Side}
 use Rattle.ledger.specs.Ledger.{Packet, Place}
 
@@ -171,3 +173,9 @@ where-inj (places.Found v i) (places.Found w j) e =
 where-inj (places.Found v i) (places.No s) e = cc
 where-inj (places.No r) (places.Found w j) e = cc
 where-inj (places.No r) (places.No s) e = ap places.No (same-refusal r s e)
+
+pub report-inj : (a b : Reported) → reportReply a ≡ reportReply b → a ≡ b
+report-inj (reports.Mark v) (reports.Mark w) e = cc
+report-inj (reports.Mark v) (reports.No s) e = cc
+report-inj (reports.No r) (reports.Mark w) e = cc
+report-inj (reports.No r) (reports.No s) e = ap reports.No (same-refusal r s e)

@@ -8,7 +8,8 @@ use Rattle.ledger.specs.Header.{widthOf, formOf, frontBits, frontBytes, 
 use Rattle.ledger.specs.Ledger.{isNode, recorded, place#, placeOf, cell, creditAt, setCredit, pop, push, move}
 use Rattle.ledger.specs.Ledger.{start, change}
 use Rattle.ledger.specs.Ready.{isReady, wordOf, readyWord, maskedAbove, pick}
-use Rattle.ledger.specs.Calls.{onRefusal, arrived, stitchRecord, served}
+use Rattle.ledger.specs.Halt.{halts, marks, heldUp}
+use Rattle.ledger.specs.Calls.{markedFor, onRefusal, arrived, stitchRecord, served}
 use Rattle.ledger.specs.Sound.{All}
 use Rattle.ledger.specs.Rounds.{roundActs, answerBytes, bytesOf, answersIn}
 use Rattle.ledger.specs.Cards.{Holds, cards}
@@ -17,7 +18,8 @@ pub cards-hold : All Holds cards
 unfolding number bits crcBit crcBits crcByte crcFrom crc8 isBeat portsIn queuesIn inRows row size widthOf formOf frontBits
     frontBytes spare bodySize headerSize leastLength fieldsOf price isNode recorded place# placeOf cell creditAt
     setCredit pop push move change start isReady wordOf readyWord maskedAbove pick arrived stitchRecord served roundActs answerBytes
-    bytesOf answersIn lib.Count.ones lib.Count.leadingZeros lib.Count.trailingZeros onRefusal
+    bytesOf answersIn lib.Count.ones lib.Count.leadingZeros lib.Count.trailingZeros onRefusal markedFor
+    halts marks heldUp
 cards-hold = (
   refl,
   (
@@ -44,7 +46,7 @@ cards-hold = (
                         refl,
                         (
                           refl,
-                          (refl, (refl, (refl, (refl, (refl, (refl, (refl, (refl, (refl, (refl, (refl, (refl, (refl, (refl, (refl, tt))))))))))))))),
+                          (refl, (refl, (refl, (refl, (refl, (refl, (refl, (refl, (refl, (refl, (refl, (refl, (refl, (refl, (refl, (refl, (refl, (refl, tt)))))))))))))))))),
                         ),
                       ),
                     ),

@@ -10,9 +10,10 @@ use lib.ListN.{length, getD}
 use Rattle.ledger.specs.Settings.{Settings, inRows, row}
 use Rattle.ledger.specs.Header.{form, leastLength, price}
 use Rattle.ledger.specs.Ledger.{owner, index, entryId, isNode, Packet, Place, free, ingress, egress, prefetched, placeOf, Ledger, listAt}
-use Rattle.ledger.specs.Ledger.{arrivalOf, Column, column#, tall, bound}
+use Rattle.ledger.specs.Ledger.{arrivalOf, markOf, Column, column#, tall, bound}
 use Rattle.ledger.specs.Ready.{bit}
-use Rattle.ledger.specs.Sound.{All, Everywhere, weigh, Shaped, InRange, one, Once, OwnPort, OwnQueue, Proper, WellRecorded, owed, Orderly, Sound, Roomy}
+use Rattle.ledger.specs.Halt.{isMark}
+use Rattle.ledger.specs.Sound.{All, Everywhere, weigh, Shaped, InRange, one, Once, OwnPort, OwnQueue, Proper, WellRecorded, owed, Orderly, Marked, Sound, Roomy}
 use Rattle.ledger.proofs.Lists.{everywhere-map, counted}
 use Rattle.ledger.proofs.Places.{node-of, node-is}
 use Rattle.ledger.proofs.Rows.{roomy}
@@ -155,9 +156,14 @@ module _ (S : Settings) where
       (and-dec (placed-dec OwnQueue own-queue-dec (L .lists))
       (and-dec (placed-dec (WellRecorded S) recorded-dec (L .lists)) (paid-dec L)))))))
 
+  marked-dec : (L : Ledger) → Dec (Marked S L)
+  marked-dec L = below-dec (λ p. isMark (markOf L p) ≡ true) (S .ports) (λ p. Bool-discrete (isMark (markOf L p)) true)
+
   pub sound-dec : (L : Ledger) → Dec (Sound S L)
   sound-dec L = go (Bool-discrete (inRows S) true)
     where
       go : Dec (inRows S ≡ true) → Dec (Sound S L)
       go (no n) = no (λ s. n (s .rows))
-      go (yes e) = map-dec (λ o. record { rows = e; orderly = o }) (λ s. s .orderly) (orderly-dec (roomy S e) L)
+      go (yes e) =
+          map-dec (λ t. record { rows = e; orderly = t .0; marked = t .1 }) (λ s. (s .orderly, s .marked))
+          (and-dec (orderly-dec (roomy S e) L) (marked-dec L))

@@ -16,7 +16,7 @@ use Rattle.ledger.specs.Ledger.{owner, Packet, bare, recorded, Place, fr
 use Rattle.ledger.specs.Ledger.{change, Place·In}
 use Rattle.ledger.specs.Ready.{bit, readyWord, pick}
 use Rattle.ledger.specs.Calls.{Act, arrive, stitch, prefetch, credit, mapTo, turn, ready, whereIs, Reply, stitched, idle, isEmpty}
-use Rattle.ledger.specs.Calls.{firstOf, stitchRecord, arriving, arrived, served, serve, turned, rules, result, step}
+use Rattle.ledger.specs.Calls.{clear, report, firstOf, stitchRecord, arriving, arrived, served, serve, turned, rules, result, step}
 use Rattle.ledger.specs.Sound.{All, Orderly, Roomy}
 use Rattle.ledger.specs.Demand.{isTurn, InHand}
 use Rattle.ledger.specs.Rounds.{each, stitches, prefetches, turns, roundActs}
@@ -39,6 +39,8 @@ isStitch r (mapTo d p) = false
 isStitch r (turn p) = false
 isStitch r (ready p) = false
 isStitch r (whereIs y) = false
+isStitch r (clear p) = false
+isStitch r (report p) = false
 
 -- the act is a stitch that takes packet k, the oldest in ingress at port r, to the port that its destination is mapped to at that moment
 pub record Stitching (S : Settings) (r : ℕ) (k : Packet) (L : Ledger) (a : Act) : Type 0 where
@@ -115,6 +117,8 @@ module _ (S : Settings) (ok : Roomy S) (r : ℕ) (hr : r < S .ports) where
         longer-turned p (readyWord S L p) hp (picked-some S ok L s p hp)
     longer-result (ready p) i c = longer-refl
     longer-result (whereIs y) i c = longer-refl
+    longer-result (clear p) i c = unfold change in longer-refl
+    longer-result (report p) i c = longer-refl
 
     longer-step : (a : Act) → isStitch r a ≡ false → Longer (step S L a .1)
     longer-step a i =
@@ -160,6 +164,8 @@ module _ (S : Settings) (ok : Roomy S) (r : ℕ) (hr : r < S .ports) where
   stitch-is (turn p) i = absurd (true≢false (sym i))
   stitch-is (ready p) i = absurd (true≢false (sym i))
   stitch-is (whereIs y) i = absurd (true≢false (sym i))
+  stitch-is (clear p) i = absurd (true≢false (sym i))
+  stitch-is (report p) i = absurd (true≢false (sym i))
 
   module _ (k : Packet) (n : ℕ) (L : Ledger) (s : Orderly S L) (w : Heads k n L) where
     abbrev After : Act → Type 0

@@ -6,6 +6,7 @@ pub mod Header
 pub mod Ready
 pub mod Rows
 pub mod Keep
+pub mod Halt
 pub mod Passes
 pub mod Steps
 pub mod Find

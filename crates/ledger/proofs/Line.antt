@@ -15,7 +15,7 @@ use Rattle.ledger.specs.Ledger.{owner, Packet, bare, recorded, Place, fr
 use Rattle.ledger.specs.Ledger.{lastOf, mapOf, creditAt, setCredit, cell, move, outward, last, mapped, change, Place·In}
 use Rattle.ledger.specs.Ready.{bit, covered, isReady, readyWord, pick}
 use Rattle.ledger.specs.Calls.{Act, arrive, stitch, prefetch, credit, mapTo, turn, ready, whereIs, Reply, idle, leaves, sideOf}
-use Rattle.ledger.specs.Calls.{isEmpty, firstOf, arriving, arrived, served, serve, turned, rules, result, step, onRefusal}
+use Rattle.ledger.specs.Calls.{clear, report, isEmpty, firstOf, arriving, arrived, served, serve, turned, rules, result, step, onRefusal}
 use Rattle.ledger.specs.Sound.{sum, Orderly, Roomy}
 use Rattle.ledger.specs.Demand.{isTurn, InHand}
 use Rattle.ledger.specs.Door.{lineOf}
@@ -472,11 +472,16 @@ module _ (S : Settings) (ok : Roomy S) (p q : ℕ) (hp : p < S .ports) (hq : q <
         aside-turned r (readyWord S L r) hr (eqb-no r p i) (picked-some S ok L s r hr)
     aside-result (ready r) i c = aside-refl L
     aside-result (whereIs y) i c = aside-refl L
+    aside-result (clear r) i c = record {
+      spared = record { lists = unfold change in (grown-refl (L .lists)); funded = unfold change in omega arith };
+      mark = unfold change in refl;
+    }
+    aside-result (report r) i c = aside-refl L
 
     aside-refused : (n : ℕ) (a : Act) → Aside L (onRefusal S n a L)
     aside-refused n a = record {
-      spared = record { lists = rw (refused-lists S n a L) (grown-refl (L .lists)); funded = rw (refused-numbers S n a L outward) (omega arith) };
-      mark = rw (refused-numbers S n a L last);
+      spared = record { lists = rw (refused-lists S n a L) (grown-refl (L .lists)); funded = rw (refused-numbers S n a L outward (λ e. let z : _≡_ {A = ℕ} 0 1 = cc in omega arith)) (omega arith) };
+      mark = rw (refused-numbers S n a L last (λ e. let z : _≡_ {A = ℕ} 0 1 = cc in omega arith));
     }
 
     aside-step : (a : Act) → isTurn p a ≡ false → Aside L (step S L a .1)
@@ -510,6 +515,8 @@ module _ (S : Settings) (ok : Roomy S) (p q : ℕ) (hp : p < S .ports) (hq : q <
   turn-is (turn r) i = ap turn (eqb-yes r p i)
   turn-is (ready r) i = absurd (true≢false (sym i))
   turn-is (whereIs y) i = absurd (true≢false (sym i))
+  turn-is (clear r) i = absurd (true≢false (sym i))
+  turn-is (report r) i = absurd (true≢false (sym i))
 
   -- ---- the course of the wait
 

@@ -10,9 +10,9 @@ use lib.ListN.{length, getD, length-map}
 use lib.Dec.{eqb, ltb}
 use Rattle.ledger.specs.Settings.{Settings}
 use Rattle.ledger.specs.Ledger.{owner, index, entryId, isNode, Packet, recorded, Place, free, ingress, egress, prefetched, place#, placeOf}
-use Rattle.ledger.specs.Ledger.{Ledger, listAt, arrivalOf, pop, move, putCredit, arrival, change, setCredit, Place·In}
+use Rattle.ledger.specs.Ledger.{Ledger, listAt, arrivalOf, pop, move, putCredit, arrival, halted, change, setCredit, Place·In}
 use Rattle.ledger.specs.Ready.{bit}
-use Rattle.ledger.specs.Calls.{arrive, Reply, entry, firstOf, arriving, arrived, step, run, onRefusal}
+use Rattle.ledger.specs.Calls.{arrive, Reply, entry, firstOf, arriving, arrived, step, run, markedFor, onRefusal}
 use Rattle.ledger.specs.Desk.{Desk, has, Call, act, desk, SetupsRefused}
 use Rattle.ledger.specs.Sound.{All, Everywhere, weigh, one, OwnPort, Proper, owes, Orderly, Roomy}
 use Rattle.ledger.specs.Order.{isFree}
@@ -22,6 +22,7 @@ use Rattle.ledger.proofs.Lists.{cons-form, sum-ones, weigh-only, weigh-
 use Rattle.ledger.proofs.Lists.{at-push-other, at-pop-other}
 use Rattle.ledger.proofs.Places.{place-of, place-number, row-div, row-mod, Node, node-is}
 use Rattle.ledger.proofs.Keep.{some-queue, nodes, first-fits, from-moved, to-moved, lowered}
+use Rattle.ledger.proofs.Halt as halt
 use Rattle.ledger.proofs.Passes.{Admits, admits}
 use Rattle.ledger.proofs.Steps.{recorded-proper, keep-run, stepped}
 use Rattle.ledger.proofs.Promises.{home-only}
@@ -70,10 +71,10 @@ module _ (S : Settings) (ok : Roomy S) (L : Ledger) (s : Orderly S L) (p : ℕ) 
       nothing : owner (arriving S L p h .node) ≡ p → (r q : ℕ) → r ≢ p → owes r q (arriving S L p h) ≡ 0
       nothing own r q n = rw (eqb-not (owner (arriving S L p h .node)) r (λ e. n (sym e ∙ own)))
 
-  -- refused, and nothing differs; or taken in, and nothing differs but at p
+  -- refused, and nothing differs but p's mark; or taken in, and nothing differs but at p
   pub hurts-only-itself : Arrival S L p h (step S L (arrive p h) .0) (step S L (arrive p h) .1)
   hurts-only-itself =
-      stepped S L (arrive p h) (λ out. Arrival S L p h (out .0) (out .1)) (λ n. unfold onRefusal in (turned-away n))
+      stepped S L (arrive p h) (λ out. Arrival S L p h (out .0) (out .1)) (λ n. unfold onRefusal in (turned-away n (markedFor S p n L) (halt.turned-away S p n L (s .shaped .numbers-long halted))))
       (λ c. taken (firstOf S L (free p) .node) (arrived S L p (arriving S L p h)) (taken-in (admits S L p h c)))
 
 -- no field of a header decides whose node is taken: any two headers that are taken in here take the same node

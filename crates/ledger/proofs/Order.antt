@@ -15,7 +15,7 @@ use Rattle.ledger.specs.Ledger.{owner, Packet, bare, recorded, Place, fr
 use Rattle.ledger.specs.Ledger.{move, mapped, change, Place·In, kindIn, queueIn}
 use Rattle.ledger.specs.Ready.{readyWord, pick}
 use Rattle.ledger.specs.Calls.{Act, arrive, stitch, prefetch, credit, mapTo, turn, ready, whereIs, Reply, refused, idle, isEmpty, firstOf}
-use Rattle.ledger.specs.Calls.{stitchRecord, arriving, arrived, served, serve, rules, result, step, run, onRefusal}
+use Rattle.ledger.specs.Calls.{clear, report, stitchRecord, arriving, arrived, served, serve, rules, result, step, run, onRefusal}
 use Rattle.ledger.specs.Desk.{Desk, has, Call, setup, act, desk, answersOf, SetupsRefused}
 use Rattle.ledger.specs.Sound.{Orderly, Roomy}
 use Rattle.ledger.specs.Order.{samePlace, Movement, stays, moves, movement, cameBy, leftBy, cameTo, leftFrom, idsAt}
@@ -169,6 +169,8 @@ module _ (S : Settings) (ok : Roomy S) (L : Ledger) (s : Orderly S L) where
       go false f = served-moved p t (leb-no (S .ports) p (c .0)) (f refl .0) (f refl .1)
   result-moved (ready p) c = unmoved
   result-moved (whereIs y) c = unmoved
+  result-moved (clear p) c = unfold change in unmoved
+  result-moved (report p) c = unmoved
 
   -- a refusal names no node
   refused-stays : (a : Act) (n : ℕ) → movement a (refused n) ≡ stays
@@ -180,6 +182,8 @@ module _ (S : Settings) (ok : Roomy S) (L : Ledger) (s : Orderly S L) where
   refused-stays (turn p) n = refl
   refused-stays (ready p) n = refl
   refused-stays (whereIs y) n = refl
+  refused-stays (clear p) n = refl
+  refused-stays (report p) n = refl
 
   refused-moved : (a : Act) (n : ℕ) → Moved (movement a (refused n)) (onRefusal S n a L)
   refused-moved a n = rw (refused-stays a n, refused-lists S n a L) unmoved
@@ -198,7 +202,7 @@ module _ {X : Type 0} (call : X → Call → Reply × X) (shows : X → Desk) (l
   unfolding actsIn
   in-line u hu x L e s [] f = line-same (idsAt S L u)
   in-line u hu x L e s (setup T ∷ cs) f =
-      in-line u hu (call x (setup T) .1) L (refused-shows call shows long faithful S x (setup T) (f .0 refl) ∙ e) s cs (f .1)
+      in-line u hu (call x (setup T) .1) L (refused-shows call shows long faithful S x (setup T) refl (f .0 refl) ∙ e) s cs (f .1)
   in-line u hu x L e s (act a ∷ cs) f =
       let r : Reply = call x (act a) .0 in
       let N : Ledger = step S L a .1 in

@@ -5,14 +5,15 @@ use mathlib.Core.Bool.{true, false, not}
 use mathlib.Core.List.{List, [], _∷_, _++_}
 use Prim.Native.Nat.{ℕ, _≤_, _<_}
 use lib.ListN.{length, take}
-use lib.Dec.{eqb}
+use lib.Dec.{eqb, ltb}
 use Rattle.crc.specs.Crc.{crc8}
 use Rattle.ledger.specs.Settings.{Settings}
 use Rattle.ledger.specs.Rules.{Rule, refuse, guard, Clear}
 use Rattle.ledger.specs.Header.{Form, form, bodySize, headerSize, leastLength, fieldsOf, arrivalRules}
-use Rattle.ledger.specs.Ledger.{free, Ledger, listAt, arrivalOf}
+use Rattle.ledger.specs.Ledger.{free, Ledger, listAt, arrivalOf, markOf}
+use Rattle.ledger.specs.Halt.{heldUp}
 use Rattle.ledger.specs.Calls.{arrive, isEmpty, arriving, lastRules, rules}
-use Rattle.ledger.proofs.Tests.{true≢false, leb-no, leb-not, ltb-no, ltb-not, eqb-yes, eqb-is, not-yes}
+use Rattle.ledger.proofs.Tests.{true≢false, leb-no, leb-not, ltb-no, ltb-not, eqb-yes, eqb-is, not-yes, or-left, or-right}
 
 -- ---- rules one after another
 
@@ -81,15 +82,20 @@ module _ (F : Form) (n p : ℕ) (h : List ℕ) where
 pub record Admits (S : Settings) (L : Ledger) (p : ℕ) (h : List ℕ) : Type 0 where
   pub port : p < S .ports
   pub header : Passes (form S) (S .queues) p h
+  pub goes-on : heldUp (arriving S L p h .queue) (markOf L p) ≡ false
   pub afford : arriving S L p h .price ≤ arrivalOf S L p (arriving S L p h .queue)
   pub some : isEmpty (listAt S L (free p)) ≡ false
 
 pub admits : (S : Settings) (L : Ledger) (p : ℕ) (h : List ℕ) → Clear (rules S L (arrive p h)) → Admits S L p h
 admits S L p h c =
+    let k = arriving S L p h in
+    let held = heldUp (k .queue) (markOf L p) in
+    let dear = ltb (arrivalOf S L p (k .queue)) (k .price) in
     let last : Clear (lastRules S L p (arriving S L p h)) = clear-right (arrivalRules (form S) (S .queues) p h) (lastRules S L p (arriving S L p h)) (c .1) in
     record {
       port = leb-no (S .ports) p (c .0);
       header = passes (form S) (S .queues) p h (clear-left (arrivalRules (form S) (S .queues) p h) (lastRules S L p (arriving S L p h)) (c .1));
-      afford = ltb-no (arrivalOf S L p (arriving S L p h .queue)) (arriving S L p h .price) (last .0);
+      goes-on = or-left held dear (last .0);
+      afford = ltb-no (arrivalOf S L p (k .queue)) (k .price) (or-right held dear (last .0));
       some = last .1 .0;
     }

@@ -1,8 +1,8 @@
--- Demand 2 as theorems about the desk: refusals and idle turns change nothing, what turn and ready answer, sound arrivals, home, one place.
+-- Demand 2 as theorems about the desk: what a refusal leaves, idle turns, what turn and ready answer, sound arrivals, home, one place.
 -- (Order is in Order.antt, records in Records.antt, pools in Night.antt.) Assumes nothing.
 use mathlib.Core.Path.{_≡_, refl, sym, ap, _∙_, subst}
 use mathlib.Core.Logic.{_≢_, _⊎_, inl, inr}
-use mathlib.Core.Bool.{Bool, true, false, cond}
+use mathlib.Core.Bool.{Bool, true, false, cond, _||_}
 use mathlib.Core.List.{List, [], _∷_, _++_}
 use Prim.Native.Nat.{ℕ, zero, suc, _+_, _<_}
 use native.Mathlib.Omega.{arith}
@@ -12,12 +12,13 @@ use Rattle.ledger.specs.Settings.{Settings, inRows}
 use Rattle.ledger.specs.Rules.{refuse, guard, Clear}
 use Rattle.ledger.specs.Header.{form, fieldsOf, arrivalRules}
 use Rattle.ledger.specs.Ledger.{owner, isNode, Packet, bare, recorded, Place, free, prefetched, place#, Ledger, listAt, arrivalOf, lastOf}
-use Rattle.ledger.specs.Ledger.{start, change, Place·In}
+use Rattle.ledger.specs.Ledger.{halted, markOf, start, change, Place·In}
 use Rattle.ledger.specs.Ready.{isReady, wordOf, countOf, readyWord, pick}
 use Rattle.ledger.specs.Calls.{Act, arrive, stitch, prefetch, credit, mapTo, turn, ready, whereIs, Side, inside, outside, Reply, refused, done}
 use Rattle.ledger.specs.Calls.{entry, idle, leaves, word, isRefused, sideOf, noPort, isEmpty, firstOf, arriving, lastRules, arrived, served}
-use Rattle.ledger.specs.Calls.{serve, rules, result, step, onRefusal}
-use Rattle.ledger.specs.Desk.{Desk, none, has, Call, setup, act, setupRules, desk, after}
+use Rattle.ledger.specs.Calls.{clear, report, isArrival, serve, rules, result, step, onRefusal}
+use Rattle.ledger.specs.Halt.{halts, heldUp, TurnedAway}
+use Rattle.ledger.specs.Desk.{Desk, none, has, Call, setup, act, isArrivalCall, setupRules, desk, after}
 use Rattle.ledger.specs.Sound.{All, OwnPort, Proper, Orderly, Roomy, Sound}
 use Rattle.ledger.proofs.Tests.{true≢false, leb-no, leb-not, ltb-yes, eqb-yes, eqb-no, not-yes}
 use Rattle.ledger.proofs.Header.{least-some, price-pays}
@@ -28,9 +29,10 @@ use Rattle.ledger.proofs.Ready.{count-is-ones}
 use Rattle.ledger.proofs.Find.{where-right, one-place}
 use Rattle.ledger.proofs.Start.{start-sound}
 use Rattle.ledger.proofs.Passes.{guard-after, Passes, passes, passes-clear, admits}
-use Rattle.ledger.proofs.Steps.{guarded, recorded-proper, picked-some, keep-step, stepped}
+use Rattle.ledger.proofs.Halt.{unmarked, turned-away, held-up}
+use Rattle.ledger.proofs.Steps.{guarded, recorded-proper, picked-some, keep-step, keep-marked, stepped, refused-else}
 
--- ---- a refusal leaves the desk as it was
+-- ---- what a refusal leaves: the desk as it was, but for the mark of the port at which an arrival was refused
 
 pub result-given : (S : Settings) (L : Ledger) (a : Act) → isRefused (result S L a .0) ≡ false
 result-given S L (arrive p h) = refl
@@ -45,20 +47,35 @@ result-given S L (turn p) = go (eqb (readyWord S L p) 0)
     go false = refl
 result-given S L (ready p) = refl
 result-given S L (whereIs y) = refl
+result-given S L (clear p) = refl
+result-given S L (report p) = refl
 
-pub refusal-keeps : (S : Settings) (L : Ledger) (a : Act) → isRefused (step S L a .0) ≡ true → step S L a .1 ≡ L
-refusal-keeps S L a =
-    stepped S L a (λ out. isRefused (out .0) ≡ true → out .1 ≡ L) (λ n e. unfold onRefusal in refl)
+pub refusal-leaves : (S : Settings) (L : Ledger) (a : Act) (n : ℕ) → step S L a .0 ≡ refused n → step S L a .1 ≡ onRefusal S n a L
+refusal-leaves S L a n =
+    stepped S L a (λ out. out .0 ≡ refused n → out .1 ≡ onRefusal S n a L)
+    (λ m e. ap (λ (i : ℕ). onRefusal S i a L) (let i : m ≡ n = cc in i))
+    (λ c e. absurd (true≢false (sym (ap isRefused e) ∙ result-given S L a)))
+
+-- an arrival's: at most the arriving port's mark, and only for 7, 8 or 18
+pub refusal-marks : (S : Settings) (L : Ledger) → Orderly S L → (p : ℕ) (h : List ℕ) (n : ℕ) → step S L (arrive p h) .0 ≡ refused n
+    → TurnedAway S p n L (step S L (arrive p h) .1)
+refusal-marks S L s p h n e =
+    rw (refusal-leaves S L (arrive p h) n e) (unfold onRefusal in (turned-away S p n L (s .shaped .numbers-long halted)))
+
+-- of any other call nothing differs
+pub refusal-keeps : (S : Settings) (L : Ledger) (a : Act) → isArrival a ≡ false → isRefused (step S L a .0) ≡ true → step S L a .1 ≡ L
+refusal-keeps S L a other =
+    stepped S L a (λ out. isRefused (out .0) ≡ true → out .1 ≡ L) (λ n e. refused-else S n a L other)
     (λ c e. absurd (true≢false (sym e ∙ result-given S L a)))
 
-pub refusal-keeps-desk : (n : ℕ) (D : Desk) (c : Call) → isRefused (desk n D c .0) ≡ true → desk n D c .1 ≡ D
-refusal-keeps-desk n D (setup T) =
+pub refusal-keeps-desk : (n : ℕ) (D : Desk) (c : Call) → isArrivalCall c ≡ false → isRefused (desk n D c .0) ≡ true → desk n D c .1 ≡ D
+refusal-keeps-desk n D (setup T) other =
     guarded {X = Reply × Desk} (λ out. isRefused (out .0) ≡ true → out .1 ≡ D) (setupRules n T) (λ r. (refused r, D))
     (done, has T (start T))
     (λ r e. refl)
     (λ c e. absurd (true≢false (sym e)))
-refusal-keeps-desk n none (act a) = λ e. refl
-refusal-keeps-desk n (has S L) (act a) = λ e. ap (has S) (refusal-keeps S L a e)
+refusal-keeps-desk n none (act a) other = λ e. refl
+refusal-keeps-desk n (has S L) (act a) other = λ e. ap (has S) (refusal-keeps S L a other e)
 
 -- ---- with nothing ready a turn is idle and nothing changes; else it isn't idle
 
@@ -117,7 +134,7 @@ pub ready-counts : (S : Settings) (L : Ledger) (p : ℕ) → p < S .ports
 unfolding readyWord
 ready-counts S L p hp = rw (leb-not (S .ports) p hp, count-is-ones (isReady S L p) (S .queues))
 
--- ---- a sound arrival is turned away only for want of credit or of a node
+-- ---- a sound arrival is turned away only for want of credit, which a halt is taken for, or of a node
 
 -- no refusal tested before 10 applies: 4, 6, 7, 20, 8, 9 and 19 (3 is the desk's: there is a ledger)
 abbrev pub SoundArrival : Settings → ℕ → List ℕ → Type 0
@@ -132,6 +149,7 @@ means-sound S p h hp f = (leb-not (S .ports) p hp, passes-clear (form S) (S .que
 
 -- why it may be turned away all the same, with nothing changed; else it is taken in, by the oldest free node and as the ledger says
 pub data Wanting (S : Settings) (L : Ledger) (p : ℕ) (h : List ℕ) : Reply × Ledger → Type 0 where
+  port-halted : 0 < arriving S L p h .queue → 0 < markOf L p → Wanting S L p h (refused 10, L)
   no-credit : arrivalOf S L p (arriving S L p h .queue) < arriving S L p h .price → Wanting S L p h (refused 10, L)
   no-node : listAt S L (free p) ≡ [] → Wanting S L p h (refused 11, L)
   taken-in : Wanting S L p h (entry (firstOf S L (free p) .node), arrived S L p (arriving S L p h))
@@ -144,13 +162,22 @@ pub sound-arrival : (S : Settings) (L : Ledger) (p : ℕ) (h : List ℕ) → Sou
 sound-arrival S L p h c =
     let no′ : ℕ → Reply × Ledger = λ n. (refused n, onRefusal S n (arrive p h) L) in
     rw (guard-after (noPort S p ∷ arrivalRules (form S) (S .queues) p h) (lastRules S L p (arriving S L p h)) no′ (result S L (arrive p h)) c)
-    (go (ltb (arrivalOf S L p (arriving S L p h .queue)) (arriving S L p h .price)) refl (isEmpty (listAt S L (free p))) refl)
+    (go (heldUp (k .queue) (markOf L p)) refl (ltb (arrivalOf S L p (k .queue)) (k .price)) refl (isEmpty (listAt S L (free p))) refl)
   where
-    go : (a : Bool) → ltb (arrivalOf S L p (arriving S L p h .queue)) (arriving S L p h .price) ≡ a → (b : Bool) → isEmpty (listAt S L (free p)) ≡ b
-        → Wanting S L p h (guard (refuse 10 a ∷ refuse 11 b ∷ []) (λ n. (refused n, onRefusal S n (arrive p h) L)) (result S L (arrive p h)))
-    go true d b e = unfold onRefusal in (no-credit (ltb-yes (arrivalOf S L p (arriving S L p h .queue)) (arriving S L p h .price) d))
-    go false d true e = unfold onRefusal in (no-node (empty-is (listAt S L (free p)) e))
-    go false d false e = taken-in
+    k : Packet
+    k = arriving S L p h
+
+    -- neither 10 nor 11 marks the port
+    stays : (n : ℕ) → halts n ≡ false → Wanting S L p h (refused n, L) → Wanting S L p h (refused n, onRefusal S n (arrive p h) L)
+    stays n e = subst (λ (N : Ledger). Wanting S L p h (refused n, N)) (unfold onRefusal in sym (unmarked S p n L e))
+
+    go : (u : Bool) → heldUp (k .queue) (markOf L p) ≡ u → (a : Bool) → ltb (arrivalOf S L p (k .queue)) (k .price) ≡ a
+        → (b : Bool) → isEmpty (listAt S L (free p)) ≡ b
+        → Wanting S L p h (guard (refuse 10 (u || a) ∷ refuse 11 b ∷ []) (λ n. (refused n, onRefusal S n (arrive p h) L)) (result S L (arrive p h)))
+    go true f a d b e = let t = held-up (k .queue) (markOf L p) f in stays 10 (unfold halts in refl) (port-halted (t .0) (t .1))
+    go false f true d b e = stays 10 (unfold halts in refl) (no-credit (ltb-yes (arrivalOf S L p (k .queue)) (k .price) d))
+    go false f false d true e = stays 11 (unfold halts in refl) (no-node (empty-is (listAt S L (free p)) e))
+    go false f false d false e = taken-in
 
 -- ---- none but queue 0 goes for nothing: rule (f) makes every recorded packet proper, and such a one pays
 
@@ -199,7 +226,11 @@ fine-call n D f (setup T) =
     (λ r. f)
     (λ c. start-sound T (not-yes (inRows T) (c .0)))
 fine-call n none f (act a) = tt
-fine-call n (has S L) f (act a) = record { rows = f .rows; orderly = keep-step S (roomy S (f .rows)) L (f .orderly) a }
+fine-call n (has S L) f (act a) = record {
+  rows = f .rows;
+  orderly = keep-step S (roomy S (f .rows)) L (f .orderly) a;
+  marked = keep-marked S (roomy S (f .rows)) L (f .orderly) a (f .marked);
+}
 
 pub fine-calls : (n : ℕ) (D : Desk) → Fine D → (cs : List Call) → Fine (after n D cs)
 fine-calls n D f [] = f

@@ -16,7 +16,7 @@ use Rattle.ledger.specs.Ledger.{owner, isNode, Packet, bare, recorded, P
 use Rattle.ledger.specs.Ledger.{lastOf, mapOf, pop, move, mapped, change, Place·In}
 use Rattle.ledger.specs.Ready.{bit, readyWord, pick}
 use Rattle.ledger.specs.Calls.{Act, arrive, stitch, prefetch, credit, mapTo, turn, ready, whereIs, Side, Reply, refused, idle, leaves}
-use Rattle.ledger.specs.Calls.{stitched, isEmpty, firstOf, stitchRecord, arriving, arrived, served, serve, rules, result, step, run, onRefusal}
+use Rattle.ledger.specs.Calls.{clear, report, stitched, isEmpty, firstOf, stitchRecord, arriving, arrived, served, serve, rules, result, step, run, onRefusal}
 use Rattle.ledger.specs.Desk.{Desk, has, Call, setup, act, desk, afterCalls, answersOf, SetupsRefused}
 use Rattle.ledger.specs.Sound.{All, Everywhere, sum, weigh, one, Proper, Orderly, Roomy}
 use Rattle.ledger.specs.Order.{isFree, gathered, heldFrom, held, broughtBy, broughtIn, Latest, Tells, GoesAlong}
@@ -217,6 +217,8 @@ module _ (S : Settings) (ok : Roomy S) where
         go false f = nothing-in (serve S L p t .1) (served-holds p t (leb-no (S .ports) p (c .0)) (f refl .0) (f refl .1))
     result-holds (ready p) c = nothing-in L e
     result-holds (whereIs y) c = nothing-in L e
+    result-holds (clear p) c = nothing-in (result S L (clear p) .1) (unfold change in e)
+    result-holds (report p) c = nothing-in L e
 
     -- a refusal brings nothing in
     refused-none : (a : Act) (n : ℕ) → broughtBy S a (refused n) ≡ []
@@ -228,6 +230,8 @@ module _ (S : Settings) (ok : Roomy S) where
     refused-none (turn p) n = refl
     refused-none (ready p) n = refl
     refused-none (whereIs y) n = refl
+    refused-none (clear p) n = refl
+    refused-none (report p) n = refl
 
     refused-holds : (a : Act) (n : ℕ) → Holds (known ++ broughtBy S a (refused n)) (onRefusal S n a L)
     refused-holds a n = rw (refused-none a n, append-nil known, refused-lists S n a L) e
@@ -263,7 +267,7 @@ module _ {X : Type 0} (call : X → Call → Reply × X) (shows : X → Desk) (l
   unfolding actsIn
   still-latest known x L e s h [] f = rw (append-nil known) h
   still-latest known x L e s h (setup T ∷ cs) f =
-      still-latest known (call x (setup T) .1) L (refused-shows call shows long faithful S x (setup T) (f .0 refl) ∙ e) s h cs (f .1)
+      still-latest known (call x (setup T) .1) L (refused-shows call shows long faithful S x (setup T) refl (f .0 refl) ∙ e) s h cs (f .1)
   still-latest known x L e s h (act a ∷ cs) f =
       let r : Reply = call x (act a) .0 in
       let N : Ledger = step S L a .1 in

@@ -1,5 +1,6 @@
 -- The ledger that a repair leaves: what each of its numbers is, and that it is sound. Assumes nothing.
 use mathlib.Core.Path.{_≡_, refl, sym, ap, _∙_}
+use mathlib.Core.Logic.{_≢_}
 use mathlib.Core.Bool.{true}
 use mathlib.Core.List.{List, map}
 use Prim.Native.Nat.{ℕ, _≤_, _<_}
@@ -7,14 +8,14 @@ use native.Mathlib.Decide.{decLt}
 use native.Mathlib.Omega.{arith}
 use lib.ListN.{length, getD, length-map, List·getD-map}
 use Rattle.ledger.specs.Settings.{Settings, inRows, ids}
-use Rattle.ledger.specs.Ledger.{mapped, mapOf, change, start}
+use Rattle.ledger.specs.Ledger.{mapped, halted, mapOf, change, start}
 use Rattle.ledger.specs.Sound.{Orderly, Sound, Roomy}
 use Rattle.ledger.specs.Repair.{mended, restart, Restarted}
 use Rattle.ledger.proofs.Tests.{ltb-is, ltb-not}
 use Rattle.ledger.proofs.Rows.{roomy}
 use Rattle.ledger.proofs.Columns.{change-here, change-other}
 use Rattle.ledger.proofs.Keep.{keep-changed}
-use Rattle.ledger.proofs.Start.{start-orderly}
+use Rattle.ledger.proofs.Start.{start-orderly, start-marked}
 
 -- ---- an entry
 
@@ -77,4 +78,11 @@ module _ (S : Settings) (ports : List ℕ) where
         (λ d h. rw (entry-is d) (mended-in S (omega (arith, r .some-ports)) (getD ports d 0)))
 
     pub restart-sound : inRows S ≡ true → Sound S (restart S ports)
-    restart-sound e = record { rows = e; orderly = restart-orderly (roomy S e) }
+    restart-sound e = record {
+      rows = e;
+      orderly = restart-orderly (roomy S e);
+      marked = λ p h. unfold restart in (rw (change-other mapped (λ xs. map (mended S) ports) (start S) halted apart) (start-marked S p h));
+    }
+      where
+        apart : mapped ≢ halted
+        apart e = let z : _≡_ {A = ℕ} 0 1 = cc in omega arith

@@ -12,9 +12,10 @@ use lib.Seq.{getD-append-add}
 use lib.Dec.{eqb}
 use Rattle.ledger.specs.Settings.{Settings, inRows, row}
 use Rattle.ledger.specs.Ledger.{owner, index, entryId, isNode, Packet, bare, Place, free, ingress, egress, prefetched, column, place#, placeOf}
-use Rattle.ledger.specs.Ledger.{cell, creditAt, listAt, bares, startLists, start, arrival, outward, last, mapped, Column, tall, bound, starting}
+use Rattle.ledger.specs.Ledger.{cell, creditAt, listAt, bares, startLists, start, arrival, outward, last, mapped, halted, Column, tall, bound, starting}
 use Rattle.ledger.specs.Ready.{bit}
-use Rattle.ledger.specs.Sound.{All, Everywhere, sum, weigh, one, Once, OwnPort, OwnQueue, WellRecorded, due, owed, Orderly, Sound, Roomy}
+use Rattle.ledger.specs.Halt.{halts, isMark}
+use Rattle.ledger.specs.Sound.{All, Everywhere, sum, weigh, one, Once, OwnPort, OwnQueue, WellRecorded, due, owed, Orderly, Marked, Sound, Roomy}
 use Rattle.ledger.specs.Ledger.{Place·In}
 use Rattle.ledger.proofs.Tests.{eqb-is, eqb-not}
 use Rattle.ledger.proofs.Lists.{weigh-cong, weigh-none}
@@ -137,6 +138,7 @@ module _ (S : Settings) where
   starts-in r outward = omega arith
   starts-in r last = omega (arith, r .some-queues)
   starts-in r mapped = omega (arith, r .some-ports)
+  starts-in r halted = omega arith
 
   -- ---- what holds of the free nodes is all that is to be shown
 
@@ -190,5 +192,10 @@ module _ (S : Settings) where
         paid-start p zero h l k = absurd (omega arith)
         paid-start p (suc q) h l k = omega (arith, credit-all (S .credit) p q h k, start-due p (suc q))
 
+-- no port is halted
+pub start-marked : (S : Settings) → Marked S (start S)
+unfolding start isMark halts
+start-marked S p h = rw (getD-replicate {A = ℕ} (S .ports) p 0 0 h)
+
 pub start-sound : (S : Settings) → inRows S ≡ true → Sound S (start S)
-start-sound S e = record { rows = e; orderly = start-orderly S (roomy S e) }
+start-sound S e = record { rows = e; orderly = start-orderly S (roomy S e); marked = start-marked S }

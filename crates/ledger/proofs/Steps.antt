@@ -1,5 +1,6 @@
--- Every act keeps (b) to (g). Assumes nothing.
+-- Every act keeps (b) to (g), and (i). Assumes nothing.
 use mathlib.Core.Path.{_≡_, refl, sym, ap, _∙_, subst}
+use mathlib.Core.Logic.{_≢_}
 use mathlib.Core.Bool.{Bool, true, false, cond}
 use mathlib.Core.List.{List, [], _∷_}
 use Prim.Native.Nat.{ℕ, _+_, _-_, _<_}
@@ -10,14 +11,17 @@ use Rattle.ledger.specs.Settings.{Settings}
 use Rattle.ledger.specs.Rules.{Rule, refuse, guard, Clear}
 use Rattle.ledger.specs.Header.{form, fieldsOf}
 use Rattle.ledger.specs.Ledger.{owner, Packet, bare, recorded, free, ingress, egress, prefetched, Ledger, listAt, arrivalOf, outwardOf, lastOf}
-use Rattle.ledger.specs.Ledger.{mapOf, move, putCredit, arrival, outward, last, mapped, Column, Place·In}
+use Rattle.ledger.specs.Ledger.{mapOf, markOf, move, change, putCredit, arrival, outward, last, mapped, halted, Column, Place·In}
 use Rattle.ledger.specs.Ready.{covered, isReady, wordOf, readyWord, pick}
 use Rattle.ledger.specs.Calls.{Act, arrive, stitch, prefetch, credit, mapTo, turn, ready, whereIs, refused, idle, isEmpty, firstOf, arriving}
-use Rattle.ledger.specs.Calls.{arrived, served, serve, turned, rules, result, step, run, onRefusal, Reply}
-use Rattle.ledger.specs.Sound.{Proper, owes, Orderly, Roomy}
+use Rattle.ledger.specs.Calls.{clear, report, isArrival}
+use Rattle.ledger.specs.Calls.{arrived, served, serve, turned, rules, result, step, run, markedFor, onRefusal, Reply}
+use Rattle.ledger.specs.Halt.{isMark}
+use Rattle.ledger.specs.Sound.{Proper, owes, Orderly, Marked, Roomy}
 use Rattle.ledger.proofs.Tests.{leb-no, ltb-no}
 use Rattle.ledger.proofs.Places.{credit-in}
 use Rattle.ledger.proofs.Keep.{some-queue, first-fits, first-node, keep-moved, keep-traded, keep-outward, lowered, raised, keep-put}
+use Rattle.ledger.proofs.Halt.{halts-mark, no-mark, marks-halts, marked-by, marked-lists, marked-numbers, marked-orderly, put-marked}
 use Rattle.ledger.proofs.Header.{fields-in, dest-mapped}
 use Rattle.ledger.proofs.Passes.{Passes, Admits, admits}
 use Rattle.ledger.proofs.Ready.{picked-ready}
@@ -37,17 +41,56 @@ cleared (refuse n false ∷ rs) no′ out c = cleared rs no′ out (c .1)
 
 -- what a refusal leaves, a law each: nothing but these may be used of it
 module _ (S : Settings) (n : ℕ) (a : Act) (L : Ledger) where
+  -- it leaves the ledger as it was, or with the arriving port marked
+  refused-by : (P : Ledger → Type 0) → P L → ((p : ℕ) → P (markedFor S p n L)) → P (onRefusal S n a L)
+  unfolding onRefusal
+  refused-by P f g = go a
+    where
+      go : (b : Act) → P (onRefusal S n b L)
+      go (arrive p h) = g p
+      go (stitch p) = f
+      go (prefetch p q) = f
+      go (credit p q v) = f
+      go (mapTo d p) = f
+      go (turn p) = f
+      go (ready p) = f
+      go (whereIs y) = f
+      go (clear p) = f
+      go (report p) = f
+
   pub refused-lists : onRefusal S n a L .lists ≡ L .lists
-  unfolding onRefusal
-  refused-lists = refl
+  refused-lists = refused-by (λ N. N .lists ≡ L .lists) refl (λ p. marked-lists S p n L)
 
-  pub refused-numbers : (c : Column) → onRefusal S n a L .numbers c ≡ L .numbers c
-  unfolding onRefusal
-  refused-numbers c = refl
+  pub refused-numbers : (c : Column) → c ≢ halted → onRefusal S n a L .numbers c ≡ L .numbers c
+  refused-numbers c d = refused-by (λ N. N .numbers c ≡ L .numbers c) refl (λ p. marked-numbers S p n L c d)
 
-  pub refused-orderly : Orderly S L → Orderly S (onRefusal S n a L)
+  pub refused-orderly : Roomy S → Orderly S L → Orderly S (onRefusal S n a L)
+  refused-orderly ok s = refused-by (Orderly S) s (λ p. marked-orderly S p n L ok s)
+
+  -- only an arrival's changes anything
+  pub refused-else : isArrival a ≡ false → onRefusal S n a L ≡ L
   unfolding onRefusal
-  refused-orderly s = s
+  refused-else other = go a other
+    where
+      go : (b : Act) → isArrival b ≡ false → onRefusal S n b L ≡ L
+      go (arrive p h) i = absurd (Rattle.ledger.proofs.Tests.true≢false i)
+      go (stitch p) i = refl
+      go (prefetch p q) i = refl
+      go (credit p q v) i = refl
+      go (mapTo d p) i = refl
+      go (turn p) i = refl
+      go (ready p) i = refl
+      go (whereIs y) i = refl
+      go (clear p) i = refl
+      go (report p) i = refl
+
+  refused-marked : Orderly S L → Marked S L → Marked S (onRefusal S n a L)
+  refused-marked s f =
+      refused-by (Marked S) f
+      (λ p.
+      marked-by S p n L (Marked S)
+      (λ e. put-marked S L p n (halts-mark n (marks-halts S p (markOf L p) n e)) f (s .shaped .numbers-long halted))
+      (λ e. f))
 
 -- one act, by its refusals and its result
 module _ (S : Settings) (L : Ledger) (a : Act) where
@@ -184,9 +227,31 @@ module _ (S : Settings) (roomy : Roomy S) where
         keep-turned p (readyWord S L p) hp (picked-some p hp)
     keep-result (ready p) c = s
     keep-result (whereIs y) c = s
+    keep-result (clear p) c = keep-put S roomy L s halted (λ i. let z : _≡_ {A = ℕ} 0 1 = cc in omega arith) p 0 (omega arith)
+    keep-result (report p) c = s
 
     pub keep-step : (a : Act) → Orderly S (step S L a .1)
-    keep-step a = stepped S L a (λ out. Orderly S (out .1)) (λ n. refused-orderly S n a L s) (keep-result a)
+    keep-step a = stepped S L a (λ out. Orderly S (out .1)) (λ n. refused-orderly S n a L roomy s) (keep-result a)
+
+    -- (i): none but a refused arrival and a clear changes a mark
+    result-marked : (a : Act) → Marked S L → Marked S (result S L a .1)
+    result-marked (arrive p h) f = unfold arrived change move in f
+    result-marked (stitch p) f = unfold move in f
+    result-marked (prefetch p q) f = unfold move in f
+    result-marked (credit p q n) f = unfold change in f
+    result-marked (mapTo d p) f = unfold change in f
+    result-marked (turn p) f = go (eqb (readyWord S L p) 0)
+      where
+        go : (b : Bool) → Marked S ((cond b (idle, L) (serve S L p (pick (lastOf L p) (readyWord S L p)))) .1)
+        go true = f
+        go false = unfold served change move in f
+    result-marked (ready p) f = f
+    result-marked (whereIs y) f = f
+    result-marked (clear p) f = put-marked S L p 0 no-mark f (s .shaped .numbers-long halted)
+    result-marked (report p) f = f
+
+    pub keep-marked : (a : Act) → Marked S L → Marked S (step S L a .1)
+    keep-marked a f = stepped S L a (λ out. Marked S (out .1)) (λ n. refused-marked S n a L s f) (λ c. result-marked a f)
 
   pub keep-run : (L : Ledger) → Orderly S L → (acts : List Act) → Orderly S (run S L acts)
   keep-run L s [] = s

@@ -70,7 +70,7 @@ module _ {X : Type 0} (call : X → Call → Reply × X) (shows : X → Desk) (l
       → countCalls call shows (λ M a. isTurn p a) x cs ≡ turnsIn p cs
   turns-counted p x L e [] f = refl
   turns-counted p x L e (setup T ∷ cs) f =
-      let same = refused-shows call shows long faithful S x (setup T) (f .0 refl) in
+      let same = refused-shows call shows long faithful S x (setup T) refl (f .0 refl) in
       ap (λ (n : ℕ). 0 + n) (turns-counted p (call x (setup T) .1) L (same ∙ e) cs (f .1))
   turns-counted p x L e (act a ∷ cs) f =
       let o = turns-counted p (call x (act a) .1) (step S L a .1) (act-shows call shows long faithful S x L e a) cs (f .1) in

@@ -158,7 +158,7 @@ module _ {X : Type 0} (call : X → Call → Reply × X) (shows : X → Desk) (l
       (rec n
       (record {
         ledger = w .ledger;
-        shown = refused-shows call shows long faithful S x (setup T) (f refl) ∙ w .shown;
+        shown = refused-shows call shows long faithful S x (setup T) refl (f refl) ∙ w .shown;
         orderly = w .orderly;
         waits = w .waits;
       }))

@@ -1,22 +1,25 @@
 -- What the statements over many calls exclude: of each wrong desk here the statement is false. Assumes nothing.
 use mathlib.Core.Path.{_≡_, refl, sym, ap, _∙_, subst}
-use mathlib.Core.Bool.{cond}
+use mathlib.Core.Logic.{_≢_}
+use mathlib.Core.Bool.{Bool, true, false, cond}
 use mathlib.Core.List.{List, [], _∷_, _++_, map, reverse}
 use Prim.Native.Nat.{ℕ, zero, suc, _+_, _*_, _≤_, _<_}
 use native.Mathlib.Omega.{arith}
 use lib.ListN.{length, getD, replicate}
 use Rattle.ledger.specs.Settings.{Settings, settings, row}
 use Rattle.ledger.specs.Header.{widthOf, formOf, frontBits, frontBytes, bodySize, headerSize}
-use Rattle.ledger.specs.Ledger.{owner, Packet, free, place#, placeOf, Ledger, pop, start}
+use Rattle.ledger.specs.Ledger.{owner, Packet, free, place#, placeOf, Ledger, arrival, markOf, pop, start}
+use Rattle.ledger.specs.Halt.{halts, marks}
 use Rattle.ledger.specs.Calls.{Act, arrive, stitch, prefetch, credit, mapTo, turn, ready, whereIs, Side, outside, Reply, refused, entry}
-use Rattle.ledger.specs.Calls.{stitched, idle, leaves, isRefused, sideOf, onRefusal}
+use Rattle.ledger.specs.Calls.{clear, report, stitched, idle, leaves, isRefused, sideOf, markedFor, onRefusal}
 use Rattle.ledger.specs.Desk.{Desk, none, has, Call, setup, act, desk, afterCalls, SetupsRefused}
 use Rattle.ledger.specs.Demand.{turnsIn, Stands, InHand, NobodyStarvesFrom}
 use Rattle.ledger.specs.Order.{idsAt, KeepsOrder, GoesAlong}
 use Rattle.ledger.specs.Night.{Arrival, turned-away, taken, PoolKept}
 use Rattle.ledger.specs.Rounds.{roundActs, Deed, round, Carried, wholeRound}
 use Rattle.ledger.specs.Door.{InIngress, CreditFor, roundsFor, callsOf, roundsIn, roundsBefore, doneFrom, StitchedAt, StitchedSoonFrom, LeavesSoonFrom}
-use Rattle.ledger.proofs.Tests.{true≢false, eqb-is, ltb-not}
+use Rattle.ledger.proofs.Tests.{true≢false, is-false, eqb-is, ltb-not}
+use Rattle.ledger.proofs.Halt.{marks-is, marks-first, marks-not}
 
 -- ---- demand 3: a desk that answers every call alike and changes nothing, be the answer idle or a refusal
 
@@ -102,6 +105,8 @@ idleTurns n D (act (mapTo d p)) = desk n D (act (mapTo d p))
 idleTurns n D (act (turn p)) = (idle, D)
 idleTurns n D (act (ready p)) = desk n D (act (ready p))
 idleTurns n D (act (whereIs y)) = desk n D (act (whereIs y))
+idleTurns n D (act (clear p)) = desk n D (act (clear p))
+idleTurns n D (act (report p)) = desk n D (act (report p))
 
 pub never-leaves : (n : ℕ) (S : Settings) (D : Desk) (r : ℕ) → r < S .ports → (k : Packet)
     → (deeds : List Deed) → SetupsRefused (idleTurns n) D (callsOf (doneFrom (idleTurns n) (λ E. E) D deeds))
@@ -150,16 +155,39 @@ abbrev pub leaks : ℕ → Desk → Call → Reply × Desk
 leaks n D c = (desk n D c .0, relisted (cond (isRefused (desk n D c .0)) (pop 0) (λ ls. ls)) (desk n D c .1))
 
 pub pool-leaked : (n : ℕ) → PoolKept (leaks n) (λ D. D) two (start two) 0 (has two (start two)) (act (arrive 0 []) ∷ []) → ⊥
-unfolding oldestFree start row place# pop onRefusal widthOf formOf frontBits frontBytes bodySize headerSize lib.Count.leadingZeros
+unfolding oldestFree start row place# pop onRefusal markedFor halts marks widthOf formOf frontBits frontBytes bodySize headerSize lib.Count.leadingZeros
 pool-leaked n k =
     let e : _≡_ {A = ℕ} 1 0 = ap oldestFree (k .shown) ∙ ap (λ (xs : List ℕ). getD xs 0 0) (k .in-order .stays-behind) in
     omega arith
 
--- ---- an arrival: one that is refused and changes something, one that takes another port's node
+-- ---- an arrival: one that is refused and changes more than its port's mark, or a mark that stands, or the mark for nothing; one that takes
+-- another port's node
 
 module _ (S : Settings) (L : Ledger) (p : ℕ) (h : List ℕ) where
-  pub refused-and-changed : (n : ℕ) (N : Ledger) → (N ≡ L → ⊥) → Arrival S L p h (refused n) N → ⊥
-  refused-and-changed n N other (turned-away m) = other refl
+  module _ (n : ℕ) (N : Ledger) where
+    pub refused-and-moved : (N .lists ≡ L .lists → ⊥) → Arrival S L p h (refused n) N → ⊥
+    refused-and-moved other (turned-away m M t) = other (t .only .same-lists)
+
+    pub refused-and-paid : (N .numbers arrival ≡ L .numbers arrival → ⊥) → Arrival S L p h (refused n) N → ⊥
+    refused-and-paid other (turned-away m M t) = other (t .only .same-numbers arrival (λ e. let z : _≡_ {A = ℕ} 0 1 = cc in omega arith))
+
+    -- the mark at the header's source, and not at the arriving port
+    pub marked-another : (r : ℕ) → (r ≡ p → ⊥) → (markOf N r ≡ markOf L r → ⊥) → Arrival S L p h (refused n) N → ⊥
+    marked-another r apart other (turned-away m M t) = other (t .only .other-marks r apart)
+
+    -- the second number in the place of the first
+    pub marked-again : markOf L p ≢ 0 → (markOf N p ≡ markOf L p → ⊥) → Arrival S L p h (refused n) N → ⊥
+    marked-again some other (turned-away m M t) =
+        other (t .mark ∙ ap (λ (b : Bool). cond b m (markOf L p)) (is-false _ (λ e. some (marks-first S p (markOf L p) m e))))
+
+    -- a mark for a refusal that doesn't halt
+    pub marked-for-nothing : halts n ≡ false → (markOf N p ≡ markOf L p → ⊥) → Arrival S L p h (refused n) N → ⊥
+    marked-for-nothing no′ other (turned-away m M t) = other (t .mark ∙ ap (λ (b : Bool). cond b m (markOf L p)) (marks-not S p (markOf L p) m no′))
+
+    -- none where one is due
+    pub unmarked : p < S .ports → markOf L p ≡ 0 → halts n ≡ true → (markOf N p ≡ n → ⊥) → Arrival S L p h (refused n) N → ⊥
+    unmarked hp first yes′ other (turned-away m M t) =
+        other (t .mark ∙ ap (λ (b : Bool). cond b m (markOf L p)) (marks-is S p (markOf L p) m hp first yes′))
 
   pub strangers-node : (x : ℕ) (N : Ledger) → (owner x ≡ p → ⊥) → Arrival S L p h (entry x) N → ⊥
   strangers-node x N other (taken y M t) = other (t .own)

@@ -10,7 +10,8 @@ use Rattle.ledger.specs.Settings.{Settings, ids}
 use Rattle.ledger.specs.Rules.{Rule, refuse, guard}
 use Rattle.ledger.specs.Header.{form, fieldsOf, arrivalRules}
 use Rattle.ledger.specs.Ledger.{owner, isNode, Packet, bare, recorded, Place, free, ingress, egress, prefetched, placeOf, Ledger, listAt}
-use Rattle.ledger.specs.Ledger.{arrival, outward, last, mapped, arrivalOf, outwardOf, lastOf, mapOf, oldest, move, putIn, putCredit}
+use Rattle.ledger.specs.Ledger.{arrival, outward, last, mapped, halted, arrivalOf, outwardOf, lastOf, mapOf, markOf, oldest, move, putIn, putCredit}
+use Rattle.ledger.specs.Halt.{marks, heldUp}
 use Rattle.ledger.specs.Ready.{readyWord, pick}
 
 pub data Act : Type 0 where
@@ -22,6 +23,20 @@ pub data Act : Type 0 where
   turn : ℕ → Act
   ready : ℕ → Act
   whereIs : ℕ → Act
+  clear : ℕ → Act
+  report : ℕ → Act
+
+abbrev pub isArrival : Act → Bool
+isArrival (arrive p h) = true
+isArrival (stitch p) = false
+isArrival (prefetch p q) = false
+isArrival (credit p q n) = false
+isArrival (mapTo d p) = false
+isArrival (turn p) = false
+isArrival (ready p) = false
+isArrival (whereIs y) = false
+isArrival (clear p) = false
+isArrival (report p) = false
 
 pub data Side : Type 0 where
   inside outside : Side
@@ -35,6 +50,7 @@ pub data Reply : Type 0 where
   leaves : Packet → Side → Reply
   word : ℕ → ℕ → Reply
   found : Place → ℕ → Reply
+  reported : ℕ → Reply
 
 abbrev pub isRefused : Reply → Bool
 isRefused (refused n) = true
@@ -45,6 +61,7 @@ isRefused idle = false
 isRefused (leaves k s) = false
 isRefused (word w n) = false
 isRefused (found v i) = false
+isRefused (reported n) = false
 
 -- ---- parts of the rules
 
@@ -64,9 +81,13 @@ firstOf S L v = oldest (listAt S L v)
 abbrev pub arriving : Settings → Ledger → ℕ → List ℕ → Packet
 arriving S L p h = recorded S (firstOf S L (free p) .node) (fieldsOf (form S) h)
 
+-- port p lacks the credit for price n in queue q: "as if credit were 0" where it is halted
+abbrev pub lacks : Settings → Ledger → ℕ → ℕ → ℕ → Bool
+lacks S L p q n = heldUp q (markOf L p) || ltb (arrivalOf S L p q) n
+
 -- the refusals that are left where port and header are right, packet k being what arrives: for want of credit, and of a node
 abbrev pub lastRules : Settings → Ledger → ℕ → Packet → List Rule
-lastRules S L p k = refuse 10 (ltb (arrivalOf S L p (k .queue)) (k .price)) ∷ refuse 11 (isEmpty (listAt S L (free p))) ∷ []
+lastRules S L p k = refuse 10 (lacks S L p (k .queue) (k .price)) ∷ refuse 11 (isEmpty (listAt S L (free p))) ∷ []
 
 unfoldable pub arrived : Settings → Ledger → ℕ → Packet → Ledger
 arrived S L p k = putCredit arrival S p (k .queue) (arrivalOf S L p (k .queue) - k .price) (move S (free p) (ingress p) k L)
@@ -132,6 +153,8 @@ rules S L (mapTo d p) = refuse 15 (leb ids d) ∷ noPort S p ∷ []
 rules S L (turn p) = noPort S p ∷ []
 rules S L (ready p) = noPort S p ∷ []
 rules S L (whereIs y) = refuse 15 (not (isNode S y)) ∷ []
+rules S L (clear p) = noPort S p ∷ []
+rules S L (report p) = noPort S p ∷ []
 
 -- ---- the answer and the ledger after it, where no refusal applies
 
@@ -151,10 +174,25 @@ result S L (ready p) = (word (readyWord S L p) (ones (readyWord S L p)), L)
 result S L (whereIs y) =
     let l = which y (L .lists) in
     (found (placeOf S l) (position y (getD (L .lists) l [])), L)
+result S L (clear p) = (done, putIn halted p 0 L)
+result S L (report p) = (reported (markOf L p), L)
 
--- what a refusal changes: nothing
+-- the ledger with port p marked for refusal n, if it marks the port
+unfoldable pub markedFor : Settings → ℕ → ℕ → Ledger → Ledger
+markedFor S p n L = cond (marks S p (markOf L p) n) (putIn halted p n L) L
+
+-- what a refusal changes: after an arrival at most the arriving port's mark, else nothing
 unfoldable pub onRefusal : Settings → ℕ → Act → Ledger → Ledger
-onRefusal S n a L = L
+onRefusal S n (arrive p h) L = markedFor S p n L
+onRefusal S n (stitch p) L = L
+onRefusal S n (prefetch p q) L = L
+onRefusal S n (credit p q v) L = L
+onRefusal S n (mapTo d p) L = L
+onRefusal S n (turn p) L = L
+onRefusal S n (ready p) L = L
+onRefusal S n (whereIs y) L = L
+onRefusal S n (clear p) L = L
+onRefusal S n (report p) L = L
 
 -- one act: the answer, and the ledger after it
 abbrev pub step : Settings → Ledger → Act → Reply × Ledger

@@ -1,5 +1,5 @@
--- Paper 01, "Bench cards": the starred cards, the cases of paper 02, Q-3, Q-5, Q-6, Q-7 and Q-12, and packets that cross from port to port: a
--- single table. The claim that they hold is that of proofs/Cards.antt. Assumes nothing.
+-- Paper 01, "Bench cards": the starred cards, the cases of paper 02, Q-3, Q-5, Q-6, Q-7, Q-9 and Q-12, and packets that cross from port to
+-- port: a single table. The claim that they hold is that of proofs/Cards.antt. Assumes nothing.
 use mathlib.Core.Path.{_≡_}
 use mathlib.Core.List.{List, [], _∷_, _++_, map}
 use Prim.Native.Nat.{ℕ, zero, suc, _+_, _-_, _*_, _/_, _%_}
@@ -8,7 +8,7 @@ use Rattle.crc.specs.Crc.{crc8}
 use Rattle.ledger.specs.Settings.{tenBytes, wide, settings, size}
 use Rattle.ledger.specs.Ledger.{Packet, free, ingress, egress, prefetched}
 use Rattle.ledger.specs.Calls.{arrive, stitch, prefetch, credit, mapTo, turn, ready, whereIs, inside, outside, Reply, refused, done, entry}
-use Rattle.ledger.specs.Calls.{stitched, idle, leaves, word, found}
+use Rattle.ledger.specs.Calls.{clear, report, stitched, idle, leaves, word, found, reported}
 use Rattle.ledger.specs.Desk.{none, Call, setup, act, replies, after}
 use Rattle.ledger.specs.Rounds.{roundReply, answersIn, round, doneBy, turnAnswers}
 
@@ -60,6 +60,7 @@ seen idle = 100
 seen (leaves k s) = k .queue
 seen (word w n) = w
 seen (found v i) = 100
+seen (reported n) = 100
 
 -- A memory of zero bytes, which is no switch state, is called so. A card says how many bytes are lent and what the replies are;
 -- or, with 65,536 lent and after so many replies, by which queues packets leave and which queues are ready then;
@@ -173,15 +174,47 @@ wideHeader dest source queue len flags =
     sealed ((dest * 32 + source * 4 + queue / 8) ∷ (queue % 8 * 32 + len / 256) ∷ len % 256 ∷ flags ∷ 1 ∷ 2 ∷ 3 ∷ 4 ∷ 5 ∷ 6 ∷ 171 ∷ [])
 
 -- Such headers at the desk: ten bytes, a reserved bit, a source that is no port, a length one under the least and a queue that the switch
--- doesn't have are refused; one of the last queue, from the last port and of the least length, crosses with all its fields.
+-- doesn't have are refused; one of the last queue, from the last port and of the least length, crosses with all its fields once the halt
+-- for the source is cleared.
 abbrev pub wide-arrivals : Card
 wide-arrivals =
     says (setUpWide 5 17 1 1 ∷ act (mapTo 7 3) ∷ act (arrive 4 twelve) ∷ act (arrive 4 (wideHeader 7 4 16 14 129))
     ∷ act (arrive 4 (wideHeader 7 7 16 14 128)) ∷ act (arrive 4 (wideHeader 7 4 16 13 128)) ∷ act (arrive 4 (wideHeader 7 4 17 14 128))
-    ∷ act (arrive 4 (wideHeader 7 4 16 14 128)) ∷ act (stitch 4) ∷ act (prefetch 3 16) ∷ act (credit 3 16 1) ∷ act (turn 3) ∷ [])
+    ∷ act (clear 4) ∷ act (arrive 4 (wideHeader 7 4 16 14 128)) ∷ act (stitch 4) ∷ act (prefetch 3 16) ∷ act (credit 3 16 1) ∷ act (turn 3) ∷ [])
     (done ∷ done ∷ refused 6 ∷ refused 20 ∷ refused 8 ∷ refused 9 ∷ refused 19
-    ∷ entry 8192 ∷ stitched (32 ∷ 0 ∷ 0 ∷ 14 ∷ 16 ∷ 3 ∷ 1 ∷ 2 ∷ 3 ∷ 4 ∷ []) ∷ entry 8192 ∷ done
+    ∷ done ∷ entry 8192 ∷ stitched (32 ∷ 0 ∷ 0 ∷ 14 ∷ 16 ∷ 3 ∷ 1 ∷ 2 ∷ 3 ∷ 4 ∷ []) ∷ entry 8192 ∷ done
     ∷ leaves (record { node = 8192; len = 14; queue = 16; dest = 7; stamp = 0x01020304; poisoned = 1; transaction = 171; price = 1 }) outside ∷ [])
+
+-- A bad checksum at port 1 halts it: queue 1 is refused 10 with all credit in hand, queue 0 is taken in. A second fault, another port's
+-- source, keeps the first mark, and that port isn't marked and goes on. Cleared, queue 1 is taken in, and a source marks.
+abbrev pub halting : Card
+halting =
+    says (setUp 4 64 1 16 ∷ act (report 1) ∷ act (arrive 1 spoilt) ∷ act (report 1) ∷ act (arrive 1 (header 0 1 1 12)) ∷ act (arrive 1 (header 0 1 0 12))
+    ∷ act (arrive 1 (header 0 2 1 12)) ∷ act (report 1) ∷ act (report 2) ∷ act (arrive 2 (header 0 2 1 12))
+    ∷ act (clear 1) ∷ act (report 1) ∷ act (arrive 1 (header 0 1 1 12)) ∷ act (arrive 1 (header 0 2 1 12)) ∷ act (report 1) ∷ act (clear 0) ∷ act (report 1)
+    ∷ setUp 4 64 1 16 ∷ act (report 1) ∷ [])
+    (done ∷ reported 0 ∷ refused 7 ∷ reported 7 ∷ refused 10 ∷ entry 2048
+    ∷ refused 8 ∷ reported 7 ∷ reported 0 ∷ entry 4096
+    ∷ done ∷ reported 0 ∷ entry 2049 ∷ refused 8 ∷ reported 8 ∷ done ∷ reported 8
+    ∷ done ∷ reported 0 ∷ [])
+
+-- No other refusal of an arrival halts: 4, 6, 20, 9, 19, 10 and 11. Clear and report know the ports that there are, and a state.
+abbrev pub unhalting : Card
+unhalting =
+    says (act (clear 0) ∷ act (report 0) ∷ setUp 1 64 1 0 ∷ act (clear 4) ∷ act (report 4) ∷ act (arrive 4 spoilt) ∷ act (arrive 3 []) ∷ act (report 3)
+    ∷ act (arrive 3 (sealed (nine 0 3 1 12 1))) ∷ act (arrive 3 (header 0 3 1 11)) ∷ act (arrive 3 (header 0 3 24 12)) ∷ act (arrive 3 (header 0 3 1 12))
+    ∷ act (arrive 3 (header 0 3 0 12)) ∷ act (arrive 3 (header 0 3 0 12)) ∷ act (report 3) ∷ act (report 0) ∷ [])
+    (refused 3 ∷ refused 3 ∷ done ∷ refused 4 ∷ refused 4 ∷ refused 4 ∷ refused 6 ∷ reported 0
+    ∷ refused 20 ∷ refused 9 ∷ refused 19 ∷ refused 10
+    ∷ entry 6144 ∷ refused 11 ∷ reported 0 ∷ reported 0 ∷ [])
+
+-- A halted port sends, and what it has taken in leaves: its turn, stitch and prefetch go on, with the packets of its halted queues.
+abbrev pub halted-sends : Card
+halted-sends =
+    says (setUp 4 64 1 16 ∷ (brought 1 12 ++ (act (arrive 0 (header 0 0 1 12)) ∷ act (credit 0 1 1) ∷ act (arrive 0 spoilt) ∷ act (turn 0) ∷ act (stitch 0)
+    ∷ act (prefetch 0 1) ∷ act (ready 0) ∷ act (arrive 0 (header 0 0 1 12)) ∷ [])))
+    (done ∷ entry 0 ∷ plain-record 1 12 ∷ entry 0 ∷ entry 1 ∷ done ∷ refused 7 ∷ leaves (plain 1 12 1) outside
+    ∷ stitched (0 ∷ 1 ∷ 0 ∷ 12 ∷ 1 ∷ 0 ∷ 0 ∷ 0 ∷ 0 ∷ 0 ∷ []) ∷ entry 1 ∷ word 0 0 ∷ refused 10 ∷ [])
 
 -- before a round: one of queue 0 has come in at port 0, two of queue 5 for port 2 at port 1, with outward credit for one of them, and one of
 -- the last queue for port 3 at port 2
@@ -228,6 +261,7 @@ cards =
     (done ∷ refused 20 ∷ refused 19 ∷ refused 19 ∷ entry 0 ∷ [])
     ∷ one-by-one 24 ∷ one-by-one 31
     ∷ crossing ∷ wide-rows ∷ wide-arrivals
+    ∷ halting ∷ unhalting ∷ halted-sends
     ∷ rounds [] (zeros 15) (refused 3) (zeros 15)
     ∷ rounds (setUp 2 64 1 0 ∷ act (arrive 1 (header 0 1 0 12)) ∷ act (arrive 0 twelve) ∷ []) (zeros 16) done
     (0 ∷ 0 ∷ 0 ∷ 0 ∷ 0 ∷ 1 ∷ 0 ∷ 0 ∷ 0 ∷ 1 ∷ 0 ∷ 0 ∷ 0 ∷ 1 ∷ 0 ∷ 0 ∷ [])

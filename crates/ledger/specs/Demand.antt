@@ -9,7 +9,7 @@ use lib.Dec.{eqb}
 use Rattle.ledger.specs.Settings.{Settings, tenBytes}
 use Rattle.ledger.specs.Ledger.{Packet, prefetched, Ledger, listAt, outwardOf}
 use Rattle.ledger.specs.Ready.{bit}
-use Rattle.ledger.specs.Calls.{Act, arrive, stitch, prefetch, credit, mapTo, turn, ready, whereIs, Reply, leaves, sideOf}
+use Rattle.ledger.specs.Calls.{Act, arrive, stitch, prefetch, credit, mapTo, turn, ready, whereIs, clear, report, Reply, leaves, sideOf}
 use Rattle.ledger.specs.Desk.{Desk, has, Call, setup, act, desk, afterCalls, SetupsRefused}
 use Rattle.ledger.specs.Sound.{sum, Roomy, Orderly, Sound}
 
@@ -23,6 +23,8 @@ isTurn p (mapTo d r) = false
 isTurn p (turn r) = eqb r p
 isTurn p (ready r) = false
 isTurn p (whereIs y) = false
+isTurn p (clear r) = false
+isTurn p (report r) = false
 
 -- packet k stands in the prefetch slots of port p and queue q, behind `ahead`
 pub record Stands (S : Settings) (p q : ℕ) (k : Packet) (ahead : List Packet) (L : Ledger) : Type 0 where

@@ -1,4 +1,4 @@
--- The desk: all nine calls on a lent memory of which only its length and what it pictures count. Setup, and refusal 3, stand here; the
+-- The desk: all eleven calls on a lent memory of which only its length and what it pictures count. Setup, and refusal 3, stand here; the
 -- round, which is a list of calls, in Rounds.antt. Assumes nothing.
 use mathlib.Core.Path.{_≡_}
 use mathlib.Core.Bool.{Bool, true, false, not}
@@ -8,7 +8,7 @@ use lib.Dec.{ltb}
 use Rattle.ledger.specs.Settings.{Settings, inRows, size}
 use Rattle.ledger.specs.Rules.{Rule, refuse, guard}
 use Rattle.ledger.specs.Ledger.{Ledger, start}
-use Rattle.ledger.specs.Calls.{Act, Reply, refused, done, isRefused, step}
+use Rattle.ledger.specs.Calls.{Act, isArrival, Reply, refused, done, isRefused, step}
 
 -- no switch state; or one, with its settings and its ledger
 pub data Desk : Type 0 where
@@ -22,6 +22,10 @@ pub data Call : Type 0 where
 abbrev pub isSetup : Call → Bool
 isSetup (setup T) = true
 isSetup (act a) = false
+
+abbrev pub isArrivalCall : Call → Bool
+isArrivalCall (setup T) = false
+isArrivalCall (act a) = isArrival a
 
 -- memory of n bytes: a setting not in its row, then memory shorter than its settings need
 abbrev pub setupRules : ℕ → Settings → List Rule

@@ -119,34 +119,39 @@ setCredit S xs p (suc r) v = set xs (cell S p r) v
 -- ---- the ledger: lists of packets, and numbers in columns
 
 pub data Column : Type 0 where
-  arrival outward last mapped : Column
+  arrival outward last mapped halted : Column
 
 abbrev pub column# : Column → ℕ
 column# arrival = 0
 column# outward = 1
 column# last = 2
 column# mapped = 3
+column# halted = 4
 
--- the numbers of a column: credits have one for each port and each queue but 0, last served queues one for each port, the map one for each id
+-- the numbers of a column: credits have one for each port and each queue but 0, last served queues and marks (paper 02, Q-9) one for each
+-- port, the map one for each id
 abbrev pub tall : Settings → Column → ℕ
 tall S arrival = S .ports * (S .queues - 1)
 tall S outward = S .ports * (S .queues - 1)
 tall S last = S .ports
 tall S mapped = ids
+tall S halted = S .ports
 
--- each number of a column is below this
+-- each number of a column is below this; which marks there are is rule (i)'s
 abbrev pub bound : Settings → Column → ℕ
 bound S arrival = 65536
 bound S outward = 65536
 bound S last = S .queues
 bound S mapped = S .ports
+bound S halted = 256
 
--- and is this in the starting ledger: all arrival credit in hand, the last queue last served
+-- and is this in the starting ledger: all arrival credit in hand, the last queue last served, no port halted
 abbrev pub starting : Settings → Column → ℕ
 starting S arrival = S .credit
 starting S outward = 0
 starting S last = S .queues - 1
 starting S mapped = 0
+starting S halted = 0
 
 pub record Ledger : Type 0 where
   pub lists : List (List Packet)
@@ -166,6 +171,10 @@ lastOf L p = getD (L .numbers last) p 0
 
 abbrev pub mapOf : Ledger → ℕ → ℕ
 mapOf L d = getD (L .numbers mapped) d 0
+
+-- a port's mark: 0, or the refusal for which it was halted
+abbrev pub markOf : Ledger → ℕ → ℕ
+markOf L p = getD (L .numbers halted) p 0
 
 -- ---- lists change in two ways: the oldest is taken off, a last one is put on
 

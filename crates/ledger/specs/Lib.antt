@@ -3,6 +3,7 @@ pub mod Rules
 pub mod Header
 pub mod Ledger
 pub mod Ready
+pub mod Halt
 pub mod Calls
 pub mod Desk
 pub mod Sound

@@ -11,6 +11,7 @@ use Rattle.ledger.specs.Settings.{Settings}
 use Rattle.ledger.specs.Header.{form, fieldsOf}
 use Rattle.ledger.specs.Ledger.{owner, Packet, recorded, free, ingress, place#, placeOf, Column, arrival, Ledger, listAt, arrivalOf}
 use Rattle.ledger.specs.Ready.{bit}
+use Rattle.ledger.specs.Halt.{TurnedAway}
 use Rattle.ledger.specs.Calls.{Reply, refused, entry}
 use Rattle.ledger.specs.Desk.{Desk, has, Call, afterCalls, answersOf}
 use Rattle.ledger.specs.Sound.{All, weigh, owes}
@@ -33,9 +34,9 @@ pub record TakenIn (S : Settings) (L : Ledger) (p : ℕ) (h : List ℕ) (x : ℕ
   pub paid : (q : ℕ) → q < S .queues → arrivalOf S N p q + owes p q (recorded S x (fieldsOf (form S) h)) ≡ arrivalOf S L p q
   pub only : OnlyAt S p L N
 
--- what an arrival at port p of any bytes h answers and leaves of the ledger L: a refusal and nothing else, or an own node with the header
+-- what an arrival at port p of any bytes h answers and leaves of the ledger L: a refusal and at most p's mark, or an own node with the header
 pub data Arrival (S : Settings) (L : Ledger) (p : ℕ) (h : List ℕ) : Reply → Ledger → Type 0 where
-  turned-away : (n : ℕ) → Arrival S L p h (refused n) L
+  turned-away : (n : ℕ) (N : Ledger) → TurnedAway S p n L N → Arrival S L p h (refused n) N
   taken : (x : ℕ) (N : Ledger) → TakenIn S L p h x N → Arrival S L p h (entry x) N
 
 -- ---- a pool

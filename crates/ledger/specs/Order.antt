@@ -12,7 +12,7 @@ use Rattle.ledger.specs.Settings.{Settings}
 use Rattle.ledger.specs.Header.{form, fieldsOf}
 use Rattle.ledger.specs.Ledger.{owner, Packet, recorded, Place, free, ingress, egress, prefetched, portOf, kindIn, queueIn, placeOf, Ledger, listAt}
 use Rattle.ledger.specs.Calls.{Act, arrive, stitch, prefetch, credit, mapTo, turn, ready, whereIs, Side, Reply, refused, done, entry, stitched}
-use Rattle.ledger.specs.Calls.{idle, leaves, word, found}
+use Rattle.ledger.specs.Calls.{clear, report, idle, leaves, word, found, reported}
 use Rattle.ledger.specs.Desk.{Desk, has, Call, setup, act, afterCalls, answersOf}
 use Rattle.ledger.specs.Sound.{All}
 
@@ -37,6 +37,7 @@ named no′ e s l idle = no′
 named no′ e s l (leaves k t) = l k
 named no′ e s l (word w n) = no′
 named no′ e s l (found v i) = no′
+named no′ e s l (reported n) = no′
 
 abbrev pub byEntry : Place → Place → Reply → Movement
 byEntry v w = named stays (λ x. moves x v w) (λ b. stays) (λ k. stays)
@@ -58,6 +59,8 @@ movement (mapTo d p) r = stays
 movement (turn p) r = byTurn p r
 movement (ready p) r = stays
 movement (whereIs y) r = stays
+movement (clear p) r = stays
+movement (report p) r = stays
 
 abbrev pub movementOf : Call → Reply → Movement
 movementOf (setup T) r = stays
@@ -127,6 +130,8 @@ broughtBy S (mapTo d p) r = []
 broughtBy S (turn p) r = []
 broughtBy S (ready p) r = []
 broughtBy S (whereIs y) r = []
+broughtBy S (clear p) r = []
+broughtBy S (report p) r = []
 
 abbrev pub broughtIn : Settings → Call → Reply → List Packet
 broughtIn S (setup T) r = []

@@ -7,7 +7,7 @@ use lib.Dec.{ltb}
 use Rattle.ledger.specs.Settings.{Settings}
 use Rattle.ledger.specs.Rules.{Rule, refuse, guard}
 use Rattle.ledger.specs.Calls.{Act, arrive, stitch, prefetch, credit, mapTo, turn, ready, whereIs, Reply, refused, done, entry, stitched, idle}
-use Rattle.ledger.specs.Calls.{leaves, word, found}
+use Rattle.ledger.specs.Calls.{clear, report, leaves, word, found, reported}
 use Rattle.ledger.specs.Desk.{Desk, none, has, Call, setup, act}
 
 -- ---- what a round does
@@ -51,6 +51,7 @@ answerBytes idle = 0 ∷ 1 ∷ 0 ∷ 0 ∷ []
 answerBytes (leaves k s) = 0 ∷ 0 ∷ k .node / 256 ∷ k .node % 256 ∷ []
 answerBytes (word w n) = 0 ∷ 0 ∷ 0 ∷ 0 ∷ []
 answerBytes (found v i) = 0 ∷ 0 ∷ 0 ∷ 0 ∷ []
+answerBytes (reported n) = 0 ∷ 0 ∷ 0 ∷ 0 ∷ []
 
 unfoldable pub bytesOf : List Reply → List ℕ
 bytesOf [] = []
@@ -97,6 +98,8 @@ ofTurn (act (mapTo d p)) r = []
 ofTurn (act (turn p)) r = r ∷ []
 ofTurn (act (ready p)) r = []
 ofTurn (act (whereIs y)) r = []
+ofTurn (act (clear p)) r = []
+ofTurn (act (report p)) r = []
 
 abbrev pub turnAnswers : List Call → List Reply → List Reply
 turnAnswers [] rs = []

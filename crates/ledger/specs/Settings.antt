@@ -78,6 +78,7 @@ ids = 4096
 unfoldable pub row : Settings → ℕ
 row S = 2 + 2 * S .queues
 
--- the bytes of a state: settings of 2, the map, the marks, two credits of 2 for each port and queue but 0, 8 for each list, 13 for each node
+-- the bytes of a state: settings of 2, the map, for each port the queue last served and the mark, two credits of 2 for each port and queue
+-- but 0, 8 for each list, 13 for each node
 unfoldable pub size : Settings → ℕ
-size S = 2 * settingCount + ids + S .ports + 4 * (S .ports * (S .queues - 1)) + 8 * (S .ports * row S) + 13 * (S .ports * S .nodes)
+size S = 2 * settingCount + ids + 2 * S .ports + 4 * (S .ports * (S .queues - 1)) + 8 * (S .ports * row S) + 13 * (S .ports * S .nodes)

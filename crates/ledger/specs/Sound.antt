@@ -1,4 +1,4 @@
--- Paper 01: "A ledger is sound when, in this order": (a) to (g). Assumes nothing.
+-- Paper 01: "A ledger is sound when, in this order": (a) to (g); and paper 02's rule (i). Assumes nothing.
 use mathlib.Core.Path.{_≡_}
 use mathlib.Core.Bool.{true, cond, _&&_}
 use mathlib.Core.List.{List, [], _∷_}
@@ -8,8 +8,9 @@ use lib.Dec.{eqb}
 use Rattle.ledger.specs.Settings.{Settings, inRows, row}
 use Rattle.ledger.specs.Header.{form, leastLength, price}
 use Rattle.ledger.specs.Ledger.{owner, isNode, Packet, Place, free, ingress, egress, prefetched, placeOf, Column, tall, bound, Ledger, listAt}
-use Rattle.ledger.specs.Ledger.{arrivalOf}
+use Rattle.ledger.specs.Ledger.{arrivalOf, markOf}
 use Rattle.ledger.specs.Ready.{bit}
+use Rattle.ledger.specs.Halt.{isMark}
 
 -- ---- words for facts about the nodes of the lists
 
@@ -104,10 +105,15 @@ pub record Orderly (S : Settings) (L : Ledger) : Type 0 where
   pub proper : Everywhere (λ l k. WellRecorded S (placeOf S l) k) (L .lists)
   pub paid : (p q : ℕ) → p < S .ports → 0 < q → q < S .queues → arrivalOf S L p q + weigh (owed S p q) (L .lists) ≡ S .credit
 
+-- (i) every port's mark is 0, 7, 8 or 18; beside the others, since no promise of theirs reads a mark
+abbrev pub Marked : Settings → Ledger → Type 0
+Marked S L = (p : ℕ) → p < S .ports → isMark (markOf L p) ≡ true
+
 -- (a) the settings are in their rows (that the memory is long enough is said of the memory); and all the others
 pub record Sound (S : Settings) (L : Ledger) : Type 0 where
   pub rows : inRows S ≡ true
   pub orderly : Orderly S L
+  pub marked : Marked S L
 
 -- what proofs use of (a), so that nothing but `inRow` knows an edition's numbers
 pub record Roomy (S : Settings) : Type 0 where

@@ -6,18 +6,21 @@ use mathlib.Core.Bool.{Bool, true, false, cond}
 use mathlib.Core.List.{List, [], _∷_}
 use Prim.Native.Nat.{ℕ, zero, suc, _+_, _-_, _≤_, _<_}
 use native.Mathlib.Omega.{arith}
+use native.Mathlib.Decide.{decLt}
 use lib.ListN.{length, drop}
 use lib.Dec.{eqb}
 use Rattle.ledger.specs.Settings.{Settings, settings, inRows, ids, row, size}
 use Rattle.ledger.specs.Rules.{Rule, refuse, guard, Clear}
 use Rattle.ledger.specs.Header.{form, fieldsOf, price}
 use Rattle.ledger.specs.Ledger.{owner, isNode, Packet, bare, recorded, Place, free, ingress, egress, prefetched, place#, column, portOf, Ledger}
-use Rattle.ledger.specs.Ledger.{listAt, arrivalOf, outwardOf, lastOf, mapOf, push, move, putCredit, putIn, start, arrival, outward, last, mapped, change}
+use Rattle.ledger.specs.Ledger.{listAt, arrivalOf, outwardOf, lastOf, mapOf, markOf, push, move, putCredit, putIn, start, arrival, outward, last, mapped, halted}
+use Rattle.ledger.specs.Ledger.{change}
+use Rattle.ledger.specs.Halt.{halts, marks}
 use Rattle.ledger.specs.Ready.{readyWord, pick}
 use Rattle.ledger.specs.Calls.{Act, arrive, stitch, prefetch, credit, mapTo, turn, ready, whereIs, Reply, refused, done, idle, isRefused, isEmpty}
-use Rattle.ledger.specs.Calls.{firstOf, arriving, arrived, served, serve, turned, rules, result, onRefusal, step}
-use Rattle.ledger.specs.Desk.{Desk, has, Call, setup, act, setupRules, desk}
-use Rattle.ledger.specs.Sound.{weigh, one, Proper, Orderly, Roomy}
+use Rattle.ledger.specs.Calls.{clear, report, firstOf, arriving, arrived, served, serve, turned, rules, result, markedFor, onRefusal, step}
+use Rattle.ledger.specs.Desk.{Desk, has, Call, setup, act, isArrivalCall, setupRules, desk}
+use Rattle.ledger.specs.Sound.{weigh, one, Proper, Orderly, Marked, Roomy}
 use Rattle.ledger.specs.Ledger.{Place·In}
 use Rattle.ledger.proofs.Promises.{result-given}
 use Rattle.ledger.proofs.Tests.{true≢false, leb-no, ltb-no, eqb-not, or-left, not-yes}
@@ -26,14 +29,17 @@ use Rattle.ledger.proofs.Header.{dest-mapped, price-free}
 use Rattle.ledger.proofs.Keep.{some-queue, first-fits, first-node}
 use Rattle.ledger.proofs.Rows.{roomy}
 use Rattle.ledger.proofs.Passes.{Admits, admits}
-use Rattle.ledger.proofs.Steps.{guarded, recorded-proper, picked-some, keep-served, keep-step}
-use Rattle.layout.specs.declared.Table.the-variants.{Arrival, Outward}
-use Rattle.layout.specs.Tables.{lists}
+use Rattle.ledger.proofs.Halt.{halts-low, marks-port, marks-halts, marks-not, marks-in}
+use Rattle.ledger.proofs.Steps.{guarded, recorded-proper, picked-some, keep-served, keep-step, keep-marked}
+use Rattle.layout.specs.declared.Table.the-variants.{Arrival, Outward, Halted}
+use Rattle.layout.specs.Tables.{lists, get, put}
 use Rattle.layout.specs.Picture.{settingsIn, packetAt, nodeIn, ledgerIn, StateOf, State}
 use Rattle.memory.specs.Ends.{popMem, pushMem, Tidy, withLists}
-use Rattle.memory.specs.Writes.{headOf, moveMem, recordMem, creditMem, arriveMem, serveMem, turnMem, write}
+use Rattle.memory.specs.Writes.{headOf, moveMem, recordMem, creditMem, arriveMem, serveMem, turnMem, write, markMem, refusedMem}
 use Rattle.memory.specs.Image.{setupMem}
-use Rattle.memory.specs.Memory.{state-dec, picture, acted, tested, M, refusedMem}
+use Rattle.memory.specs.Memory.{state-dec, picture, acted, tested, M}
+use Rattle.memory.proofs.Judged.{kept-else}
+use Rattle.memory.proofs.Chains.{getD-table}
 use Rattle.memory.proofs.Picture.{picture-is, picture-none, picture-state}
 use Rattle.memory.proofs.Image.{setup-picture}
 use Rattle.memory.proofs.Paint.{Kept, kept-then, pop-paint, pop-kept, pop-item, pop-node, pop-gone, pop-packet, push-paint, push-kept}
@@ -346,11 +352,43 @@ module _ (S : Settings) (ok : Roomy S) (m : List ℕ) (s : StateOf S m) where
       turn-painted p (readyWord S L p) hp (picked-some S ok L o p hp)
   painted (ready p) c = same
   painted (whereIs y) c = same
+  painted (clear p) c =
+      let hp = leb-no (S .ports) p (c .0) in
+      record { kept = column-kept S ok m tidy-of halted p 0 hp; shows = column-paint S ok m tidy-of halted p 0 hp (omega arith) }
+  painted (report p) c = same
 
   -- a refusal writes what it changes of the ledger
+  mark-painted : (p n : ℕ) → Painted (markMem S p n m) (markedFor S p n L)
+  unfolding markMem markedFor ledgerIn
+  mark-painted p n = go (marks S p (markOf L p) n) refl (decLt p (S .ports))
+    where
+      go : (b : Bool) → marks S p (markOf L p) n ≡ b → Dec (p < S .ports)
+          → Painted (cond (marks S p (get S m Halted p) n) (put S Halted p n m) m) (cond b (putIn halted p n L) L)
+      go true e h =
+          let hp = marks-port S p (markOf L p) n e in
+          let v : get S m Halted p ≡ markOf L p = sym (getD-table (get S m Halted) (S .ports) p 0 hp) in
+          rw (v, e)
+          (record {
+            kept = column-kept S ok m tidy-of halted p n hp;
+            shows = column-paint S ok m tidy-of halted p n hp (halts-low n (marks-halts S p (markOf L p) n e));
+          })
+      go false e (yes hp) =
+          let v : get S m Halted p ≡ markOf L p = sym (getD-table (get S m Halted) (S .ports) p 0 hp) in
+          rw (v, e) same
+      go false e (no h) = rw (marks-in S p (get S m Halted p) n h) same
+
   refused-painted : (n : ℕ) (a : Act) → Painted (refusedMem S n a m) (onRefusal S n a L)
   unfolding refusedMem onRefusal
-  refused-painted n a = same
+  refused-painted n (arrive p h) = mark-painted p n
+  refused-painted n (stitch p) = same
+  refused-painted n (prefetch p q) = same
+  refused-painted n (credit p q v) = same
+  refused-painted n (mapTo d p) = same
+  refused-painted n (turn p) = same
+  refused-painted n (ready p) = same
+  refused-painted n (whereIs y) = same
+  refused-painted n (clear p) = same
+  refused-painted n (report p) = same
 
   -- so an act leaves what the desk's step leaves
   act-painted : (a : Act) → (acted S m a .0 ≡ step S L a .0) × Painted (acted S m a .1) (step S L a .1)
@@ -375,7 +413,11 @@ module _ (S : Settings) (ok : Roomy S) (m : List ℕ) (s : StateOf S m) where
       record {
         long = omega (arith, s .long, w .kept .same-length);
         hangs = w .kept .tidy .hangs;
-        sound = record { rows = s .sound .rows; orderly = subst (Orderly S) (sym (w .shows)) (keep-step S ok L o a) };
+        sound = record {
+          rows = s .sound .rows;
+          orderly = subst (Orderly S) (sym (w .shows)) (keep-step S ok L o a);
+          marked = subst (Marked S) (sym (w .shows)) (keep-marked S ok L o a (s .sound .marked));
+        };
       }
 
 -- ---- every call, on every memory
@@ -420,21 +462,40 @@ square (act a) m = go (state-dec m)
 
 -- ---- what no call touches
 
--- a refusal changes no byte
-pub refusal-keeps-bytes : (c : Call) (m : List ℕ) → isRefused (M c m .0) ≡ true → M c m .1 ≡ m
+-- a refusal of anything but an arrival changes no byte
+pub refusal-keeps-bytes : (c : Call) (m : List ℕ) → isArrivalCall c ≡ false → isRefused (M c m .0) ≡ true → M c m .1 ≡ m
 unfolding M acted
-refusal-keeps-bytes (setup T) m =
+refusal-keeps-bytes (setup T) m other =
     guarded {X = Reply × List ℕ} (λ out. isRefused (out .0) ≡ true → out .1 ≡ m) (setupRules (length m) T) (λ r. (refused r, m))
     (done, setupMem T m) (λ r e. refl) (λ c e. absurd (true≢false (sym e)))
-refusal-keeps-bytes (act a) m = go (state-dec m)
+refusal-keeps-bytes (act a) m other = go (state-dec m)
   where
     go : (d : Dec (State m)) → isRefused (tested m d a .0) ≡ true → tested m d a .1 ≡ m
     go (yes s) =
         guarded {X = Reply × List ℕ} (λ out. isRefused (out .0) ≡ true → out .1 ≡ m)
         (rules (settingsIn m) (ledgerIn (settingsIn m) m) a) (λ n. (refused n, refusedMem (settingsIn m) n a m))
-        (result (settingsIn m) (ledgerIn (settingsIn m) m) a .0, write (settingsIn m) m a) (λ n e. unfold refusedMem in refl)
+        (result (settingsIn m) (ledgerIn (settingsIn m) m) a .0, write (settingsIn m) m a) (λ n e. kept-else (settingsIn m) n a m other)
         (λ c e. absurd (true≢false (sym e ∙ result-given (settingsIn m) (ledgerIn (settingsIn m) m) a)))
     go (no n) = λ e. refl
+
+-- an arrival's writes the arriving port's mark, if it halts the port, and nothing else: on any memory, since what is no state is refused 3
+pub refusal-marks-bytes : (p : ℕ) (h m : List ℕ) (n : ℕ) → M (act (arrive p h)) m .0 ≡ refused n → M (act (arrive p h)) m .1 ≡ markMem (settingsIn m) p n m
+unfolding M acted
+refusal-marks-bytes p h m n = go (state-dec m)
+  where
+    S : Settings
+    S = settingsIn m
+
+    go : (d : Dec (State m)) → tested m d (arrive p h) .0 ≡ refused n → tested m d (arrive p h) .1 ≡ markMem S p n m
+    go (yes s) =
+        guarded {X = Reply × List ℕ} (λ out. out .0 ≡ refused n → out .1 ≡ markMem S p n m)
+        (rules S (ledgerIn S m) (arrive p h)) (λ i. (refused i, refusedMem S i (arrive p h) m))
+        (result S (ledgerIn S m) (arrive p h) .0, write S m (arrive p h))
+        (λ i e. unfold refusedMem in (ap (λ (j : ℕ). markMem S p j m) (let z : i ≡ n = cc in z)))
+        (λ c e. absurd (let z : _≡_ {A = ℕ} 0 1 = cc in omega arith))
+    go (no f) = λ e.
+        let z : n ≡ 3 = cc in
+        sym (ap (λ (j : ℕ). markMem S p j m) z ∙ unfold markMem in (rw (marks-not S p (get S m Halted p) 3 (unfold halts in refl))))
 
 -- bytes from the size on are never changed, nor is the length
 pub past-kept : (a : Act) (m : List ℕ) → (drop (size (settingsIn m)) (M (act a) m .1) ≡ drop (size (settingsIn m)) m) × (length (M (act a) m .1) ≡ length m)

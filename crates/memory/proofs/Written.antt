@@ -6,11 +6,11 @@ use native.Mathlib.Nat.{le-refl}
 use native.Mathlib.Omega.{arith}
 use lib.ListN.{length}
 use Rattle.ledger.specs.Settings.{Settings, settingCount, row, size}
-use Rattle.ledger.specs.Ledger.{entryId, arrival, outward, last, mapped, Column, tall, starting}
+use Rattle.ledger.specs.Ledger.{entryId, arrival, outward, last, mapped, halted, Column, tall, starting}
 use Rattle.ledger.specs.Sound.{Roomy}
 use Rattle.ledger.proofs.Places.{row-lt, row-inj}
 use Rattle.layout.specs.declared.Table.{Table}
-use Rattle.layout.specs.declared.Table.the-variants.{Setting, Mapped, Last, Arrival, Outward, Head, Tail, Count, Next}
+use Rattle.layout.specs.declared.Table.the-variants.{Setting, Mapped, Last, Halted, Arrival, Outward, Head, Tail, Count, Next}
 use Rattle.layout.specs.Tables.{turnOf, width, many, cells, lists, get, tableOf}
 use Rattle.memory.specs.Image.{fill, settingAt, written}
 use Rattle.memory.proofs.Fill.{Fits, length-fill, fill-append, fill-else, fill-other, fill-get, length-links, links-append, links-other, links-get}
@@ -125,7 +125,7 @@ module _ (S : Settings) where
       from-credited : (t : Table) (j : ℕ) → j < many S t → turnOf t < turnOf Head → get S (written S m) t j ≡ get S (credited S m) t j
       from-credited t j k h = from-headed t j k (omega arith) ∙ fill-other S Head _ _ (S .ports) (credited S m) t j heads-fit k (omega arith)
 
-      -- and until the lists' tables are written, what is no setting, mark or arrival credit is as it was
+      -- and until the lists' tables are written, what is no setting, last served queue or arrival credit is as it was
       unfilled : (t : Table) (j : ℕ) → j < many S t → turnOf t ≢ turnOf Setting → turnOf t ≢ turnOf Last → turnOf t ≢ turnOf Arrival
           → get S (credited S m) t j ≡ get S m t j
       unfilled t j k x y z =
@@ -175,3 +175,4 @@ module _ (S : Settings) where
               ∙ fill-other S Arrival _ _ (cells S) (marked S m) Last i credits-fit h (omega arith)
               ∙ fill-get S Last _ _ (S .ports) (settled S m) i marks-fit (simp length-fill long) h
           number mapped i h = untouched Mapped i h (omega arith) (omega arith) (omega arith) (omega arith)
+          number halted i h = untouched Halted i h (omega arith) (omega arith) (omega arith) (omega arith)

@@ -12,7 +12,7 @@ use Rattle.ledger.proofs.Decide.{and-dec, below-dec, sound-dec}
 use Rattle.layout.specs.declared.Table.the-variants.{Tail}
 use Rattle.layout.specs.Tables.{lists, get}
 use Rattle.layout.specs.Picture.{settingsIn, nodesOf, ledgerIn, lastD, Hangs, State}
-use Rattle.memory.specs.Writes.{write}
+use Rattle.memory.specs.Writes.{write, refusedMem}
 use Rattle.memory.specs.Image.{setupMem}
 
 -- Whether a memory is a switch state can be decided. What is taken from proofs here adds nothing to believe: a decision of `State m` is a
@@ -35,11 +35,7 @@ deskOf m (no n) = none
 unfoldable pub picture : List ℕ → Desk
 picture m = deskOf m (state-dec m)
 
--- what a refusal changes: no byte
-unfoldable pub refusedMem : Settings → ℕ → Act → List ℕ → List ℕ
-refusedMem S n a m = m
-
--- an act on memory that is a switch state: refused as the desk's rules say on the ledger that it pictures; else done
+-- an act on memory that is a switch state: refused as the desk's rules say on the ledger that it pictures, with what that writes; else done
 unfoldable pub acted : Settings → List ℕ → Act → Reply × List ℕ
 acted S m a = guard (rules S (ledgerIn S m) a) (λ n. (refused n, refusedMem S n a m)) (result S (ledgerIn S m) a .0, write S m a)
 

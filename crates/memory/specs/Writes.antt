@@ -1,4 +1,4 @@
--- What each act writes: an explicit nest of puts into the memory that it was handed. Assumes nothing.
+-- What each act writes, done or refused: an explicit nest of puts into the memory that it was handed. Assumes nothing.
 use mathlib.Core.Bool.{cond}
 use mathlib.Core.List.{List}
 use Prim.Native.Nat.{ℕ, zero, suc, _+_, _-_}
@@ -7,9 +7,10 @@ use Rattle.ledger.specs.Settings.{Settings}
 use Rattle.ledger.specs.Header.{form, fieldsOf}
 use Rattle.ledger.specs.Ledger.{owner, Packet, recorded, Place, free, ingress, egress, prefetched, place#, cell, arrivalOf, outwardOf, lastOf, mapOf}
 use Rattle.ledger.specs.Ready.{readyWord, pick}
-use Rattle.ledger.specs.Calls.{Act, arrive, stitch, prefetch, credit, mapTo, turn, ready, whereIs}
+use Rattle.ledger.specs.Halt.{marks}
+use Rattle.ledger.specs.Calls.{Act, arrive, stitch, prefetch, credit, mapTo, turn, ready, whereIs, clear, report}
 use Rattle.layout.specs.declared.Table.{Table}
-use Rattle.layout.specs.declared.Table.the-variants.{Mapped, Last, Arrival, Outward, Head, Length, Stamp, Queue, Dest, Poisoned, Transaction, Price}
+use Rattle.layout.specs.declared.Table.the-variants.{Mapped, Last, Halted, Arrival, Outward, Head, Length, Stamp, Queue, Dest, Poisoned, Transaction, Price}
 use Rattle.layout.specs.Tables.{get, put}
 use Rattle.layout.specs.Picture.{slot, packetAt, ledgerIn}
 use Rattle.memory.specs.Ends.{popMem, pushMem}
@@ -69,3 +70,22 @@ write S m (mapTo d p) = put S Mapped d p m
 write S m (turn p) = turnMem S p (readyWord S (ledgerIn S m) p) m
 write S m (ready p) = m
 write S m (whereIs y) = m
+write S m (clear p) = put S Halted p 0 m
+write S m (report p) = m
+
+-- memory with port p marked for refusal n, if it marks the port
+unfoldable pub markMem : Settings → ℕ → ℕ → List ℕ → List ℕ
+markMem S p n m = cond (marks S p (get S m Halted p) n) (put S Halted p n m) m
+
+-- what a refusal writes: after an arrival at most the arriving port's mark, else nothing
+unfoldable pub refusedMem : Settings → ℕ → Act → List ℕ → List ℕ
+refusedMem S n (arrive p h) m = markMem S p n m
+refusedMem S n (stitch p) m = m
+refusedMem S n (prefetch p q) m = m
+refusedMem S n (credit p q v) m = m
+refusedMem S n (mapTo d p) m = m
+refusedMem S n (turn p) m = m
+refusedMem S n (ready p) m = m
+refusedMem S n (whereIs y) m = m
+refusedMem S n (clear p) m = m
+refusedMem S n (report p) m = m

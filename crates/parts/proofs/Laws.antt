@@ -5,11 +5,11 @@ use Prim.Native.Nat.{ℕ, suc, _-_, _<_}
 use native.Mathlib.Omega.{arith}
 use lib.ListN.{getD}
 use Rattle.ledger.specs.Settings.{Settings, ids}
-use Rattle.ledger.specs.Ledger.{cell, creditAt, lastOf, mapOf}
+use Rattle.ledger.specs.Ledger.{cell, creditAt, lastOf, mapOf, markOf}
 use Rattle.ledger.proofs.Places.{cell-lt}
 use Rattle.layout.specs.declared.Shape.{Shape}
 use Rattle.layout.specs.declared.Table.{Table}
-use Rattle.layout.specs.declared.Table.the-variants.{Mapped, Last}
+use Rattle.layout.specs.declared.Table.the-variants.{Mapped, Last, Halted}
 use Rattle.layout.specs.Tables.{cells, get, put, settingsOf}
 use Rattle.layout.specs.Picture.{tabulate, ledgerIn}
 use Rattle.layout.specs.Access.{Reads}
@@ -45,12 +45,16 @@ module _ {s : Shape} {t : Table} {p q : ℕ} {m : List ℕ} (h : InCredits s t p
       ≡ get (settingsOf s) m t (cell (settingsOf s) p (q - 1))
   credit-is = credit-paid _ _ p q some ∙ getD-table (get (settingsOf s) m t) (cells (settingsOf s)) _ 0 cell-in
 
--- ---- marks and the map
+-- ---- what a port has one of, and the map
 
 module _ (S : Settings) (m : List ℕ) where
   pub last-is : (p : ℕ) → p < S .ports → lastOf (ledgerIn S m) p ≡ get S m Last p
   unfolding ledgerIn
   last-is p h = getD-table (get S m Last) (S .ports) p 0 h
+
+  pub mark-is : (p : ℕ) → p < S .ports → markOf (ledgerIn S m) p ≡ get S m Halted p
+  unfolding ledgerIn
+  mark-is p h = getD-table (get S m Halted) (S .ports) p 0 h
 
   pub mapped-is : (d : ℕ) → d < ids → mapOf (ledgerIn S m) d ≡ get S m Mapped d
   unfolding ledgerIn

@@ -21,8 +21,8 @@ pub record InCredits (s : Shape) (t : Table) (p q : ℕ) (m : List ℕ) : Type 0
   pub wide : width t ≡ 2
   pub each : many (settingsOf s) t ≡ cells (settingsOf s)
 
--- the mark of port p
-pub record InMarks (s : Shape) (p : ℕ) (m : List ℕ) : Type 0 where
+-- what port p has one of: the queue last served, the mark
+pub record InPorts (s : Shape) (p : ℕ) (m : List ℕ) : Type 0 where
   pub laid : Laid s
   pub long : size (settingsOf s) ≤ length m
   pub port : p < s .ports

@@ -1,13 +1,13 @@
-// The parts of a state that are neither lists nor records, read and written: credits, marks, map entries.
+// The parts of a state that are neither lists nor records, read and written: credits, last served queues, marks, map entries.
 use layout::Shape;
 use layout::Table;
 ghost use mathlib.Core.Path.{_≡_};
-ghost use Rattle.ledger.specs.Ledger.{creditAt, arrivalOf, outwardOf, lastOf, mapOf};
-ghost use Rattle.layout.specs.declared.Table.the-variants.{Mapped, Last, Arrival, Outward};
+ghost use Rattle.ledger.specs.Ledger.{creditAt, arrivalOf, outwardOf, lastOf, mapOf, markOf};
+ghost use Rattle.layout.specs.declared.Table.the-variants.{Mapped, Last, Halted, Arrival, Outward};
 ghost use Rattle.layout.specs.Tables.{cells, get, put, settingsOf};
 ghost use Rattle.layout.specs.Picture.{tabulate, ledgerIn};
 ghost use Rattle.memory.specs.Writes.{creditMem};
-ghost use Rattle.parts.specs.Parts.{InCell, InCredits, InMarks, InMap};
+ghost use Rattle.parts.specs.Parts.{InCell, InCredits, InPorts, InMap};
 
 // ---- credits
 
@@ -60,18 +60,18 @@ pub fn set_outward(m: &mut [u8], s: Shape, p: usize, q: usize, v: u16)
     set_credit(m, s, Table::Outward, p, q, v);
 }
 
-// ---- marks and the map
+// ---- what a port has one of, and the map
 
 // The queue that port p served last.
 pub fn last(m: &[u8], s: Shape, p: usize) -> u8
-    requires { ⌜ InMarks s p (now m) ⌝ }
+    requires { ⌜ InPorts s p (now m) ⌝ }
     ensures { λ r. ⌜ r ≡ lastOf (ledgerIn (settingsOf s) (now (m .entry))) p ⌝ }
 {
     layout::get1(m, s, Table::Last, p)
 }
 
 pub fn set_last(m: &mut [u8], s: Shape, p: usize, q: u8)
-    requires { ⌜ InMarks s p (now m) ⌝ }
+    requires { ⌜ InPorts s p (now m) ⌝ }
     ensures { λ _. ⌜ now (m .exit) ≡ put (settingsOf s) Last p q (now (m .entry)) ⌝ }
 {
     layout::put1(m, s, Table::Last, p, q);
@@ -90,4 +90,19 @@ pub fn set_mapped(m: &mut [u8], s: Shape, d: usize, p: u8)
     ensures { λ _. ⌜ now (m .exit) ≡ put (settingsOf s) Mapped d p (now (m .entry)) ⌝ }
 {
     layout::put1(m, s, Table::Mapped, d, p);
+}
+
+// The mark of port p: 0, or the refusal for which it is halted.
+pub fn mark(m: &[u8], s: Shape, p: usize) -> u8
+    requires { ⌜ InPorts s p (now m) ⌝ }
+    ensures { λ r. ⌜ r ≡ markOf (ledgerIn (settingsOf s) (now (m .entry))) p ⌝ }
+{
+    layout::get1(m, s, Table::Halted, p)
+}
+
+pub fn set_mark(m: &mut [u8], s: Shape, p: usize, n: u8)
+    requires { ⌜ InPorts s p (now m) ⌝ }
+    ensures { λ _. ⌜ now (m .exit) ≡ put (settingsOf s) Halted p n (now (m .entry)) ⌝ }
+{
+    layout::put1(m, s, Table::Halted, p, n);
 }

@@ -20,7 +20,7 @@ use Rattle.ranges.specs.First.{first}
 unfoldable pub prefetchAt : Settings → ℕ → ℕ
 prefetchAt S j = place# S (prefetched (j / S .queues) (j % S .queues))
 
--- the columns whose numbers can be out of range in the bytes that hold them: credits can't
+-- the columns whose numbers can be out of range in the bytes that hold them: credits can't, and which marks there are is rule (i)'s
 abbrev pub bounded : List Column
 bounded = last ∷ mapped ∷ []
 

@@ -4,7 +4,7 @@ use mathlib.Core.List.{List}
 use Prim.Native.Nat.{ℕ}
 use native.Mathlib.Omega.{arith}
 use Rattle.ledger.specs.declared.Finding.the-variants.{Whole as whole, At}
-use Rattle.ledger.specs.declared.Broken.the-variants.{Nothing, B, G}
+use Rattle.ledger.specs.declared.Broken.the-variants.{B, G}
 use Rattle.ledger.specs.Settings.{Settings}
 use Rattle.ledger.specs.Sound.{Shaped}
 use Rattle.ledger.proofs.Rows.{roomy}
@@ -30,8 +30,9 @@ use Rattle.fits.proofs.Means.{fits-means}
 use Rattle.paid.specs.Paid.{paidFound}
 use Rattle.paid.proofs.Owing.{paid-means}
 use Rattle.whole.specs.Whole.{Listed}
+use Rattle.halts.proofs.Laws.{marks-mean}
 use Rattle.sound.specs.declared.Tested.the-variants.{State, NoState}
-use Rattle.sound.specs.Sound.{Clean, nodesBroken, openBroken, testedBy, testedIn}
+use Rattle.sound.specs.Sound.{Clean, marksBroken, nodesBroken, openBroken, testedBy, testedIn}
 use Rattle.ledger.specs.Ledger.{tall}
 
 -- ---- what the rules say together
@@ -51,9 +52,10 @@ by-rule S m d e f OwnQueue = e
 by-rule S m d e f Record = f
 
 module _ (S : Settings) (m : List ℕ) where
-  pub clean-whole : Clean S m → openBroken S m ≡ Nothing
+  -- the rules before (i) are kept
+  pub marks-left : rangesFound S m ≡ whole → Listed S m → paidFound S m ≡ whole → openBroken S m ≡ marksBroken S m
   unfolding openBroken nodesBroken
-  clean-whole k = rw (k .ranges, k .once, k .fits OwnPort, k .fits OwnQueue, k .fits Record, k .paid)
+  marks-left b k e = rw (b, k .once, k .fits OwnPort, k .fits OwnQueue, k .fits Record, e)
 
   -- (g) alone is broken
   pub due-broken : (c : ℕ) → rangesFound S m ≡ whole → Listed S m → paidFound S m ≡ At c → openBroken S m ≡ G c
@@ -90,6 +92,7 @@ module _ (m : List ℕ) (s : Shape) where
               proper = proper;
               paid = paid-means S m (o .laid .roomy) (record { tidy = tidy; proper = proper }) .0 (k .paid);
             };
+            marked = marks-mean S m .0 (k .marked);
           };
         }
 
@@ -102,6 +105,7 @@ state-clean S m t =
       once = whole-found S m R (t .hangs, o .once);
       fits = by-rule S m (fits-means OwnPort S m .1 (o .owned)) (fits-means OwnQueue S m .1 (o .queued)) (fits-means Record S m .1 (o .proper));
       paid = paid-means S m R (record { tidy = state-tidy S m t; proper = o .proper }) .1 (o .paid);
+      marked = marks-mean S m .1 (t .sound .marked);
     }
 
 -- ---- what is told of a memory

@@ -5,7 +5,7 @@ use Prim.Native.Nat.{ℕ, _-_, _*_, _^_, _≤_, _<_}
 use native.Mathlib.Nat.{mul-le-mul-right}
 use native.Mathlib.Omega.{arith}
 use Rattle.ledger.specs.declared.Finding.the-variants.{Whole}
-use Rattle.ledger.specs.declared.Broken.the-variants.{Nothing, A, G}
+use Rattle.ledger.specs.declared.Broken.the-variants.{A, G}
 use Rattle.ledger.specs.Settings.{Settings, row}
 use Rattle.ledger.specs.Sound.{Roomy}
 use Rattle.layout.specs.declared.Shape.{Shape}
@@ -22,8 +22,9 @@ use Rattle.fits.proofs.Means.{none}
 use Rattle.whole.specs.declared.Walk.{Walk}
 use Rattle.whole.specs.declared.Walk.the-variants.{Kept, Stuck, Due}
 use Rattle.whole.specs.Whole.{Listed, Tells}
-use Rattle.sound.specs.Sound.{Clean, Tied, openBroken, brokenIn}
-use Rattle.sound.proofs.Means.{clean-whole, due-broken, passed-once}
+use Rattle.halts.specs.Marks.{marksFound}
+use Rattle.sound.specs.Sound.{Clean, Tied, marksBroken, openBroken, brokenIn}
+use Rattle.sound.proofs.Means.{marks-left, due-broken, passed-once}
 
 module _ (S : Settings) (m : List ℕ) (R : Roomy S) where
   -- the walk meets what (b) says of prefetch lists
@@ -31,11 +32,11 @@ module _ (S : Settings) (m : List ℕ) (R : Roomy S) where
   clean-listed c = record { slots = ranges-few S m R (c .ranges); once = c .once; fits = c .fits }
 
   module _ (b : Low S m R) where
-    pub kept-clean : Tells S m Kept → Clean S m
-    kept-clean t = record { ranges = low-ranges S m R b (t .0 .slots); once = t .0 .once; fits = t .0 .fits; paid = t .1 }
+    pub kept-clean : marksFound S m ≡ Whole → Tells S m Kept → Clean S m
+    kept-clean k t = record { ranges = low-ranges S m R b (t .0 .slots); once = t .0 .once; fits = t .0 .fits; paid = t .1; marked = k }
 
-    pub kept-broken : Tells S m Kept → openBroken S m ≡ Nothing
-    kept-broken t = clean-whole S m (kept-clean t)
+    pub kept-broken : Tells S m Kept → openBroken S m ≡ marksBroken S m
+    kept-broken t = marks-left S m (low-ranges S m R b (t .0 .slots)) (t .0) (t .1)
 
     pub due-told : (c : ℕ) → Tells S m (Due c) → openBroken S m ≡ G c
     due-told c t = due-broken S m c (low-ranges S m R b (t .0 .slots)) (t .0) (t .1)

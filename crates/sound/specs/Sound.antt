@@ -18,10 +18,11 @@ use Rattle.fits.specs.declared.NodeRule.{NodeRule}
 use Rattle.fits.specs.declared.NodeRule.the-variants.{OwnPort, OwnQueue, Record}
 use Rattle.fits.specs.Fits.{fitsFound}
 use Rattle.paid.specs.Paid.{paidFound}
+use Rattle.halts.specs.Marks.{marksFound}
 use Rattle.whole.specs.declared.Walk.the-variants.{Stuck}
 use Rattle.whole.specs.Whole.{Tells}
 use Rattle.ledger.specs.declared.Broken.{Broken}
-use Rattle.ledger.specs.declared.Broken.the-variants.{Nothing, A, B, C, D, E, F, G}
+use Rattle.ledger.specs.declared.Broken.the-variants.{Nothing, A, B, C, D, E, F, G, I}
 use Rattle.sound.specs.declared.Tested.{Tested}
 use Rattle.sound.specs.declared.Tested.the-variants.{State, NoState}
 
@@ -32,15 +33,19 @@ abbrev pub orNext : Finding → (ℕ → Broken) → Broken → Broken
 orNext whole rule next = next
 orNext (At i) rule next = rule i
 
--- (d) to (g)
+-- (i), the last; (h) is a later request's
+abbrev pub marksBroken : Settings → List ℕ → Broken
+marksBroken S m = orNext (marksFound S m) I Nothing
+
+-- (d) to (i)
 unfoldable pub nodesBroken : Settings → List ℕ → Broken
 nodesBroken S m =
     orNext (fitsFound OwnPort S m) D
     (orNext (fitsFound OwnQueue S m) E
     (orNext (fitsFound Record S m) F
-    (orNext (paidFound S m) G Nothing)))
+    (orNext (paidFound S m) G (marksBroken S m))))
 
--- (b) to (g)
+-- (b) to (i)
 unfoldable pub openBroken : Settings → List ℕ → Broken
 openBroken S m = orNext (rangesFound S m) B (orNext (onceFound S m) C (nodesBroken S m))
 
@@ -55,6 +60,7 @@ pub record Clean (S : Settings) (m : List ℕ) : Type 0 where
   pub once : onceFound S m ≡ whole
   pub fits : (rule : NodeRule) → fitsFound rule S m ≡ whole
   pub paid : paidFound S m ≡ whole
+  pub marked : marksFound S m ≡ whole
 
 abbrev pub testedBy : (m : List ℕ) → Dec (picture.State m) → Tested
 testedBy m (yes s) = State (shapeFor (settingsIn m))

@@ -1,4 +1,4 @@
-// Is a memory of any bytes a switch state? For a call, all seven rules by one walk of the lists; for whoever asks what is wrong, that walk
+// Is a memory of any bytes a switch state? For a call, all rules by one walk of the lists; for whoever asks what is wrong, that walk
 // first, and where it doesn't tell, the rules in the paper's order, a walk each, up to the first that is broken.
 use fits::NodeRule;
 use layout::Shape;
@@ -15,7 +15,7 @@ ghost use Rattle.once.specs.Walks.{Blank};
 ghost use Rattle.ranges.specs.First.{first};
 ghost use Rattle.ranges.specs.Ranges.{low, fitsAt};
 ghost use Rattle.whole.specs.Whole.{Says, Tells};
-ghost use Rattle.sound.specs.Sound.{Clean, Tied, StuckAt, nodesBroken, openBroken, brokenIn, testedIn};
+ghost use Rattle.sound.specs.Sound.{Clean, Tied, StuckAt, marksBroken, nodesBroken, openBroken, brokenIn, testedIn};
 
 // What a call needs to know of a memory.
 pub enum Tested {
@@ -110,7 +110,7 @@ fn one_walk(m: &[u8], s: Shape) -> Walk
     whole_among_all(m, s)
 }
 
-// The first of the marks and the map's entries that is out of range: of (b), what the walk doesn't meet.
+// The first of the last served queues and the map's entries that is out of range: of (b), what the walk doesn't meet.
 fn number_outside(m: &[u8], s: Shape) -> Finding
     requires { ⌜ Open (now m) s ⌝ }
     ensures { λ r. ⌜ r ≡ first (fitsAt (settingsOf s) (now (m .entry))) (low (settingsOf s)) ⌝ }
@@ -118,12 +118,15 @@ fn number_outside(m: &[u8], s: Shape) -> Finding
     ranges::number_outside(m, s)
 }
 
-// Whether rules (b) to (g) are kept: of (b) the marks and the map first, and the prefetch lists where the lists are walked.
+// Whether rules (b) to (i) are kept: of (b) the numbers first, and the prefetch lists where the lists are walked; and the marks.
 fn whole_in(m: &[u8], s: Shape) -> bool
     requires { ⌜ Open (now m) s ⌝ }
     ensures { λ r. ⌜ Says (Clean (settingsOf s) (now (m .entry))) r ⌝ }
 {
     if let Finding::At(_) = number_outside(m, s) {
+        return false;
+    }
+    if let Finding::At(_) = halts::wrong_mark(m, s) {
         return false;
     }
     if let Walk::Kept = one_walk(m, s) {
@@ -177,7 +180,18 @@ fn stuck_broken(m: &[u8], s: Shape, port: usize) -> Broken
     nodes_broken(m, s, port)
 }
 
-// Rules (b) to (g). The one walk is asked first: it decides where none is broken, or (g) alone.
+// Rule (i), where those before it are kept.
+fn marks_broken(m: &[u8], s: Shape) -> Broken
+    requires { ⌜ Open (now m) s ⌝ }
+    ensures { λ r. ⌜ r ≡ marksBroken (settingsOf s) (now (m .entry)) ⌝ }
+{
+    if let Finding::At(p) = halts::wrong_mark(m, s) {
+        return Broken::I(p);
+    }
+    Broken::Nothing
+}
+
+// Rules (b) to (i). The one walk is asked first: it decides where none up to (f) is broken.
 fn open_broken(m: &[u8], s: Shape) -> Broken
     requires { ⌜ Open (now m) s ⌝ }
     ensures { λ r. ⌜ r ≡ openBroken (settingsOf s) (now (m .entry)) ⌝ }
@@ -186,7 +200,7 @@ fn open_broken(m: &[u8], s: Shape) -> Broken
         return Broken::B(i);
     }
     match one_walk(m, s) {
-        Walk::Kept => Broken::Nothing,
+        Walk::Kept => marks_broken(m, s),
         Walk::Stuck(port) => stuck_broken(m, s, port),
         Walk::Due(c) => Broken::G(c),
     }

@@ -1,5 +1,5 @@
 -- The test for a state decides between an act and refusal 3. Assumes nothing.
-use mathlib.Core.Path.{_≡_, sym, _∙_}
+use mathlib.Core.Path.{_≡_, refl, sym, _∙_}
 use mathlib.Core.Bool.{true, false}
 use mathlib.Core.List.{List}
 use Prim.Native.Nat.{ℕ, _<_}
@@ -42,7 +42,7 @@ no-node S h y k = rw (ltb-not (owner y) (S .ports) (omega (arith, roomy S h .few
 pub past-state : (s : Shape) (m : List ℕ) → testedIn m ≡ tests.State s → (y : ℕ) → 65535 < y → (refused 15, m) ≡ M (act (whereIs y)) m
 past-state s m e y k =
     let w = tested-state m s e in
-    sym (acted-bad (settingsOf s) m (whereIs y) 15 (unfold judged in rw (no-node (settingsOf s) (w .state .sound .rows) y k)))
+    sym (acted-bad (settingsOf s) m (whereIs y) refl 15 (unfold judged in rw (no-node (settingsOf s) (w .state .sound .rows) y k)))
     ∙ on-state s m e (whereIs y)
 
 -- so is the round, and so is the audit

@@ -120,7 +120,7 @@ masked-is w m hw hm =
 module _ (S : Settings) (m : List ℕ) (p : ℕ) where
   pub turn-no-port : S .ports ≤ p → (refused 4, m) ≡ acted S m (turn p)
   unfolding judged
-  turn-no-port h = sym (acted-bad S m (turn p) 4 (rw (leb-is (S .ports) p h)))
+  turn-no-port h = sym (acted-bad S m (turn p) refl 4 (rw (leb-is (S .ports) p h)))
 
   pub ready-no-port : S .ports ≤ p → refused 4 ≡ acted S m (ready p) .0
   unfolding acted

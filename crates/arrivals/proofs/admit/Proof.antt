@@ -1,9 +1,9 @@
 -- `arrivals::admit` meets its contract: each return is a law of what the judgement is there. Assumes nothing.
 use mathlib.Core.Path.{_≡_, sym, ap, _∙_}
 use Prim.Native.Nat.{ℕ}
-use native.Mathlib.Omega.{arith}
 use borrow.Author.Needs.{needs}
-use Rattle.ledger.specs.Ledger.{Packet, recorded, free, place#, arrivalOf}
+use Rattle.ledger.specs.Ledger.{Packet, recorded, free, place#}
+use Rattle.ledger.specs.Calls.{lacks}
 use Rattle.ledger.specs.Answers.{sentOf}
 use Rattle.header.specs.Parse.{headerOf}
 use Rattle.layout.specs.declared.Table.the-variants.{Head, Count}
@@ -46,18 +46,14 @@ queue-is : (c : tie.After-packet-of) → let a = c .before .before .before .befo
     c .packet-of .result .queue ≡ packetFor (settingsOf (a .s)) (a .m .now) (a .p) (headerOf (a .f)) .queue
 queue-is c = ap (λ (k : Packet). k .queue) (packet-is c)
 
-price-is : (c : tie.After-packet-of) → let a = c .before .before .before .before .args in
-    c .packet-of .result .price ≡ packetFor (settingsOf (a .s)) (a .m .now) (a .p) (headerOf (a .f)) .price
-price-is c = ap (λ (k : Packet). k .price) (packet-is c)
-
 cast-price : tie.Need-cast-price
 cast-price c = search needs
 
-cast-arrival : tie.Need-cast-arrival
-cast-arrival c = search needs
+cast-wanting : tie.Need-cast-wanting
+cast-wanting c = search needs
 
-arrival-requires : tie.Need-arrival-requires
-arrival-requires c κs =
+wanting-requires : tie.Need-wanting-requires
+wanting-requires c κs =
     let k = c .before .before in
     let st = k .before .before .before .before in
     let a = st .args in
@@ -68,14 +64,16 @@ arrival-requires c κs =
       queue = rw (queue-is k) (laws.queue-in (settingsOf (a .s)) _ (headerOf (a .f)) (st .pre .queue));
     }
 
--- the credit is that of its queue
-credit-is : (c : tie.After-arrival) → let a = c .before .before .before .before .before .before .before .args in
+-- what is asked is whether the packet's price can be paid
+lacks-is : (c : tie.After-wanting) → let a = c .before .before .before .before .before .before .before .args in
     let S = settingsOf (a .s) in
-    c .arrival .result ≡ arrivalOf S (ledgerIn S (a .m .now)) (a .p) (packetFor S (a .m .now) (a .p) (headerOf (a .f)) .queue)
-credit-is c =
+    let k = packetFor S (a .m .now) (a .p) (headerOf (a .f)) in
+    c .wanting .result ≡ lacks S (ledgerIn S (a .m .now)) (a .p) (k .queue) (k .price)
+lacks-is c =
     let k = c .before .before .before in
     let a = k .before .before .before .before .args in
-    c .arrival .ensures ∙ ap (arrivalOf (settingsOf (a .s)) (ledgerIn (settingsOf (a .s)) (a .m .now)) (a .p)) (queue-is k)
+    let S = settingsOf (a .s) in
+    c .wanting .ensures ∙ ap (λ (j : Packet). lacks S (ledgerIn S (a .m .now)) (a .p) (j .queue) (j .price)) (packet-is k)
 
 returns : tie.Need-returns
 returns c =
@@ -83,7 +81,7 @@ returns c =
     let st = k .before .before .before .before in
     let a = st .args in
     laws.no-credit (settingsOf (a .s)) (st .pre .priced .laid .roomy) (a .p) (st .pre .port) (a .m .now) (headerOf (a .f))
-    (omega (arith, c .if1 .taken, credit-is (c .before), price-is k))
+    (sym (lacks-is (c .before)) ∙ c .if1 .taken)
 
 count-requires : tie.Need-count-requires
 count-requires c κs = in-list (c .before .before .before .before .before .before)
@@ -102,7 +100,7 @@ returns-2 c =
     let st = k .before .before .before .before in
     let a = st .args in
     laws.no-node (settingsOf (a .s)) (st .pre .priced .laid .roomy) (a .p) (st .pre .port) (a .m .now) (headerOf (a .f))
-    (omega (arith, e .if1 .left, credit-is (e .before), price-is k))
+    (sym (lacks-is (e .before)) ∙ e .if1 .left)
     (sym (count-is (c .before)) ∙ c .if2 .taken)
 
 returns-3 : tie.Need-returns-3
@@ -113,7 +111,7 @@ returns-3 c =
     let a = st .args in
     ap accepted (packet-is k)
     ∙ laws.admits (settingsOf (a .s)) (st .pre .priced .laid .roomy) (a .p) (st .pre .port) (a .m .now) (headerOf (a .f))
-    (omega (arith, e .if1 .left, credit-is (e .before), price-is k))
+    (sym (lacks-is (e .before)) ∙ e .if1 .left)
     (λ z. c .if2 .left (count-is (c .before) ∙ z))
 
 pub admit-spec : {M : Type 1} → statement M
@@ -124,8 +122,8 @@ admit-spec =
     first-requires
     packet-of-requires
     cast-price
-    cast-arrival
-    arrival-requires
+    cast-wanting
+    wanting-requires
     returns
     count-requires
     returns-2

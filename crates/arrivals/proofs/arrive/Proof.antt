@@ -1,4 +1,5 @@
--- `arrivals::arrive` meets its contract: the judge decides, and the packet that it accepts is taken in. Assumes nothing.
+-- `arrivals::arrive` meets its contract: the judge decides; the packet that it accepts is taken in, else the port is halted if that is due.
+-- Assumes nothing.
 use mathlib.Core.Path.{sym, ap, _∙_}
 use borrow.Author.Needs.{needs}
 use Rattle.ledger.specs.Answers.{sentOf}
@@ -13,6 +14,9 @@ judge-arrive-requires c κs = search needs
 
 enum-known-admitted : tie.Need-enum-known-admitted
 enum-known-admitted c = search needs
+
+halt-requires : tie.Need-halt-requires
+halt-requires c κs = search needs
 
 enum-known-admitted-2 : tie.Need-enum-known-admitted-2
 enum-known-admitted-2 c = search needs
@@ -33,9 +37,12 @@ same-length c = search needs
 
 returns : tie.Need-returns
 returns c =
-    let j = c .before .before .before in
+    let halted = c .before .before in
+    let told = halted .before .before .before in
+    let j = told .before .before in
     let a = j .before .before .before .before .args in
-    sym (turned-away (settingsOf (a .s)) (a .m .now) (a .port) (a .h .now) _ (sym (ap admittedOf (c .before .admitted .given .1)) ∙ j .judge-arrive .ensures))
+    rw (halted .halt .ensures)
+    (sym (turned-away (settingsOf (a .s)) (a .m .now) (a .port) (a .h .now) _ (sym (ap admittedOf (told .admitted .given .1)) ∙ j .judge-arrive .ensures)))
 
 same-length-2 : tie.Need-same-length-2
 same-length-2 c = search needs
@@ -51,6 +58,7 @@ arrive-spec =
     (tie.spec
     judge-arrive-requires
     enum-known-admitted
+    halt-requires
     enum-known-admitted-2
     take-in-requires
     same-length

@@ -1,5 +1,5 @@
 -- `credits::credit` meets its contract: the judge decides, and where it lets the call go the sum is written. Assumes nothing.
-use mathlib.Core.Path.{sym, ap, _∙_}
+use mathlib.Core.Path.{refl, sym, ap, _∙_}
 use Prim.Native.Nat.{ℕ, _+_}
 use native.Mathlib.Omega.{arith}
 use borrow.Author.Needs.{needs}
@@ -56,7 +56,7 @@ returns : tie.Need-returns
 returns c =
     let j = c .before .before .before in
     let a = start j .args in
-    sym (acted-bad (settingsOf (a .s)) (a .m .now) (credit (a .port) (a .queue) (a .amount)) _
+    sym (acted-bad (settingsOf (a .s)) (a .m .now) (credit (a .port) (a .queue) (a .amount)) refl _
     (sym (j .judge-credit .ensures) ∙ ap judgementOf (c .before .verdict .given .1)))
 
 same-length-2 : tie.Need-same-length-2

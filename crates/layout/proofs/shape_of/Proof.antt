@@ -63,4 +63,5 @@ shape-of-spec =
     (λ c. omega (arith, small c))
     (λ c. omega (arith, small c))
     (λ c. omega (arith, small c))
+    (λ c. omega (arith, small c))
     returns)

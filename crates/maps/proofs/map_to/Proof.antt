@@ -1,5 +1,5 @@
 -- `maps::map_to` meets its contract: the judge decides, and where it lets the call go the entry is written. Assumes nothing.
-use mathlib.Core.Path.{sym, ap, _∙_}
+use mathlib.Core.Path.{refl, sym, ap, _∙_}
 use native.Mathlib.Omega.{arith}
 use borrow.Author.Needs.{needs}
 use Rattle.ledger.specs.Calls.{mapTo}
@@ -41,7 +41,7 @@ returns : tie.Need-returns
 returns c =
     let j = c .before .before .before in
     let a = start j .args in
-    sym (acted-bad (settingsOf (a .s)) (a .m .now) (mapTo (a .id) (a .port)) _ (sym (j .judge-map .ensures) ∙ ap judgementOf (c .before .verdict .given .1)))
+    sym (acted-bad (settingsOf (a .s)) (a .m .now) (mapTo (a .id) (a .port)) refl _ (sym (j .judge-map .ensures) ∙ ap judgementOf (c .before .verdict .given .1)))
 
 same-length-2 : tie.Need-same-length-2
 same-length-2 c = search needs

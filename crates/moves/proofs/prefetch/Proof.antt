@@ -1,5 +1,5 @@
 -- `moves::prefetch` meets its contract: the judge decides, and where it lets the call go the node is shifted. Assumes nothing.
-use mathlib.Core.Path.{_≡_, sym, ap, _∙_}
+use mathlib.Core.Path.{_≡_, refl, sym, ap, _∙_}
 use borrow.Author.Needs.{needs}
 use Rattle.ledger.specs.Calls.{prefetch}
 use Rattle.ledger.specs.Ledger.{egress, prefetched, place#}
@@ -66,7 +66,7 @@ returns c =
     let j = c .before .before .before in
     let a = j .before .before .before .args in
     let said = sym (j .judge-prefetch .ensures) ∙ ap judgementOf (c .before .verdict .given .1) in
-    sym (acted-bad (settingsOf (a .s)) (a .m .now) (prefetch (a .port) (a .queue)) _ said)
+    sym (acted-bad (settingsOf (a .s)) (a .m .now) (prefetch (a .port) (a .queue)) refl _ said)
 
 same-length-2 : tie.Need-same-length-2
 same-length-2 c = search needs

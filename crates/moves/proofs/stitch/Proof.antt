@@ -152,7 +152,7 @@ returns : tie.Need-returns
 returns c =
     let j = c .before .before .before in
     let st = j .before .before .before in
-    let e = acted-bad (S st) (m st) (stitch (st .args .port)) _ (sym (j .judge-stitch .ensures) ∙ ap judgementOf (c .before .verdict .given .1)) in
+    let e = acted-bad (S st) (m st) (stitch (st .args .port)) refl _ (sym (j .judge-stitch .ensures) ∙ ap judgementOf (c .before .verdict .given .1)) in
     (sym e, sym (ap (λ (out : Reply × List ℕ). recordIn (out .0)) e))
 
 same-length-2 : tie.Need-same-length-2

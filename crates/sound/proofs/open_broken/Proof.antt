@@ -1,4 +1,4 @@
--- `sound::open_broken` meets its contract: the marks and the map, then what the one walk tells. Assumes nothing.
+-- `sound::open_broken` meets its contract: the numbers, then what the one walk tells, then the marks. Assumes nothing.
 use mathlib.Core.Path.{sym, subst, _∙_}
 use borrow.Author.Needs.{needs}
 use Rattle.layout.specs.Tables.{settingsOf}
@@ -14,7 +14,7 @@ use Rattle.sound.proofs.open_broken.Tie as tie
 abbrev start : tie.After-enum-told → tie.Start
 start c = c .before .before .before .before
 
--- the marks and the map are in range
+-- the last served queues and the map are in range
 low : (c : tie.After-enum-told) → let b = start c in Low (settingsOf (b .args .s)) (b .args .m .now) (b .pre .laid .roomy)
 low c = sym (c .before .before .number-outside .ensures) ∙ c .enum-told .given .1
 
@@ -32,11 +32,13 @@ stuck-broken-requires c κs =
 
 returns-2 : tie.Need-returns-2
 returns-2 c =
-    let w = c .before .before in
+    let t = c .before in
+    let w = t .before .before in
     let b = start (w .before) in
-    sym
+    c .marks-broken .ensures
+    ∙ sym
     (kept-broken _ _ (b .pre .laid .roomy) (low (w .before))
-    (subst (Tells (settingsOf (b .args .s)) (b .args .m .now)) (c .enum-told2 .given .1) (w .one-walk .ensures)))
+    (subst (Tells (settingsOf (b .args .s)) (b .args .m .now)) (t .enum-told2 .given .1) (w .one-walk .ensures)))
 
 returns-4 : tie.Need-returns-4
 returns-4 c =
@@ -56,6 +58,7 @@ open-broken-spec =
     (λ c. search needs)
     (λ c κs. search needs)
     (λ c. search needs)
+    (λ c κs. search needs)
     (λ c. search needs)
     stuck-broken-requires
     (λ c. search needs)
