@@ -6,13 +6,13 @@ use mathlib.Core.List.{List}
 use Prim.Native.Nat.{ℕ}
 use native.Mathlib.Omega.{arith}
 use Rattle.ledger.specs.declared.Broken.{Broken}
-use Rattle.ledger.specs.declared.Broken.the-variants.{Nothing, A, B, C, D, E, F, G}
+use Rattle.ledger.specs.declared.Broken.the-variants.{Nothing, A, B, C, D, E, F, G, I}
 use Rattle.ledger.specs.Calls.{Reply}
 use Rattle.layout.specs.Picture.{opens, State}
 use Rattle.memory.specs.Repair.{repaired}
 use Rattle.memory.proofs.Repair.{repair-refused, repair-done}
 use Rattle.sound.specs.Sound.{brokenIn}
-use Rattle.findings.specs.Findings.{Letter, rule-a, rule-b, rule-c, rule-d, rule-e, rule-f, rule-g, letter#, Finds, Means}
+use Rattle.findings.specs.Findings.{Letter, rule-a, rule-b, rule-c, rule-d, rule-e, rule-f, rule-g, rule-i, letter#, Finds, Means}
 use Rattle.findings.proofs.Findings.{numbered, letter-one, finding-means, finding-a, finding-none}
 use Rattle.rooms.specs.Rooms.{numberIn, ruleNumber, itemNumber, foundNumbers}
 
@@ -33,6 +33,7 @@ module _ (m : List ℕ) (x : Letter) (i : ℕ) where
   by-number (E j) f e = told rule-e j f e
   by-number (F j) f e = told rule-f j f e
   by-number (G j) f e = told rule-g j f e
+  by-number (I j) f e = told rule-i j f e
 
   -- the number of a rule, and an item: that rule is the first that is broken, and that item the first that shows it
   pub vr-find-means : foundNumbers (brokenIn m) ≡ (letter# x, i) → Finds x i m
@@ -47,6 +48,7 @@ nothing (D j) e = absurd (omega arith)
 nothing (E j) e = absurd (omega arith)
 nothing (F j) e = absurd (omega arith)
 nothing (G j) e = absurd (omega arith)
+nothing (I j) e = absurd (omega arith)
 
 -- rule 0 and item 0 exactly if the memory is a switch state
 pub vr-find-none : (m : List ℕ) → (foundNumbers (brokenIn m) ≡ (0, 0)) ↔ State m

@@ -30,6 +30,8 @@ use Rattle.capi.proofs.vr_find
 use Rattle.capi.proofs.vr_repair
 use Rattle.capi.proofs.vr_read_header
 use Rattle.capi.proofs.vr_write_header
+use Rattle.capi.proofs.vr_clear
+use Rattle.capi.proofs.vr_report
 
 pub vr-size-one : OneOutcome vr_size.ended vr_size.Reads.Learnt
 vr-size-one κs a r r₂ left left₂ p q = (p ∙ sym q, refl)
@@ -61,7 +63,13 @@ vr-round-one κs a r r₂ left left₂ p q = roomed (λ m x. (m, (x, tt))) p q
 pub vr-repair-one : OneOutcome vr_repair.ended vr_repair.Reads.Learnt
 vr-repair-one κs a r r₂ left left₂ p q = parted (λ m. (m, left .1)) p q
 
+pub vr-clear-one : OneOutcome vr_clear.ended vr_clear.Reads.Learnt
+vr-clear-one κs a r r₂ left left₂ p q = parted (λ m. (m, left .1)) p q
+
 -- the memory of these is lent for reading only: what is left is the rooms
+pub vr-report-one : OneOutcome vr_report.ended vr_report.Reads.Learnt
+vr-report-one κs a r r₂ left left₂ p q = parted (λ x. (tt, (tt, (x, tt)))) p q
+
 pub vr-ready-one : OneOutcome vr_ready.ended vr_ready.Reads.Learnt
 vr-ready-one κs a r r₂ left left₂ p q = parted (λ x. (tt, (tt, (x .0, (x .1, tt))))) p q
 

@@ -1,12 +1,12 @@
 -- What a C caller may count on, read off the contracts' definitions. Assumes nothing.
 use mathlib.Core.Path.{_≡_, refl}
-use mathlib.Core.Bool.{true}
+use mathlib.Core.Bool.{true, false}
 use mathlib.Core.List.{List}
 use Prim.Native.Nat.{ℕ, _≤_}
 use native.Mathlib.Omega.{arith}
 use Rattle.ledger.specs.Settings.{Settings, row, size}
-use Rattle.ledger.specs.Calls.{Reply, refused, done, entry, stitched, idle, leaves, word, found, isRefused}
-use Rattle.ledger.specs.Desk.{Call}
+use Rattle.ledger.specs.Calls.{Reply, refused, done, entry, stitched, idle, leaves, word, found, reported, arrive, isRefused}
+use Rattle.ledger.specs.Desk.{Call, act, isArrivalCall}
 use Rattle.ledger.specs.Answers.{numberOf}
 use Rattle.ledger.specs.declared.Refusal.{Refusal}
 use Rattle.ledger.specs.declared.Refusal.the-variants.{ShortMemory, BadSetting, NoState, NoPort, NoQueue, HeaderSize, Checksum, Source, TooShort}
@@ -16,7 +16,10 @@ use Rattle.memory.specs.Memory.{M}
 use Rattle.memory.specs.Rounds.{roundOn}
 use Rattle.memory.specs.Audit.{auditOn}
 use Rattle.memory.specs.Repair.{repaired}
+use Rattle.layout.specs.Picture.{settingsIn}
+use Rattle.memory.specs.Marks.{ButTheMark}
 use Rattle.memory.proofs.Square.{refusal-keeps-bytes}
+use Rattle.memory.proofs.Marks.{refusal-but-the-mark}
 use Rattle.memory.proofs.Rounds.{refused-round-keeps}
 use Rattle.memory.proofs.Audit.{refused-audit-keeps}
 use Rattle.memory.proofs.Door.{refused-repair-keeps}
@@ -25,7 +28,7 @@ use Rattle.codec.specs.Label.{Label, Answer}
 use Rattle.codec.specs.Reader.{reads}
 use Rattle.codec.specs.Writer.{writes}
 use Rattle.labels.specs.Labels.{labelRoom, headerRoom}
-use Rattle.rooms.specs.Rooms.{numberIn, told, toldIn, toldRound, entryRoom, recordRoom, sentRoom, readyRoom}
+use Rattle.rooms.specs.Rooms.{numberIn, told, toldIn, toldRound, entryRoom, recordRoom, sentRoom, readyRoom, markRoom}
 use Rattle.ledger.specs.Audit.{placeRoom}
 
 -- 0 is no refusal's number: an answer of 0 says that the call was done
@@ -54,10 +57,10 @@ never-zero ShortRoom = omega arith
 abbrev Keeps : {A : Type 0} → (Reply → A → A) → Type 0
 Keeps {A} room = (n : ℕ) (old : A) → room (refused n) old ≡ old
 
-pub rooms-kept : Keeps entryRoom × Keeps recordRoom × Keeps sentRoom × Keeps readyRoom × ((y : ℕ) → Keeps (placeRoom y))
-rooms-kept = (λ n old. refl, λ n old. refl, λ n old. refl, λ n old. refl, λ y n old. refl)
+pub rooms-kept : Keeps entryRoom × Keeps recordRoom × Keeps sentRoom × Keeps readyRoom × Keeps markRoom × ((y : ℕ) → Keeps (placeRoom y))
+rooms-kept = (λ n old. refl, λ n old. refl, λ n old. refl, λ n old. refl, λ n old. refl, λ y n old. refl)
 
--- where the answer is not 0, no byte that was lent differs
+-- where the answer is not 0, no byte that was lent differs, but the mark of the port at which an arrival was refused (paper 02, Q-9)
 module _ {A : Type 0} (room : Reply → A → A) (kept : Keeps room) where
   refusal-only : (x : Reply) (old : A) → (numberIn x ≡ 0 → ⊥) → (isRefused x ≡ true) × (room x old ≡ old)
   refusal-only (refused n) old h = (refl, kept n old)
@@ -68,11 +71,31 @@ module _ {A : Type 0} (room : Reply → A → A) (kept : Keeps room) where
   refusal-only (leaves k s) old h = absurd (h refl)
   refusal-only (word w n) old h = absurd (h refl)
   refusal-only (found v i) old h = absurd (h refl)
+  refusal-only (reported n) old h = absurd (h refl)
 
-  pub nothing-differs : (c : Call) (m : List ℕ) (old : A) → (numberIn (M c m .0) ≡ 0 → ⊥) → toldIn room old (M c m) ≡ (numberIn (M c m .0), m, old)
-  nothing-differs c m old h =
+  pub nothing-differs : (c : Call) → isArrivalCall c ≡ false → (m : List ℕ) (old : A) → (numberIn (M c m .0) ≡ 0 → ⊥)
+      → toldIn room old (M c m) ≡ (numberIn (M c m .0), m, old)
+  nothing-differs c other m old h =
       let l = refusal-only (M c m .0) old h in
-      rw (refusal-keeps-bytes c m (l .0), l .1)
+      rw (refusal-keeps-bytes c m other (l .0), l .1)
+
+-- of an arrival: the room is as it was, and of the memory at most the arriving port's mark differs
+numbered-reply : (x : Reply) → (numberIn x ≡ 0 → ⊥) → x ≡ refused (numberIn x)
+numbered-reply (refused n) h = refl
+numbered-reply done h = absurd (h refl)
+numbered-reply (entry x) h = absurd (h refl)
+numbered-reply (stitched b) h = absurd (h refl)
+numbered-reply idle h = absurd (h refl)
+numbered-reply (leaves k s) h = absurd (h refl)
+numbered-reply (word w n) h = absurd (h refl)
+numbered-reply (found v i) h = absurd (h refl)
+numbered-reply (reported n) h = absurd (h refl)
+
+pub but-the-mark : (p : ℕ) (h m : List ℕ) (old : ℕ) → (numberIn (M (act (arrive p h)) m .0) ≡ 0 → ⊥) → let out = toldIn entryRoom old (M (act (arrive p h)) m) in
+    ButTheMark (settingsIn m) p (out .0) m (out .1) × (out .2 ≡ old)
+but-the-mark p h m old k =
+    let e = numbered-reply (M (act (arrive p h)) m .0) k in
+    (refusal-but-the-mark p h m _ e, refusal-only entryRoom (λ n o. refl) (M (act (arrive p h)) m .0) old k .1)
 
 -- and of a round, neither memory nor room
 pub nothing-differs-round : (m room : List ℕ) → (numberIn (roundOn m room .0) ≡ 0 → ⊥) → toldRound (roundOn m room) ≡ (numberIn (roundOn m room .0), m, room)

@@ -5,7 +5,7 @@ use settings::Settings;
 ghost use mathlib.Core.Path.{_≡_};
 ghost use mathlib.Core.List.{List};
 ghost use Prim.Native.Nat.{ℕ};
-ghost use Rattle.ledger.specs.Calls.{arrive, stitch, prefetch, credit, mapTo, turn, ready, whereIs};
+ghost use Rattle.ledger.specs.Calls.{arrive, stitch, prefetch, credit, mapTo, turn, ready, whereIs, clear, report};
 ghost use Rattle.settings.specs.Told.{toldSettings};
 ghost use Rattle.ledger.specs.Desk.{setup, act};
 ghost use Rattle.memory.specs.Memory.{M};
@@ -16,7 +16,7 @@ ghost use Rattle.sound.specs.Sound.{brokenIn};
 ghost use Rattle.codec.specs.Reader.{reads};
 ghost use Rattle.codec.specs.Writer.{writes};
 ghost use Rattle.labels.specs.Labels.{labelAt, labelRoom, headerRoom};
-ghost use Rattle.rooms.specs.Rooms.{told, toldIn, toldRound, shown, entryRoom, recordRoom, sentRoom, readyRoom, foundNumbers};
+ghost use Rattle.rooms.specs.Rooms.{told, toldIn, toldRound, shown, entryRoom, recordRoom, sentRoom, readyRoom, markRoom, foundNumbers};
 ghost use Rattle.ledger.specs.Audit.{placeRoom};
 ghost use Rattle.capi.specs.Size.{settingsAt, sizeFor};
 
@@ -181,4 +181,18 @@ pub extern "C" fn vr_write_header(
     let label = labels::label_at(fields);
     let written = codec::write(edition, ports, queues, label);
     labels::put_header(written, room, size)
+}
+
+#[no_mangle]
+pub extern "C" fn vr_clear(mem: &mut [u8], port: u32) -> u32
+    ensures { λ r. ⌜ _≡_ {A = ℕ × List ℕ} (r, now (mem .exit)) (told (M (act (clear port)) (now (mem .entry)))) ⌝ }
+{
+    rooms::plain(switch::clear(mem, port))
+}
+
+#[no_mangle]
+pub extern "C" fn vr_report(mem: &[u8], port: u32, mark: &mut u32) -> u32
+    ensures { λ r. ⌜ _≡_ {A = ℕ × ℕ} (r, now (mark .exit)) (shown markRoom (now (mark .entry)) (M (act (report port)) (now (mem .entry)) .0)) ⌝ }
+{
+    rooms::put_report(switch::report(mem, port), mark)
 }

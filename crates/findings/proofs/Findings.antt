@@ -10,7 +10,7 @@ use lib.ListN.{getD}
 use Rattle.ledger.specs.declared.Finding.{Finding}
 use Rattle.ledger.specs.declared.Finding.the-variants.{Whole as whole, At}
 use Rattle.ledger.specs.declared.Broken.{Broken}
-use Rattle.ledger.specs.declared.Broken.the-variants.{Nothing, A, B, C, D, E, F, G}
+use Rattle.ledger.specs.declared.Broken.the-variants.{Nothing, A, B, C, D, E, F, G, I}
 use Rattle.ledger.proofs.Tests.{true≢false}
 use Rattle.layout.specs.Picture.{settingsIn, opens, State}
 use Rattle.memory.proofs.Picture.{opens-means}
@@ -25,20 +25,22 @@ use Rattle.fits.proofs.Means.{fits-means}
 use Rattle.paid.specs.Paid.{paidFound}
 use Rattle.paid.specs.Passes.{Payable}
 use Rattle.paid.proofs.Owing.{paid-means}
-use Rattle.sound.specs.Sound.{orNext, nodesBroken, openBroken, brokenIn}
+use Rattle.halts.specs.Marks.{marksFound}
+use Rattle.halts.proofs.Laws.{marks-mean}
+use Rattle.sound.specs.Sound.{orNext, marksBroken, nodesBroken, openBroken, brokenIn}
 use Rattle.sound.proofs.Means.{shaped}
-use Rattle.findings.specs.Findings.{Letter, rule-a, rule-b, rule-c, rule-d, rule-e, rule-f, rule-g, letter#, Holds, FirstItem, Finds, Means}
-use Rattle.findings.proofs.Items.{setting-first, range-first, list-first, node-first, cell-first, first-one, node-one}
+use Rattle.findings.specs.Findings.{Letter, rule-a, rule-b, rule-c, rule-d, rule-e, rule-f, rule-g, rule-i, letter#, Holds, FirstItem, Finds, Means}
+use Rattle.findings.proofs.Items.{setting-first, range-first, list-first, node-first, cell-first, mark-first, first-one, node-one}
 use Rattle.findings.proofs.Shows.{room, item-shows}
 
 -- ---- letters and their numbers
 
 letterAt : ℕ → Letter
-letterAt n = getD (rule-a ∷ rule-a ∷ rule-b ∷ rule-c ∷ rule-d ∷ rule-e ∷ rule-f ∷ rule-g ∷ []) n rule-a
+letterAt n = getD (rule-a ∷ rule-a ∷ rule-b ∷ rule-c ∷ rule-d ∷ rule-e ∷ rule-f ∷ rule-g ∷ rule-a ∷ rule-i ∷ []) n rule-a
 
 pub record Numbered (r : Letter) : Type 0 where
   pub low : 1 ≤ letter# r
-  high : letter# r ≤ 7
+  high : letter# r ≤ 9
   back : letterAt (letter# r) ≡ r
 
 pub numbered : (r : Letter) → Numbered r
@@ -50,6 +52,7 @@ numbered rule-d = record { low = omega arith; high = omega arith; back = refl }
 numbered rule-e = record { low = omega arith; high = omega arith; back = refl }
 numbered rule-f = record { low = omega arith; high = omega arith; back = refl }
 numbered rule-g = record { low = omega arith; high = omega arith; back = refl }
+numbered rule-i = record { low = omega arith; high = omega arith; back = refl }
 
 pub letter-one : (q r : Letter) → letter# q ≡ letter# r → q ≡ r
 letter-one q r e = sym (numbered q .back) ∙ ap letterAt e ∙ numbered r .back
@@ -87,6 +90,7 @@ module _ (m : List ℕ) where
         proper = h rule-f;
         paid = h rule-g;
       };
+      marked = h rule-i;
     };
   }
 
@@ -98,6 +102,7 @@ module _ (m : List ℕ) where
   state-holds s rule-e = s .sound .orderly .queued
   state-holds s rule-f = s .sound .orderly .proper
   state-holds s rule-g = s .sound .orderly .paid
+  state-holds s rule-i = s .sound .marked
 
   pub all-hold : ((r : Letter) → Holds r m) ↔ State m
   all-hold = (holds-state, state-holds)
@@ -110,6 +115,17 @@ module _ (m : List ℕ) where
   ask r whole rule next says b means item rest = rest (one-more r b (means refl))
   ask r (At i) rule next says b means item rest = says i (record { before = b; broken = item-shows m r i b (item i refl); first = item i refl })
 
+  -- (h) is not asked yet
+  none-between : (q : Letter) → letter# q < 9 → letter# q < 8
+  none-between rule-a l = omega arith
+  none-between rule-b l = omega arith
+  none-between rule-c l = omega arith
+  none-between rule-d l = omega arith
+  none-between rule-e l = omega arith
+  none-between rule-f l = omega arith
+  none-between rule-g l = omega arith
+  none-between rule-i l = absurd (omega arith)
+
   module _ (o : opens m ≡ true) where
     payable : Before 7 → Payable (settingsIn m) m
     payable b =
@@ -119,11 +135,16 @@ module _ (m : List ℕ) where
           proper = b rule-f (omega arith);
         }
 
-    from-g : Before 7 → Means (orNext (paidFound (settingsIn m) m) G Nothing) m
+    from-i : Before 9 → Means (marksBroken (settingsIn m) m) m
+    from-i b =
+        let S = settingsIn m in
+        ask rule-i (marksFound S m) I Nothing (λ i f. f) b (marks-mean S m .0) (mark-first S m) (λ h. holds-state (λ q. h q (omega (arith, numbered q .high))))
+
+    from-g : Before 7 → Means (orNext (paidFound (settingsIn m) m) G (marksBroken (settingsIn m) m)) m
     from-g b =
         let S = settingsIn m in
-        ask rule-g (paidFound S m) G Nothing (λ i f. f) b (paid-means S m (room m o) (payable b) .0) (cell-first S m (room m o) (payable b))
-        (λ h. holds-state (λ q. h q (omega (arith, numbered q .high))))
+        ask rule-g (paidFound S m) G _ (λ i f. f) b (paid-means S m (room m o) (payable b) .0) (cell-first S m (room m o) (payable b))
+        (λ h. from-i (λ q l. h q (none-between q l)))
 
     from-d : Before 4 → Means (nodesBroken (settingsIn m) m) m
     unfolding nodesBroken
@@ -164,6 +185,7 @@ module _ (m : List ℕ) where
   item-one rule-e i j f g = node-one _ _ f g
   item-one rule-f i j f g = node-one _ _ f g
   item-one rule-g i j f g = first-one f g
+  item-one rule-i i j f g = first-one f g
 
   tell : Letter → ℕ → Broken
   tell rule-a = A
@@ -173,6 +195,7 @@ module _ (m : List ℕ) where
   tell rule-e = E
   tell rule-f = F
   tell rule-g = G
+  tell rule-i = I
 
   -- a finding is none, of a switch state, or tells of a rule and an item
   abbrev Told : Broken → Type 0
@@ -188,6 +211,7 @@ module _ (m : List ℕ) where
   told (E i) w = inr (rule-e, i, w, refl)
   told (F i) w = inr (rule-f, i, w, refl)
   told (G i) w = inr (rule-g, i, w, refl)
+  told (I i) w = inr (rule-i, i, w, refl)
 
   one-letter : (q r : Letter) (i j : ℕ) → Finds q i m → Finds r j m → q ≡ r
   one-letter q r i j f g = go (decLt (letter# q) (letter# r)) (decLt (letter# r) (letter# q))

@@ -13,14 +13,17 @@ use Rattle.ledger.specs.declared.Finding.{Finding}
 use Rattle.ledger.specs.declared.Finding.the-variants.{Whole, At}
 use Rattle.ledger.specs.Settings.{Settings, settingCount, inRow, inRows, firstOut, ids, size}
 use Rattle.ledger.specs.Ledger.{Packet, placeOf}
+use Rattle.ledger.specs.Halt.{isMark}
 use Rattle.ledger.specs.Sound.{All, weigh, one, Roomy}
 use Rattle.ledger.specs.Audit.{nodeAt}
 use Rattle.ledger.proofs.Tests.{true≢false, ltb-yes, ltb-no, eqb-is}
 use Rattle.ledger.proofs.Rows.{rows-out}
-use Rattle.layout.specs.Tables.{cells, lists, all}
+use Rattle.layout.specs.declared.Table.the-variants.{Halted}
+use Rattle.layout.specs.Tables.{cells, lists, all, get}
 use Rattle.layout.specs.Picture.{settingsIn, opens, nodeIn, ledgerIn}
 use Rattle.memory.proofs.Chains.{item-node, length-lists, list-at}
 use Rattle.memory.proofs.Picture.{opens-means}
+use Rattle.parts.proofs.Laws.{mark-is}
 use Rattle.ranges.specs.First.{first}
 use Rattle.ranges.specs.Opening.{outAt}
 use Rattle.ranges.specs.Ranges.{items, fitsAt, rangesFound}
@@ -35,7 +38,8 @@ use Rattle.fits.proofs.FirstItem.{fits-first}
 use Rattle.paid.specs.Paid.{sumsOf, settledAt, dueFound, paidFound}
 use Rattle.paid.specs.Passes.{Payable}
 use Rattle.paid.proofs.Owing.{cell-means}
-use Rattle.findings.specs.Findings.{SettingRight, RangeRight, ListRight, CellRight, FirstOf, FirstNode}
+use Rattle.halts.specs.Marks.{marksFound}
+use Rattle.findings.specs.Findings.{SettingRight, RangeRight, ListRight, CellRight, MarkRight, FirstOf, FirstNode}
 
 -- ---- (a)
 
@@ -167,6 +171,15 @@ module _ (S : Settings) (m : List ℕ) where
   unfolding dueFound
   cell-first R P i e =
       let f = first-wrong (settledAt S m (sumsOf S m)) (CellRight S (ledgerIn S m)) (cells S) (cell-means S m R P) i e in
+      record { inside = f .0; wrong = f .1; before = f .2 }
+
+  -- ---- (i)
+
+  pub mark-first : (i : ℕ) → marksFound S m ≡ At i → FirstOf (MarkRight (ledgerIn S m)) (S .ports) i
+  unfolding marksFound
+  mark-first i e =
+      let f = first-wrong (λ p. isMark (get S m Halted p)) (MarkRight (ledgerIn S m)) (S .ports)
+      (λ p h. (λ t. ap isMark (mark-is S m p h) ∙ t, λ t. ap isMark (sym (mark-is S m p h)) ∙ t)) i e in
       record { inside = f .0; wrong = f .1; before = f .2 }
 
 -- ---- there is one first item

@@ -22,7 +22,7 @@ use Rattle.ranges.specs.First.{first}
 use Rattle.ranges.proofs.First.{first-all}
 use Rattle.ranges.proofs.FirstItem.{first-wrong, foundOr, first-out}
 use Rattle.memory.proofs.Audit.{node-at}
-use Rattle.findings.specs.Findings.{Letter, rule-a, rule-b, rule-c, rule-d, rule-e, rule-f, rule-g, letter#, ledgerOf, Holds, FirstItem}
+use Rattle.findings.specs.Findings.{Letter, rule-a, rule-b, rule-c, rule-d, rule-e, rule-f, rule-g, rule-i, letter#, ledgerOf, Holds, FirstItem}
 use Rattle.findings.specs.Findings.{SettingRight, RangeRight, ListRight, CellRight, FirstNode, Settled}
 use Rattle.findings.proofs.Items.{All-middle}
 
@@ -94,3 +94,4 @@ item-shows m rule-d i b f h = no-node f h
 item-shows m rule-e i b f h = no-node f h
 item-shows m rule-f i b f h = no-node f h
 item-shows m rule-g i b f h = f .wrong (cell-right (settingsIn m) (room m (b rule-a (omega arith))) (ledgerOf m) h i (f .inside))
+item-shows m rule-i i b f h = f .wrong (h i (f .inside))

@@ -1,4 +1,4 @@
--- Paper 02, Q-11: what a finding says. The first rule of soundness that a memory breaks, "(a) to (g)" of paper 01 in their order, and the
+-- Paper 02, Q-11: what a finding says. The first rule of soundness that a memory breaks, "(a) to (i)" in their order, and the
 -- first item that shows it, in words of the ledger that the memory shows and none of the walks that look for it. Assumes nothing.
 use mathlib.Core.Path.{_≡_}
 use mathlib.Core.Bool.{true}
@@ -6,19 +6,21 @@ use mathlib.Core.List.{List, [], _∷_, _++_}
 use Prim.Native.Nat.{ℕ, suc, _+_, _-_, _*_, _/_, _%_, _≤_, _<_}
 use lib.ListN.{length, getD, take}
 use Rattle.ledger.specs.declared.Broken.{Broken}
-use Rattle.ledger.specs.declared.Broken.the-variants.{Nothing, A, B, C, D, E, F, G}
+use Rattle.ledger.specs.declared.Broken.the-variants.{Nothing, A, B, C, D, E, F, G, I}
 use Rattle.ledger.specs.Settings.{Settings, settingCount, inRow, ids, size}
-use Rattle.ledger.specs.Ledger.{isNode, Packet, Place, prefetched, placeOf, Ledger, listAt, arrivalOf, lastOf, mapOf}
+use Rattle.ledger.specs.Ledger.{isNode, Packet, Place, prefetched, placeOf, Ledger, listAt, arrivalOf, lastOf, mapOf, markOf}
+use Rattle.ledger.specs.Halt.{isMark}
 use Rattle.ledger.specs.Ready.{bit}
-use Rattle.ledger.specs.Sound.{All, Everywhere, weigh, InRange, one, Once, OwnPort, OwnQueue, WellRecorded, owed}
+use Rattle.ledger.specs.Sound.{All, Everywhere, weigh, InRange, one, Once, OwnPort, OwnQueue, WellRecorded, owed, Marked}
 use Rattle.ledger.specs.Audit.{nodeAt}
 use Rattle.layout.specs.Tables.{cells, lists, all}
 use Rattle.layout.specs.Picture.{settingsIn, opens, ledgerIn, Hangs, State}
 
 -- ---- the rules, by their letters
 
+-- (h) comes with a later request, and keeps its number
 pub data Letter : Type 0 where
-  rule-a rule-b rule-c rule-d rule-e rule-f rule-g : Letter
+  rule-a rule-b rule-c rule-d rule-e rule-f rule-g rule-i : Letter
 
 abbrev pub letter# : Letter → ℕ
 letter# rule-a = 1
@@ -28,6 +30,7 @@ letter# rule-d = 4
 letter# rule-e = 5
 letter# rule-f = 6
 letter# rule-g = 7
+letter# rule-i = 9
 
 -- the ledger that a memory shows by its own settings
 abbrev pub ledgerOf : List ℕ → Ledger
@@ -50,6 +53,7 @@ Holds rule-d m = Everywhere (placed OwnPort (settingsIn m)) (ledgerOf m .lists)
 Holds rule-e m = Everywhere (placed OwnQueue (settingsIn m)) (ledgerOf m .lists)
 Holds rule-f m = Everywhere (placed (WellRecorded (settingsIn m)) (settingsIn m)) (ledgerOf m .lists)
 Holds rule-g m = (p q : ℕ) → p < settingsIn m .ports → 0 < q → q < settingsIn m .queues → Settled (settingsIn m) (ledgerOf m) p q
+Holds rule-i m = Marked (settingsIn m) (ledgerOf m)
 
 -- ---- the items of a rule, in their order, and what is right of each
 
@@ -75,6 +79,10 @@ pub record ListRight (S : Settings) (m : List ℕ) (i : ℕ) : Type 0 where
 -- (g) the ports and their queues but 0
 abbrev pub CellRight : Settings → Ledger → ℕ → Type 0
 CellRight S L i = Settled S L (i / (S .queues - 1)) (suc (i % (S .queues - 1)))
+
+-- (i) the ports
+abbrev pub MarkRight : Ledger → ℕ → Type 0
+MarkRight L p = isMark (markOf L p) ≡ true
 
 -- ---- the first item that is not right
 
@@ -105,6 +113,7 @@ FirstItem rule-d m = FirstNode (placed OwnPort (settingsIn m)) (ledgerOf m .list
 FirstItem rule-e m = FirstNode (placed OwnQueue (settingsIn m)) (ledgerOf m .lists)
 FirstItem rule-f m = FirstNode (placed (WellRecorded (settingsIn m)) (settingsIn m)) (ledgerOf m .lists)
 FirstItem rule-g m = let S = settingsIn m in FirstOf (CellRight S (ledgerOf m)) (cells S)
+FirstItem rule-i m = FirstOf (MarkRight (ledgerOf m)) (settingsIn m .ports)
 
 -- ---- a finding
 
@@ -123,3 +132,4 @@ Means (D i) m = Finds rule-d i m
 Means (E i) m = Finds rule-e i m
 Means (F i) m = Finds rule-f i m
 Means (G i) m = Finds rule-g i m
+Means (I i) m = Finds rule-i i m

@@ -134,6 +134,14 @@ pub get-put : (S : Settings) (m : List ℕ) (t : Table) (i v : ℕ) → size S �
 unfolding get put
 get-put S m t i v long h small = number-stored-small (width t) m (place S t i) v (omega (arith, within S t i h)) small
 
+-- where an element is a byte, storing one sets it
+pub put-byte : (S : Settings) (t : Table) (i v : ℕ) (m : List ℕ) → width t ≡ 1 → v < 256 → put S t i v m ≡ set m (startOf S t + i) v
+unfolding put store
+put-byte S t i v m one small =
+    let at : startOf S t + i * 1 ≡ startOf S t + i = omega arith in
+    let low : v / 1 % 256 ≡ v = omega arith in
+    rw (one, at, low)
+
 pub get-put-else : (S : Settings) (m : List ℕ) (t : Table) (i v : ℕ) (r : Table) (j : ℕ)
     → i < many S t → j < many S r → (t ≡ r → i ≡ j → ⊥) → get S (put S t i v m) r j ≡ get S m r j
 unfolding get put

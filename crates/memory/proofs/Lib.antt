@@ -9,6 +9,7 @@ pub mod Picture
 pub mod Image
 pub mod Repair
 pub mod Square
+pub mod Marks
 pub mod Demands
 pub mod Past
 pub mod Judged

@@ -2,6 +2,7 @@ pub mod Ends
 pub mod Writes
 pub mod Image
 pub mod Memory
+pub mod Marks
 pub mod Demands
 pub mod Audit
 pub mod Repair

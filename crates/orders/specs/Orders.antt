@@ -5,7 +5,7 @@ use lib.ListN.{take, drop}
 use Rattle.numbers.specs.Bytes.{number}
 use Rattle.ledger.specs.Settings.{settings}
 use Rattle.ledger.specs.Calls as act
-use Rattle.ledger.specs.Calls.{Reply, refused, done, entry, stitched, idle, leaves, word, found}
+use Rattle.ledger.specs.Calls.{Reply, refused, done, entry, stitched, idle, leaves, word, found, reported}
 use Rattle.ledger.specs.Desk as desk
 use Rattle.fields.specs.declared.Order.{Order}
 use Rattle.fields.specs.declared.Order.the-variants.{Setup, Arrive, Stitch, Prefetch, Turn, Credit, Map}
@@ -42,6 +42,7 @@ saidOf idle = Idle
 saidOf (leaves k s) = Node (k .node)
 saidOf (word w n) = Done
 saidOf (found v i) = Done
+saidOf (reported n) = Done
 
 -- the line and the memory after a call
 abbrev pub carried : Reply × List ℕ → Said × List ℕ

@@ -5,8 +5,8 @@ use Prim.Native.Nat.{ℕ, _/_, _%_, _^_}
 use lib.ListN.{set}
 use Rattle.ledger.specs.Ledger.{Packet}
 use Rattle.ledger.specs.declared.Broken.{Broken}
-use Rattle.ledger.specs.declared.Broken.the-variants.{Nothing, A, B, C, D, E, F, G}
-use Rattle.ledger.specs.Calls.{Side, inside, outside, Reply, refused, done, entry, stitched, idle, leaves, word, found}
+use Rattle.ledger.specs.declared.Broken.the-variants.{Nothing, A, B, C, D, E, F, G, I}
+use Rattle.ledger.specs.Calls.{Side, inside, outside, Reply, refused, done, entry, stitched, idle, leaves, word, found, reported}
 
 -- the refusal's number; 0 for any other reply
 abbrev pub numberIn : Reply → ℕ
@@ -18,6 +18,7 @@ numberIn idle = 0
 numberIn (leaves k s) = 0
 numberIn (word w n) = 0
 numberIn (found v i) = 0
+numberIn (reported n) = 0
 
 -- what a call answers and leaves: the number and the memory
 abbrev pub told : Reply × List ℕ → ℕ × List ℕ
@@ -46,6 +47,7 @@ entryRoom idle old = old
 entryRoom (leaves k s) old = old
 entryRoom (word w n) old = old
 entryRoom (found v i) old = old
+entryRoom (reported n) old = old
 
 -- ---- stitch: the ten bytes of the record
 
@@ -58,6 +60,7 @@ recordRoom idle old = old
 recordRoom (leaves k s) old = old
 recordRoom (word w n) old = old
 recordRoom (found v i) old = old
+recordRoom (reported n) old = old
 
 -- ---- turn: sixteen bytes
 
@@ -82,6 +85,7 @@ sentRoom idle old = set old 0 0
 sentRoom (leaves k s) old = sentBytes k s
 sentRoom (word w n) old = old
 sentRoom (found v i) old = old
+sentRoom (reported n) old = old
 
 -- ---- ready: the word and the count
 
@@ -94,6 +98,20 @@ readyRoom idle old = old
 readyRoom (leaves k s) old = old
 readyRoom (word w n) old = (w, n)
 readyRoom (found v i) old = old
+readyRoom (reported n) old = old
+
+-- ---- report: the mark
+
+abbrev pub markRoom : Reply → ℕ → ℕ
+markRoom (refused n) old = old
+markRoom done old = old
+markRoom (entry x) old = old
+markRoom (stitched b) old = old
+markRoom idle old = old
+markRoom (leaves k s) old = old
+markRoom (word w n) old = old
+markRoom (found v i) old = old
+markRoom (reported n) old = n
 
 -- ---- find: the rule's number, 1 for (a) and so on, and the item; 0 and 0 where no rule is broken
 
@@ -106,6 +124,7 @@ ruleNumber (D i) = 4
 ruleNumber (E i) = 5
 ruleNumber (F i) = 6
 ruleNumber (G i) = 7
+ruleNumber (I i) = 9
 
 abbrev pub itemNumber : Broken → ℕ
 itemNumber Nothing = 0
@@ -116,6 +135,7 @@ itemNumber (D i) = i
 itemNumber (E i) = i
 itemNumber (F i) = i
 itemNumber (G i) = i
+itemNumber (I i) = i
 
 abbrev pub foundNumbers : Broken → ℕ × ℕ
 foundNumbers b = (ruleNumber b, itemNumber b)

@@ -8,14 +8,15 @@ use ledger::ListKind;
 use ledger::Plain;
 use ledger::Readiness;
 use ledger::Refusal;
+use ledger::Reported;
 use ledger::Sent;
 use ledger::Turned;
 use ledger::Whereabouts;
 ghost use mathlib.Core.Path.{_≡_};
 ghost use Prim.Native.Nat.{ℕ};
-ghost use Rattle.ledger.specs.Answers.{numberOf, kindOf, exitOf, sentOf, plainReply, stitchReply, entryReply, turnReply, readyReply, whereReply};
+ghost use Rattle.ledger.specs.Answers.{numberOf, kindOf, exitOf, sentOf, plainReply, stitchReply, entryReply, turnReply, readyReply, whereReply, reportReply};
 ghost use Rattle.ledger.specs.Ledger.{portOf, kindIn, queueIn};
-ghost use Rattle.rooms.specs.Rooms.{numberIn, entryRoom, recordRoom, sideByte, sentBytes, sentRoom, readyRoom};
+ghost use Rattle.rooms.specs.Rooms.{numberIn, entryRoom, recordRoom, sideByte, sentBytes, sentRoom, readyRoom, markRoom};
 ghost use Rattle.rooms.specs.Rooms.{ruleNumber, itemNumber, foundNumbers};
 ghost use Rattle.ledger.specs.Audit.{placeBytes, placeRoom};
 
@@ -201,6 +202,7 @@ fn rule_number(found: Broken) -> u32
         Broken::E(_) => 5,
         Broken::F(_) => 6,
         Broken::G(_) => 7,
+        Broken::I(_) => 9,
     }
 }
 
@@ -216,6 +218,7 @@ fn item_number(found: Broken) -> usize
         Broken::E(i) => i,
         Broken::F(i) => i,
         Broken::G(i) => i,
+        Broken::I(i) => i,
     }
 }
 
@@ -224,4 +227,16 @@ pub fn put_found(found: Broken, rule: &mut u32, item: &mut u64)
 {
     *rule = rule_number(found);
     *item = item_number(found) as u64;
+}
+
+pub fn put_report(answer: Reported, room: &mut u32) -> u32
+    ensures { λ r. ⌜ (r ≡ numberIn (reportReply answer)) × (now (room .exit) ≡ markRoom (reportReply answer) (now (room .entry))) ⌝ }
+{
+    match answer {
+        Reported::Mark(n) => {
+            *room = n as u32;
+            0
+        }
+        Reported::No(no) => refusal(no),
+    }
 }

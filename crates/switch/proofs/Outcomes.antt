@@ -15,7 +15,7 @@ use Rattle.ledger.specs.Calls as calls
 use Rattle.ledger.specs.Desk.{act}
 use Rattle.ledger.specs.declared.Plain.the-variants.{No}
 use Rattle.ledger.specs.declared.Refusal.the-variants.{NoState}
-use Rattle.ledger.proofs.Answers.{plain-inj, stitch-inj, entry-inj, turn-inj, ready-inj, where-inj}
+use Rattle.ledger.proofs.Answers.{plain-inj, stitch-inj, entry-inj, turn-inj, ready-inj, where-inj, report-inj}
 use Rattle.memory.specs.Memory.{M}
 use Rattle.memory.proofs.Demands.{off-state}
 use Rattle.memory.proofs.Image.{zero-no-state}
@@ -35,6 +35,8 @@ use Rattle.switch.proofs.round
 use Rattle.switch.proofs.audit
 use Rattle.switch.proofs.find
 use Rattle.switch.proofs.repair
+use Rattle.switch.proofs.clear
+use Rattle.switch.proofs.report
 
 -- what equals the same pair has equal parts; `at` puts the second where the function's parameters have it
 pub parted : {A B C : Type 0} (at : B → C) {x y : A} {m n : B} {out : A × B} → (x, m) ≡ out → (y, n) ≡ out → (x ≡ y) × (at m ≡ at n)
@@ -76,7 +78,13 @@ round-one κs a r r₂ left left₂ p q = let t = roomed {B = List ℕ × (List 
 pub repair-one : OneOutcome repair.ended repair.Reads.Learnt
 repair-one κs a r r₂ left left₂ p q = fixed plain-inj (left .1) p q
 
+pub clear-one : OneOutcome clear.ended clear.Reads.Learnt
+clear-one κs a r r₂ left left₂ p q = fixed plain-inj (left .1) p q
+
 -- the memory of these is lent for reading only: nothing is left that could differ but the audit's room
+pub report-one : OneOutcome report.ended report.Reads.Learnt
+report-one κs a r r₂ left left₂ p q = (report-inj r r₂ (p ∙ sym q), refl)
+
 pub audit-one : OneOutcome audit.ended audit.Reads.Learnt
 audit-one κs a r r₂ left left₂ p q = let t = parted {C = Unit {0} × (List ℕ × Unit {0})} (λ x. (tt, (x, tt))) p q in (plain-inj r r₂ (t .0), t .1)
 

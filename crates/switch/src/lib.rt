@@ -1,4 +1,4 @@
-// The nine calls of the queue manager, the round, and the night crew's audit, finding and repair, for any memory and any numbers: nothing has
+// The eleven calls of the queue manager, the round, and the night crew's audit, finding and repair, for any memory and any numbers: nothing has
 // to be checked by the caller. Each contract is an equation that fixes answer and memory: (reply, memory after) is M of the call and the memory
 // before; of the round, roundOn of the memory and the room; of the audit auditOn, of the finding brokenIn, of the repair repaired.
 use ledger::Broken;
@@ -7,6 +7,7 @@ use ledger::EntryId;
 use ledger::Plain;
 use ledger::Readiness;
 use ledger::Refusal;
+use ledger::Reported;
 use ledger::Stitched;
 use ledger::Turned;
 use ledger::Whereabouts;
@@ -15,8 +16,8 @@ use sound::Tested;
 ghost use mathlib.Core.Path.{_≡_};
 ghost use mathlib.Core.List.{List};
 ghost use Prim.Native.Nat.{ℕ, _<_};
-ghost use Rattle.ledger.specs.Answers.{plainReply, stitchReply, entryReply, turnReply, readyReply, whereReply};
-ghost use Rattle.ledger.specs.Calls.{Reply, arrive, stitch, prefetch, credit, mapTo, turn, ready, whereIs};
+ghost use Rattle.ledger.specs.Answers.{plainReply, stitchReply, entryReply, turnReply, readyReply, whereReply, reportReply};
+ghost use Rattle.ledger.specs.Calls.{Reply, arrive, stitch, prefetch, credit, mapTo, turn, ready, whereIs, clear, report};
 ghost use Rattle.ledger.specs.Desk.{act};
 ghost use Rattle.memory.specs.Memory.{M};
 ghost use Rattle.memory.specs.Rounds.{roundOn};
@@ -166,4 +167,25 @@ pub fn repair(m: &mut [u8]) -> Plain
     ensures { λ r. ⌜ _≡_ {A = Reply × List ℕ} (plainReply r, now (m .exit)) (repaired (now (m .entry))) ⌝ }
 {
     repairs::repair(m)
+}
+
+// Clear: lifts the mark of a port.
+pub fn clear(m: &mut [u8], port: u32) -> Plain
+    ensures { λ r. ⌜ _≡_ {A = Reply × List ℕ} (plainReply r, now (m .exit)) (M (act (clear port)) (now (m .entry))) ⌝ }
+{
+    let tested = sound::test(m);
+    match tested {
+        Tested::State(s) => halts::clear(m, s, port),
+        Tested::NoState => Plain::No(Refusal::NoState),
+    }
+}
+
+// Report: the mark of a port, 0 or the refusal for which it is halted.
+pub fn report(m: &[u8], port: u32) -> Reported
+    ensures { λ r. ⌜ reportReply r ≡ M (act (report port)) (now (m .entry)) .0 ⌝ }
+{
+    match sound::test(m) {
+        Tested::State(s) => halts::report(m, s, port),
+        Tested::NoState => Reported::No(Refusal::NoState),
+    }
 }
