@@ -1,6 +1,7 @@
--- Every card holds: one claim over the table, by computing the finding without the map's entries, in two parts since one goes past what the
--- prover computes at once. Assumes nothing.
+-- Every card holds: one claim over the table, by computing the finding without the map's entries, in three parts since one goes past what
+-- the prover computes at once. Assumes nothing.
 use mathlib.Core.Path.{refl}
+use mathlib.Core.List.{_++_}
 use lib.Count.{ones, leadingZeros}
 use Rattle.numbers.specs.Bytes.{number, store}
 use Rattle.ledger.specs.Settings.{isBeat, portsIn, queuesIn, inRows, firstOut, row, size}
@@ -17,8 +18,10 @@ use Rattle.ranges.specs.Ranges.{prefetchAt, fitsAt}
 use Rattle.once.specs.Once.{isNew, mark, allNew, markAll, ends, right, unmarked, scan, onceFound}
 use Rattle.fits.specs.Fits.{rangeTest, fieldsTest, properTest, ruleTest, firstBad, fitsFrom, fitsFound}
 use Rattle.paid.specs.Paid.{addPrice, addNode, addAll, addList, addFrom, sumsOf, settledAt, dueFound}
+use Rattle.ledger.specs.Halt.{halts as halting, isMark}
+use Rattle.halts.specs.Marks.{marksFound}
 use Rattle.sound.specs.Sound.{nodesBroken}
-use Rattle.finding_cards.specs.Cards.{Holds, tables, packets, cards}
+use Rattle.finding_cards.specs.Cards.{Holds, tables, packets, halts, cards}
 use Rattle.finding_cards.proofs.Skips.{Quick, quick-hold}
 
 tables-quick : All Quick tables
@@ -30,8 +33,17 @@ packets-quick : All Quick packets
 unfolding ones leadingZeros number store isBeat portsIn queuesIn inRows row size widthOf formOf frontBits frontBytes bodySize headerSize leastLength price
     isNode place# cell creditAt setCredit startOf get put settingsIn slot chain nodesOf packetAt fill allLinked written image firstFrom
     prefetchAt fitsAt isNew mark allNew markAll ends right unmarked scan onceFound rangeTest fieldsTest properTest ruleTest firstBad fitsFrom
-    fitsFound addPrice addNode addAll addList addFrom sumsOf settledAt dueFound nodesBroken
+    fitsFound addPrice addNode addAll addList addFrom sumsOf settledAt dueFound nodesBroken halting isMark marksFound
 packets-quick = ((refl, refl, refl), ((refl, refl, refl), ((refl, refl, refl), ((refl, refl, refl), ((refl, refl, refl), tt)))))
 
+halts-quick : All Quick halts
+unfolding ones leadingZeros number store isBeat portsIn queuesIn inRows row size widthOf formOf frontBits frontBytes bodySize headerSize leastLength price
+    isNode place# cell creditAt setCredit startOf get put settingsIn slot chain nodesOf packetAt fill allLinked written image firstFrom
+    prefetchAt fitsAt isNew mark allNew markAll ends right unmarked scan onceFound rangeTest fieldsTest properTest ruleTest firstBad fitsFrom
+    fitsFound addPrice addNode addAll addList addFrom sumsOf settledAt dueFound nodesBroken halting isMark marksFound
+halts-quick = ((refl, refl, refl), ((refl, refl, refl), tt))
+
 pub finding-cards-hold : All Holds cards
-finding-cards-hold = All-append Holds tables packets (quick-hold tables tables-quick) (quick-hold packets packets-quick)
+finding-cards-hold =
+    All-append Holds tables (packets ++ halts) (quick-hold tables tables-quick)
+    (All-append Holds packets halts (quick-hold packets packets-quick) (quick-hold halts halts-quick))

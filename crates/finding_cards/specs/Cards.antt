@@ -5,7 +5,7 @@ use mathlib.Core.List.{List, [], _∷_, _++_}
 use Prim.Native.Nat.{ℕ}
 use lib.ListN.{set, take}
 use Rattle.ledger.specs.declared.Broken.{Broken}
-use Rattle.ledger.specs.declared.Broken.the-variants.{Nothing, A, B, C, D, E, F, G}
+use Rattle.ledger.specs.declared.Broken.the-variants.{Nothing, A, B, C, D, E, F, G, I}
 use Rattle.ledger.specs.Settings.{Settings, wide}
 use Rattle.memory.specs.Image.{image}
 use Rattle.sound.specs.Sound.{brokenIn}
@@ -32,31 +32,38 @@ fresh = image smallest
 
 -- port 1's node in port 0's egress list of queue 1: 13 bytes long, of queue 1, price 1, for which port 1's arrival credit is 15
 abbrev pub sent : List ℕ
-sent = with ((4197, 0) ∷ (4128, 8) ∷ (4152, 8) ∷ (4185, 1) ∷ (4225, 13) ∷ (4235, 1) ∷ (4243, 1) ∷ (4117, 15) ∷ []) fresh
+sent = with ((4199, 0) ∷ (4130, 8) ∷ (4154, 8) ∷ (4187, 1) ∷ (4227, 13) ∷ (4237, 1) ∷ (4245, 1) ∷ (4119, 15) ∷ []) fresh
 
 abbrev pub tables : List Card
 tables =
     -- a beat of 96, and nine slots; too short for the state
     (with ((7, 96) ∷ (9, 9) ∷ []) fresh, A 3)
-    ∷ (take 4243 fresh, A 8)
+    ∷ (take 4245 fresh, A 8)
     -- port 0's last served queue; a prefetch list of two where there is one slot
     ∷ (with ((4112, 200) ∷ []) fresh, B 0)
-    ∷ (with ((4189, 2) ∷ []) fresh, B 4098)
+    ∷ (with ((4191, 2) ∷ []) fresh, B 4098)
     -- a head that is no node; a node in no list
-    ∷ (with ((4135, 1) ∷ []) fresh, C 6)
-    ∷ (with ((4173, 0) ∷ []) fresh, C 12)
+    ∷ (with ((4137, 1) ∷ []) fresh, C 6)
+    ∷ (with ((4175, 0) ∷ []) fresh, C 12)
     ∷ []
 
 abbrev pub packets : List Card
 packets =
     -- the nodes of ports 0 and 1 in each other's free list
-    (with ((4122, 8) ∷ (4146, 8) ∷ (4134, 0) ∷ (4158, 0) ∷ []) fresh, D 2048)
+    (with ((4124, 8) ∷ (4148, 8) ∷ (4136, 0) ∷ (4160, 0) ∷ []) fresh, D 2048)
     -- of the packet in queue 1: another queue, a price of 2, a credit that wasn't spent; and as it is
-    ∷ (with ((4235, 0) ∷ []) sent, E 2048)
-    ∷ (with ((4243, 2) ∷ []) sent, F 2048)
-    ∷ (with ((4117, 16) ∷ []) sent, G 1)
+    ∷ (with ((4237, 0) ∷ []) sent, E 2048)
+    ∷ (with ((4245, 2) ∷ []) sent, F 2048)
+    ∷ (with ((4119, 16) ∷ []) sent, G 1)
     ∷ (sent, Nothing)
     ∷ []
 
+abbrev pub halts : List Card
+halts =
+    -- port 1 with a mark that is none; ports 0 and 1 halted by 7 and 18
+    (with ((4114, 7) ∷ (4115, 1) ∷ []) fresh, I 1)
+    ∷ (with ((4114, 7) ∷ (4115, 18) ∷ []) fresh, Nothing)
+    ∷ []
+
 abbrev pub cards : List Card
-cards = tables ++ packets
+cards = tables ++ (packets ++ halts)

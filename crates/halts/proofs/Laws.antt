@@ -41,9 +41,9 @@ halts-eight n a e = rw (eqb-not n 7 a, eqb-is n 8 e)
 
 module _ (S : Settings) (p v n : ℕ) (h : p < S .ports) where
   -- a mark that stands stays
-  pub marks-once : v ≢ 0 → false ≡ marks S p v n
+  pub marks-once : 0 < v → false ≡ marks S p v n
   unfolding marks
-  marks-once d = rw (ltb-is p (S .ports) h, eqb-not v 0 d)
+  marks-once k = rw (ltb-is p (S .ports) h, eqb-not v 0 (λ e. omega arith))
 
   -- where there is none, the number decides
   pub marks-now : v ≡ 0 → halts n ≡ marks S p v n

@@ -47,7 +47,7 @@ fn marking(m: &[u8], s: Shape, p: usize, n: u8) -> bool
     if ports <= p {
         return false;
     }
-    if layout::get1(m, s, Table::Halted, p) != 0 {
+    if 0 < layout::get1(m, s, Table::Halted, p) {
         return false;
     }
     halting(n)

@@ -14,12 +14,12 @@ get1-requires : tie.Need-get1-requires
 get1-requires c κs = search needs
 
 returns-2 : tie.Need-returns-2
-returns-2 c = marks-once _ _ _ _ (c .before .before .if1 .left) (λ e. c .if2 .taken (c .before .get1 .ensures ∙ e))
+returns-2 c = marks-once _ _ _ _ (c .before .before .if1 .left) (rw (c .before .get1 .ensures) at (c .if2 .taken))
 
 returns-3 : tie.Need-returns-3
 returns-3 c =
     let empty = c .before in
-    c .halting .ensures ∙ marks-now _ _ _ _ (empty .before .before .if1 .left) (sym (empty .before .get1 .ensures) ∙ empty .if2 .left)
+    c .halting .ensures ∙ marks-now _ _ _ _ (empty .before .before .if1 .left) (omega (arith, empty .if2 .left, empty .before .get1 .ensures))
 
 pub marking-spec : {M : Type 1} → statement M
 marking-spec = tie.close (tie.spec returns get1-requires returns-2 (λ c κs. search needs) returns-3)
