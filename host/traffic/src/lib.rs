@@ -423,7 +423,7 @@ impl Traffic {
     /// Where no port is halted, a clear of one now and then: it is done too.
     fn clear(&mut self, ledger: &Ledger) -> Option<Call> {
         let any = self.random.below(ledger.settings.ports);
-        let none = self.random.one_in(10).then(|| any);
+        let none = self.random.one_in(10).then_some(any);
         let port = self.halted(ledger).or(none)?;
         Some(Call::Clear { port })
     }
@@ -702,7 +702,11 @@ impl Traffic {
     fn aimed(&mut self, refusal: u32, ledger: &Ledger) -> Call {
         let shape = ledger.settings.shape();
         let Shape { ports, queues, .. } = shape;
-        let port = self.random.below(ports);
+        let port = match refusal {
+            // Of some lies the port is halted already.
+            7 | 8 if self.random.one_in(3) => self.port_to_ask(ledger),
+            _ => self.random.below(ports),
+        };
         let at = &ledger.ports[port as usize];
         match refusal {
             4 => {
