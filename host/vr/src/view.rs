@@ -47,20 +47,28 @@ impl<'m> View<'m> {
         self.finding.is_some().into()
     }
 
-    /// What an image that is none may be instead. Nodes stand where they stood in
-    /// the older builds.
+    /// What an image that is none may be instead. Ports, queues and nodes stand
+    /// where they stood in the older builds.
     pub fn hint(&self) -> Option<String> {
         let nodes = self.image.count(NODES)?;
         let none = self.finding.map_or(false, |found| found.rule == Rule::A);
         let long = |bytes: usize| none && self.there == bytes as u64;
         let a_port = format!("{} a port", counted(nodes.into(), "node"));
         if long(size_before_wide(nodes as usize)) {
-            return Some(format!("it is as long as an image of {a_port} by the build before the wide headers, which is to be set up afresh, not repaired (docs/DECISIONS.md, 79)"));
+            return Some(format!(
+                "it is as long as an image of {a_port} by the build before the wide headers, \
+                 which is to be set up afresh, not repaired (docs/DECISIONS.md, 79)"
+            ));
         }
         let shape = self.image.shape;
         let older = self.image.needed().is_some() && long(size_before_marks(shape));
         let (ports, queues) = (shape.ports, shape.queues);
-        older.then(|| format!("it is as long as an image of {ports} ports, {queues} queues and {a_port} by the build before the marks of halted ports, which is to be set up afresh"))
+        older.then(|| {
+            format!(
+                "it is as long as an image of {ports} ports, {queues} queues and {a_port} \
+                 by the build before the marks of halted ports, which is to be set up afresh"
+            )
+        })
     }
 
     /// A line for the hint, if there is one.

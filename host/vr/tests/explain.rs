@@ -430,7 +430,13 @@ fn an_image_of_an_older_build() {
     }
 }
 
-const HINT_OF_MARKS: &str = "hint: it is as long as an image of 4 ports, 24 queues and 2 nodes a port by the build before the marks of halted ports, which is to be set up afresh\n";
+/// The hint for an image of this shape by the build before the marks.
+fn hint_of_marks(shape: &str) -> String {
+    format!(
+        "\nhint: it is as long as an image of {shape} by the build before the marks of halted ports, \
+         which is to be set up afresh\n"
+    )
+}
 
 /// So is one that has all but the marks, whatever its shape.
 #[test]
@@ -443,26 +449,25 @@ fn an_image_of_the_build_before_the_marks() {
     let file = folder.file("image", &older(small(), at::HALTED, 4));
     let said = on("explain", &file).out;
     let top = "(a) the image is too short: it has 6188 bytes, a state of 4 ports, 24 queues and 2 nodes a port takes 6192\n";
-    assert!(
-        said.starts_with(top) && said.ends_with(&format!("\n{HINT_OF_MARKS}")),
-        "{said}"
-    );
+    let hint = hint_of_marks("4 ports, 24 queues and 2 nodes a port");
+    assert!(said.starts_with(top) && said.ends_with(&hint), "{said}");
     assert_eq!(said.lines().count(), 3);
     let new = folder.path("new");
-    let said = vr(&[
+    let words = [
         "repair".as_ref(),
         file.as_os_str(),
         "-o".as_ref(),
         new.as_os_str(),
-    ]);
+    ];
+    let said = vr(&words).out;
     assert!(
-        said.out
-            .ends_with(&format!("nothing was written\n{HINT_OF_MARKS}")),
-        "{}",
-        said.out
+        said.ends_with(&format!("nothing was written{hint}")),
+        "{said}"
     );
+    assert!(!new.exists());
     let said = on("explain", &folder.file("wide", &older(wide(), 4117, 5))).out;
-    assert!(said.ends_with("hint: it is as long as an image of 5 ports, 3 queues and 1 node a port by the build before the marks of halted ports, which is to be set up afresh\n"), "{said}");
+    let hint = hint_of_marks("5 ports, 3 queues and 1 node a port");
+    assert!(said.ends_with(&hint), "{said}");
     // A byte more or less is just too short.
     for there in [at::SIZE - 5, at::SIZE - 3, at::SIZE - 1] {
         let said = on("explain", &folder.file("image", &small()[..there])).out;
