@@ -649,8 +649,7 @@ fn no_state_is_neither_cleared_nor_reported() {
 fn marks_by_hand() {
     for settings in settings(1) {
         let sound = switch(settings).into_memory();
-        for (port, mark) in (0..=settings.ports - 1).flat_map(|p| (0..=255u8).map(move |m| (p, m)))
-        {
+        for (port, mark) in (0..settings.ports).flat_map(|p| (0..=255u8).map(move |m| (p, m))) {
             let mut memory = sound.clone();
             memory[halted(settings) + port as usize] = mark;
             let finding = Finding {

@@ -500,8 +500,8 @@ fn arrive_tests_in_the_papers_order() {
     }
 }
 
-/// All of 64 queues ready, from every mark on: bit 63 is the word's last, and
-/// above a mark of 63 there is none.
+/// All of 64 queues ready, whichever was served last: bit 63 is the word's last,
+/// and above queue 63 there is none.
 #[test]
 fn the_ready_word_of_64_queues() {
     let shape = Shape::wide(2, 64);
