@@ -180,9 +180,9 @@ uint32_t vr_report(const uint8_t *mem, size_t len, uint32_t port, uint32_t *mark
 uint32_t vr_audit(const uint8_t *mem, size_t len, uint8_t *places, size_t places_len);
 
 /* What is wrong with a memory, whatever it holds; never refused. Writes the first rule of soundness that it breaks, 1 to 7 for (a) to (g)
- * and 9 for (i), and the first item that shows it, in the order of docs/FINDINGS.md; 0 and 0 where it is a switch state. So rule 2, item 1
- * is port 1's last served queue out of range, and rule 9, item 1 port 1's mark, which is none of 0, 7, 8 and 18. (8 is kept for a rule to
- * come.) */
+ * and 9 for (i) (rule 8, (h), is one to come), and the first item that shows it, in the order of docs/FINDINGS.md; 0 and 0 where it is a
+ * switch state. So rule 2, item 1 is port 1's last served queue out of range, and rule 9, item 1 port 1's mark, if it is none of 0, 7, 8
+ * and 18. */
 void vr_find(const uint8_t *mem, size_t len, uint32_t *rule, uint64_t *item);
 
 /* Writes the starting ledger for the settings that the memory has, and keeps its map, but for entries above the last port, which become 0:

@@ -25,8 +25,7 @@ pub enum Rule {
     F,
     /// Arrival credit and the prices outstanding are K together.
     G,
-    /// Every port's mark is 0, 7, 8 or 18. 8, that of (h), is kept for a rule to
-    /// come.
+    /// Every port's mark is 0, 7, 8 or 18. Rule 8, (h), is one to come.
     I = 9,
 }
 
