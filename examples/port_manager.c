@@ -1,5 +1,5 @@
 /* A port manager in C: packets arrive at two ports, go to port 3 by way of the map, and leave it: one is taken through by single calls,
- * the others by rounds. Each step is printed. */
+ * the others by rounds. Then a header is wrong, and its port is halted until it is cleared. Each step is printed. */
 #include <inttypes.h>
 #include <stdio.h>
 #include <stdlib.h>
@@ -29,14 +29,29 @@ static int done(const char *step, uint32_t answer)
     return 0;
 }
 
+/* On the way from the writer to the port these bits of the checksum go wrong. */
+static uint8_t noise;
+
 static void arrive(struct vr_header h)
 {
     uint8_t header[12];
     uint32_t size;
     uint16_t entry;
     if (!done("header", vr_write_header(VR_TEN_BYTES, PORTS, QUEUES, &h, header, &size))) return;
+    header[size - 1] ^= noise;
     if (done("arrive", vr_arrive(mem, len, h.source, header, size, &entry)))
         printf("arrive: port %" PRIu32 ", queue %" PRIu32 ", length %" PRIu32 ": entry %u\n", h.source, h.queue, h.length, (unsigned)entry);
+}
+
+/* Whether the port is halted, and by what; then it is cleared. */
+static void clear_if_halted(uint32_t port)
+{
+    uint32_t mark;
+    if (!done("report", vr_report(mem, len, port, &mark))) return;
+    if (mark == 0)
+        printf("report: port %" PRIu32 " isn't halted\n", port);
+    else if (done("clear", vr_clear(mem, len, port)))
+        printf("report: port %" PRIu32 " was halted by refusal %" PRIu32 ", and is cleared\n", port, mark);
 }
 
 /* The oldest packet of the port where it arrived goes to the port that the map names. */
@@ -127,6 +142,14 @@ int main(void)
     run_round();
     show_place(2 * 2048);
     show_place(70000);
+    noise = 0x10;
+    arrive((struct vr_header){.destination = 1, .source = 2, .queue = 5, .length = 77}); /* refused 7, and port 2 is halted */
+    noise = 0;
+    arrive((struct vr_header){.destination = 1, .source = 2, .queue = 5, .length = 77}); /* so 10, with all its credit in hand */
+    arrive((struct vr_header){.destination = 1, .source = 2, .queue = 0, .length = 77}); /* queue 0 goes on */
+    clear_if_halted(0);
+    clear_if_halted(2);
+    arrive((struct vr_header){.destination = 1, .source = 2, .queue = 5, .length = 77});
     free(mem);
     return 0;
 }

@@ -6,8 +6,9 @@
  *     if (vr_setup(mem, len, &s) != VR_DONE) ...           then vr_map and vr_credit; headers come in by vr_arrive, packets leave by vr_round
  *
  * Every call but vr_size and vr_find answers VR_DONE, which is 0, or a refusal's number (enum vr_answer); a refused call changes no byte
- * that was lent, the room for its answer included. Nothing has to be checked beforehand: any memory and any numbers are taken. Where a call
- * is refused 3, vr_find tells why, and vr_repair makes a state again of every memory that keeps rule (a), whose packets are lost then.
+ * that was lent, the room for its answer included, but that an arrival refused 7 or 8 sets its port's mark, one byte of the state, if the
+ * port has none. Nothing has to be checked beforehand: any memory and any numbers are taken. Where a call is refused 3, vr_find tells why,
+ * and vr_repair makes a state again of every memory that keeps rule (a), whose packets are lost then.
  *
  * The settings, and the row of each; a number that is not in its row is refused 2:
  *
@@ -39,6 +40,11 @@
  *
  * A packet's price is its length divided by the beat, rounded up; packets of queue 0 are free.
  *
+ * A port that lies is halted: the first arrival there that is refused 7 or 8 marks the port with that number, whatever source the header
+ * names, and later ones leave the mark. While the port has a mark, headers that arrive there for a queue above 0 and are right are refused
+ * 10, whatever price and credit are; queue 0 goes on, and so do credits, stitches, prefetches and turns. vr_report reads a mark; vr_clear
+ * lifts it, and so do vr_setup and vr_repair.
+ *
  * Setup tests 2, then 1; vr_read_header 2, 6, 7, 20, 9, 19; vr_write_header 2, then 21. The others test 3 first, then in the order of
  * their numbers, but map tests 15 before 4, and arrive's order is 3, 4, 6, 7, 20, 8, 9, 19, 10, 11.
  *
@@ -47,7 +53,7 @@
  * memory that one of them may change.
  *
  * A call takes up to 25,390 bytes of stack, a finding up to 33,502, whatever the settings (measured on x86-64 by tools/stack.c, not proved):
- * the test for a state keeps a mark for each of up to 65,536 nodes there, and a sum for each port and queue but 0.
+ * the test for a state keeps a bit for each of up to 65,536 nodes there, and a sum for each port and queue but 0.
  *
  * Numbers, and structs of numbers, are the machine's own; the rooms of bytes are big-endian.
  *
@@ -75,7 +81,7 @@ enum vr_answer {
     VR_CHECKSUM = 7,         /* arrive, read_header: checksum differs */
     VR_SOURCE = 8,           /* arrive: header's source isn't the arriving port */
     VR_TOO_SHORT = 9,        /* arrive, read_header: length under the header's size plus 2 */
-    VR_NO_CREDIT = 10,       /* arrive: price above arrival credit */
+    VR_NO_CREDIT = 10,       /* arrive: price above arrival credit; at a halted port, queue above 0 */
     VR_NO_FREE_NODE = 11,    /* arrive: free list empty */
     VR_NOTHING_THERE = 12,   /* stitch, prefetch: list to take from is empty */
     VR_SLOTS_IN_USE = 13,    /* prefetch: all slots in use */
@@ -124,7 +130,8 @@ uint64_t vr_size(const struct vr_settings *settings);
  * another. */
 uint32_t vr_setup(uint8_t *mem, size_t len, const struct vr_settings *settings);
 
-/* Takes the front of the port's free list, records the header and appends the node to ingress. Writes the entry id. */
+/* Takes the front of the port's free list, records the header and appends the node to ingress. Writes the entry id. Refused 7 or 8, it
+ * halts the port: its mark becomes that number if it was 0, and no other byte changes. */
 uint32_t vr_arrive(uint8_t *mem, size_t len, uint32_t port, const uint8_t *header, size_t header_len, uint16_t *entry);
 
 /* Takes the oldest ingress node to the egress list of the port that the map names now. Writes ten bytes, big-endian:
@@ -161,18 +168,27 @@ uint32_t vr_ready(const uint8_t *mem, size_t len, uint32_t port, uint64_t *word,
  * queue or 0 (1), zero (1), position in the list from 0 (2). */
 uint32_t vr_where(const uint8_t *mem, size_t len, uint32_t entry, uint8_t place[8]);
 
+/* Lifts the port's mark, so that it takes in queues above 0 again; of a port that has none it is done too. Refused 3, then 4. */
+uint32_t vr_clear(uint8_t *mem, size_t len, uint32_t port);
+
+/* Writes the port's mark: 0 if it isn't halted, else the number of the refusal that halted it, 7 or 8, or 18, which no call gives yet.
+ * Refused 3, then 4. */
+uint32_t vr_report(const uint8_t *mem, size_t len, uint32_t port, uint32_t *mark);
+
 /* Writes where every node stands, port by port and index by index, eight bytes each as vr_where's: 8 * ports * nodes in all, so 524,288 are
  * always enough; what is lent past them stays. Refused 3, then 27 if less is lent. */
 uint32_t vr_audit(const uint8_t *mem, size_t len, uint8_t *places, size_t places_len);
 
-/* What is wrong with a memory, whatever it holds; never refused. Writes the first rule of soundness that it breaks, 1 to 7 for (a) to (g),
- * and the first item that shows it, in the order of docs/FINDINGS.md; 0 and 0 where it is a switch state. So rule 2, item 1 is port 1's
- * last served queue out of range. */
+/* What is wrong with a memory, whatever it holds; never refused. Writes the first rule of soundness that it breaks, 1 to 7 for (a) to (g)
+ * and 9 for (i) (rule 8, (h), is one to come), and the first item that shows it, in the order of docs/FINDINGS.md; 0 and 0 where it is a
+ * switch state. So rule 2, item 1 is port 1's last served queue out of range, and rule 9, item 1 port 1's mark, if it is none of 0, 7, 8
+ * and 18. */
 void vr_find(const uint8_t *mem, size_t len, uint32_t *rule, uint64_t *item);
 
 /* Writes the starting ledger for the settings that the memory has, and keeps its map, but for entries above the last port, which become 0:
- * also over a sound ledger, whose packets are lost. Refused 3 exactly where rule (a) is broken: a setting not in its row, or memory too
- * short for its settings. Not for an image of before the wide headers: set that up afresh, since its older tables could pass for a map. */
+ * also over a sound ledger, whose packets and marks are lost. Refused 3 exactly where rule (a) is broken: a setting not in its row, or
+ * memory too short for its settings. Not for an image of before the wide headers: set that up afresh, since its older tables could pass for
+ * a map. One of before the marks is no state either; it has settings and map where they are now. */
 uint32_t vr_repair(uint8_t *mem, size_t len);
 
 /* Reads a header of a switch of this edition and so many ports and queues, and writes what it says. Source and destination are judged by

@@ -56,7 +56,7 @@ type Aim = fn(&mut Damaged, &mut Random);
 
 /// Together they break each rule in each way; (g) and (f) most, since that
 /// needs bytes that keep all the rules before.
-const AIMED: [Aim; 23] = [
+const AIMED: [Aim; 25] = [
     Damaged::setting,
     Damaged::setting,
     Damaged::last_served,
@@ -80,6 +80,8 @@ const AIMED: [Aim; 23] = [
     Damaged::length,
     Damaged::arrival,
     Damaged::all_credit,
+    Damaged::mark,
+    Damaged::mark,
 ];
 
 impl Damaged {
@@ -91,7 +93,7 @@ impl Damaged {
         let (from, to) = if random.one_in(3) {
             (0, size)
         } else {
-            let table = random.below(16) as usize;
+            let table = random.below(starts.len() as u32) as usize;
             (
                 starts[table],
                 starts.get(table + 1).map_or(size, |&end| end),
@@ -100,11 +102,10 @@ impl Damaged {
         from + random.below((to - from) as u32) as usize
     }
 
-    /// Where a number of two bytes begins, in the tables behind the marks: with an
-    /// odd number of ports, at odd places.
+    /// Where a number of two bytes begins: the tables that have such start at even
+    /// places.
     fn number_at(&self, at: usize) -> usize {
-        let begins = at.saturating_sub((at + self.tables.arrival.start) % 2);
-        begins.min(self.memory.len() - 2)
+        (at - at % 2).min(self.memory.len() - 2)
     }
 
     /// Flips, swaps, steps and copies.
@@ -402,5 +403,14 @@ impl Damaged {
         let old = SETTING.get(&self.memory, 5);
         let new = Damaged::near(random, old);
         SETTING.set(&mut self.memory, 5, new);
+    }
+
+    /// Another mark: none that there is mostly, with those near one that there is
+    /// often.
+    fn mark(&mut self, random: &mut Random) {
+        let port = random.below(self.settings.ports) as usize;
+        let any = random.among(1, 255);
+        let mark = random.pick(&[1, 6, 7, 8, 9, 17, 18, 19, any, any, any, any]);
+        self.tables.halted.set(&mut self.memory, port, mark);
     }
 }

@@ -3,8 +3,9 @@
 use std::fmt;
 
 use model::{Call, Reply, Shape, REFUSALS};
+use traffic::{Before, Halts};
 
-const NAMES: [&str; 11] = [
+const NAMES: [&str; 13] = [
     "setup",
     "arrive",
     "stitch",
@@ -16,6 +17,8 @@ const NAMES: [&str; 11] = [
     "ready",
     "where",
     "round",
+    "clear",
+    "report",
 ];
 
 /// The refusals that these calls can be given: 21 is the writer's of headers,
@@ -37,15 +40,19 @@ fn can_be(number: u8, shape: &Shape) -> bool {
 #[derive(Debug, Clone, Default, PartialEq, Eq)]
 pub struct Counts {
     /// In the order of `NAMES`.
-    accepted: [u64; 11],
+    accepted: [u64; NAMES.len()],
     /// By the refusal's number; the cells of other numbers stay 0.
     refused: [u64; 28],
     /// That an arrival or a prefetch was answered.
     highest_entry: u16,
+    /// What was seen of halted ports.
+    pub halts: Halts,
 }
 
 impl Counts {
-    pub fn note(&mut self, call: &Call, reply: &Reply) {
+    /// A call, what stood before it at its port, and its answer.
+    pub fn note(&mut self, before: Option<Before>, call: &Call, reply: &Reply) {
+        self.halts.note(before, call, reply);
         if let Reply::Refused(number) = reply {
             self.refused[*number as usize] += 1;
             return;
@@ -65,6 +72,8 @@ impl Counts {
             Call::Ready { .. } => 8,
             Call::Where { .. } => 9,
             Call::Round { .. } => 10,
+            Call::Clear { .. } => 11,
+            Call::Report { .. } => 12,
         };
         self.accepted[kind] += 1;
     }
@@ -77,6 +86,7 @@ impl Counts {
             *cell += more;
         }
         self.highest_entry = self.highest_entry.max(other.highest_entry);
+        self.halts.add(&other.halts);
     }
 
     pub fn refused(&self, number: usize) -> u64 {
@@ -132,6 +142,6 @@ impl fmt::Display for Counts {
         for number in refusals() {
             write!(f, " [{number}] {}", self.refused[number as usize])?;
         }
-        Ok(())
+        write!(f, "\n{}", self.halts)
     }
 }

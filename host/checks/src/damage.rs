@@ -4,6 +4,7 @@
 use std::collections::BTreeMap;
 use std::fmt;
 
+use model::checksum::crc8;
 use model::header::Header;
 use model::{size, Call, Ledger, Model, Reply, Settings};
 use traffic::headers::{reserved_bits, right_fields, spelt};
@@ -16,7 +17,7 @@ use crate::night::{self, Crew};
 use crate::run::Pair;
 use crate::scale::Scale;
 use crate::tables::SETTINGS_END;
-use crate::{changes_nothing, difference, reader, Desk};
+use crate::{difference, left, reader, Desk};
 
 /// A run that can be made again: traffic, and damage now and then.
 #[derive(Debug, Clone, Copy, PartialEq, Eq)]
@@ -91,7 +92,7 @@ impl fmt::Display for Verdicts {
             self.no_states,
             self.repairs
         )?;
-        for rule in 'a'..='g' {
+        for rule in "abcdefgi".chars() {
             let of_rule = || self.found.iter().filter(|((of, _), _)| *of == rule);
             let all: u64 = of_rule().map(|(_, times)| times).sum();
             write!(f, "\n    ({rule}) {all}")?;
@@ -157,8 +158,20 @@ fn arriving(random: &mut Random, settings: &Settings, port: u32) -> Vec<u8> {
     spelt(&shape, &header, reserved)
 }
 
-/// Every kind of call, meant to succeed mostly: on the ledger before the
-/// damage, which is often nearly that after it.
+/// A header that halts the port, if it isn't halted.
+fn lying(random: &mut Random, settings: &Settings, port: u32) -> Vec<u8> {
+    let mut header = arriving(random, settings, port);
+    header[0] ^= 1 << random.below(8);
+    if random.one_in(2) {
+        // Its checksum is right, and mostly its source is not: one of the first bits is another.
+        let last = header.len() - 1;
+        header[last] = crc8(&header[..last]);
+    }
+    header
+}
+
+/// Every kind of call, meant to succeed mostly, and a lie: on the ledger before
+/// the damage, which is often nearly that after it.
 fn one_of_each(random: &mut Random, ledger: &Ledger) -> Vec<Call> {
     let settings = &ledger.settings;
     let Settings {
@@ -212,6 +225,16 @@ fn one_of_each(random: &mut Random, ledger: &Ledger) -> Vec<Call> {
         },
         Call::Where {
             entry: random.below(ports) * 2048 + random.below(nodes),
+        },
+        Call::Clear {
+            port: wild(port, random),
+        },
+        Call::Report {
+            port: wild(port, random),
+        },
+        Call::Arrive {
+            port: wild(port, random),
+            header: lying(random, settings, port),
         },
         Call::Round {
             // Now and then too little room: 3 is tested before 27.
@@ -267,12 +290,13 @@ fn try_calls<D: Desk>(
             ));
         }
         let size_now = after.ledger().map_or(0, |l| size(&l.settings));
-        let nothing = changes_nothing(call, &answer);
-        let kept_from = if nothing { 0 } else { size_now };
-        if let Some(told) = difference(whole, &copy, kept_from) {
+        let mut kept = whole.to_vec();
+        let still = left(&mut kept[..lent], call, &answer);
+        let kept_from = if still { 0 } else { size_now };
+        if let Some(told) = difference(&kept, &copy, kept_from) {
             return Err(format!("{call:?} answers {answer:?}, but {told}"));
         }
-        if nothing {
+        if still && copy == whole {
             continue;
         }
         verdicts.acts += u64::from(judged.is_ok());

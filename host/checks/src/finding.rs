@@ -15,7 +15,7 @@ use crate::tables::{Table, Tables, MAPPED, SETTING, SETTINGS, SETTINGS_END};
 /// A broken rule.
 #[derive(Debug, Clone, Copy, PartialEq, Eq)]
 pub struct Finding {
-    /// `a` to `g`.
+    /// `a` to `g`, or `i`.
     pub rule: char,
     pub item: u64,
     /// In which way, one of `WAYS`.
@@ -31,7 +31,7 @@ impl Finding {
 
 /// Every way in which a rule can be found broken. The setting of credit is
 /// none: two bytes hold nothing that isn't in its row.
-pub const WAYS: [(char, &str); 30] = [
+pub const WAYS: [(char, &str); 31] = [
     ('a', "ports"),
     ('a', "queues"),
     ('a', "nodes"),
@@ -62,6 +62,7 @@ pub const WAYS: [(char, &str); 30] = [
     ('f', "price in queue 0"),
     ('g', "too little"),
     ('g', "too much"),
+    ('i', "mark"),
 ];
 
 /// An item, and in which way it breaks the rule.
@@ -128,15 +129,16 @@ impl<'m> Image<'m> {
         })
     }
 
-    /// Rules (b) to (g): each is asked where those before it are kept.
+    /// Rules (b) to (g), and (i): each is asked where those before it are kept.
     fn first(&self) -> Option<(char, Breach)> {
-        let rules: [(char, Find<'m>); 6] = [
+        let rules: [(char, Find<'m>); 7] = [
             ('b', Self::ranges),
             ('c', Self::once),
             ('d', |image| image.each_node(Self::own_port)),
             ('e', |image| image.each_node(Self::own_queue)),
             ('f', |image| image.each_node(Self::record)),
             ('g', Self::paid),
+            ('i', Self::marks),
         ];
         let broken = |(rule, find): (char, Find<'m>)| Some((rule, find(self)?));
         rules.into_iter().find_map(broken)
@@ -306,5 +308,13 @@ impl<'m> Image<'m> {
             }
         }
         None
+    }
+
+    /// Rule (i): the first port whose mark is none.
+    fn marks(&self) -> Option<Breach> {
+        let mark = |port: usize| self.get(self.tables.halted, port);
+        let wrong = |&port: &usize| ![0, 7, 8, 18].contains(&mark(port));
+        let port = (0..self.tables.ports).find(wrong)?;
+        Some((port as u64, "mark"))
     }
 }

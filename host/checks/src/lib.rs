@@ -23,7 +23,9 @@ pub mod workers;
 pub mod wrapper;
 pub mod writer;
 
-use model::{Call, Reply};
+use model::{marked, Call, Reply};
+
+use tables::Tables;
 
 /// Something that answers calls on lent memory: the library, or in tests a
 /// library with a slip. The error is a broken rule on answers or rooms.
@@ -31,10 +33,32 @@ pub trait Desk: Fn(&mut [u8], &Call) -> Result<Reply, String> {}
 
 impl<F: Fn(&mut [u8], &Call) -> Result<Reply, String>> Desk for F {}
 
-/// Must the call leave every byte, given its answer?
-pub(crate) fn changes_nothing(call: &Call, reply: &Reply) -> bool {
-    matches!(reply, Reply::Refused(_) | Reply::Idle)
-        || matches!(call, Call::Ready { .. } | Call::Where { .. })
+/// Makes of the bytes before a call those that it must leave, given its answer,
+/// and says true; false where it may change more than a mark. A refused call
+/// leaves every byte but one: the mark of a port that had none, where a header
+/// lied. A clear leaves every byte but its port's mark.
+pub fn left(bytes: &mut [u8], call: &Call, reply: &Reply) -> bool {
+    // Told of a switch state and of one of its ports: the answer comes after 3 and 4.
+    let mark = |bytes: &[u8], port: u32| {
+        let tables = Tables::of(&reader::settings(bytes));
+        tables.halted.start + port as usize
+    };
+    match (call, reply) {
+        (Call::Clear { port }, Reply::Done) => {
+            let at = mark(bytes, *port);
+            bytes[at] = 0;
+            true
+        }
+        (_, Reply::Refused(_)) => {
+            if let Some((port, number)) = marked(call, reply) {
+                let at = mark(bytes, port);
+                bytes[at] = if bytes[at] == 0 { number } else { bytes[at] };
+            }
+            true
+        }
+        (_, Reply::Idle | Reply::Word(..) | Reply::Found(..) | Reply::Mark(_)) => true,
+        _ => false,
+    }
 }
 
 /// The first byte from `from` on that differs, told.

@@ -116,6 +116,20 @@ pub fn call(memory: &mut [u8], call: &Call) -> Result<Reply, String> {
                 number => refused(number, place, [FILL; 8]),
             }
         }
+        Call::Clear { port } => match calls::clear(memory, *port) {
+            0 => Ok(Reply::Done),
+            number => refused(number, (), ()),
+        },
+        Call::Report { port } => {
+            let mut mark = 0xA7A7_A7A7;
+            match calls::report(memory, *port, &mut mark) {
+                0 => match u8::try_from(mark) {
+                    Ok(mark) => Ok(Reply::Mark(mark)),
+                    Err(_) => Err(format!("a report wrote {mark}")),
+                },
+                number => refused(number, mark, 0xA7A7_A7A7),
+            }
+        }
         Call::Round { room } => round(memory, room),
     }
 }

@@ -104,6 +104,7 @@ pub fn ledger(memory: &[u8]) -> Result<Ledger, String> {
     for (p, at) in ledger.ports.iter_mut().enumerate() {
         let port = p as u32;
         at.last_served = tables.last.get(memory, p);
+        at.mark = tables.halted.get(memory, p) as u8;
         at.free = reader.list(ListKind::Free { port })?;
         at.ingress = reader.list(ListKind::Ingress { port })?;
         for q in 0..tables.queues {
@@ -144,7 +145,7 @@ mod tests {
 
     #[test]
     fn zero_bytes_are_no_state() {
-        for len in [0, 1, 15, 16, 4244, 6136, 65_536] {
+        for len in [0, 1, 15, 16, 4246, 6140, 65_536] {
             assert!(judged(&vec![0; len]).is_err());
         }
     }

@@ -3,12 +3,12 @@
 use std::fmt;
 
 use model::{size, Call, Ledger, Model, Reply, Shape};
-use traffic::{Profile, Random, Traffic};
+use traffic::{Before, Profile, Random, Traffic};
 
 use crate::counts::Counts;
 use crate::cut::cut_down;
 use crate::scale::Scale;
-use crate::{changes_nothing, difference, night, reader, writer, Desk};
+use crate::{difference, left, night, reader, writer, Desk};
 
 /// Bytes behind the lent memory, to see that nobody writes there.
 const GUARD: usize = 64;
@@ -149,14 +149,13 @@ impl<'d, D: Desk> Pair<'d, D> {
             ));
         }
         let size_now = self.model.ledger().map_or(0, |l| size(&l.settings));
-        let kept_from = if changes_nothing(call, &answer) {
-            0
-        } else {
-            size_now
-        };
         if self.before[..start] != self.memory[..start] {
             return Err(format!("after {answer:?} bytes before the memory differ"));
         }
+        let kept_from = match left(&mut self.before[start..end], call, &answer) {
+            true => 0,
+            false => size_now,
+        };
         let (before, after) = (&self.before[start..], &self.memory[start..]);
         if let Some(told) = difference(before, after, kept_from) {
             return Err(format!("after {answer:?} {told}"));
@@ -214,15 +213,17 @@ fn ledger_difference(pictured: &Ledger, wanted: &Ledger) -> String {
     for (port, (at, wanted_at)) in pictured.ports.iter().zip(&wanted.ports).enumerate() {
         if at != wanted_at {
             return format!(
-                "port {port} in memory: arrival {:?} outward {:?} last {} records {:?}; \
-                 in the model: arrival {:?} outward {:?} last {} records {:?}",
+                "port {port} in memory: arrival {:?} outward {:?} last {} mark {} records {:?}; \
+                 in the model: arrival {:?} outward {:?} last {} mark {} records {:?}",
                 at.arrival_credit,
                 at.outward_credit,
                 at.last_served,
+                at.mark,
                 at.packets,
                 wanted_at.arrival_credit,
                 wanted_at.outward_credit,
                 wanted_at.last_served,
+                wanted_at.mark,
                 wanted_at.packets
             );
         }
@@ -242,8 +243,9 @@ pub fn made<D: Desk>(plan: &Plan, desk: &D, counts: &mut Counts) -> Result<(), (
     let mut traffic = plan.traffic();
     for at in 0..plan.calls {
         let call = traffic.next(&pair.model);
+        let before = Before::of(&pair.model, &call);
         let reply = pair.call(&call).map_err(|message| (at, message))?;
-        counts.note(&call, &reply);
+        counts.note(before, &call, &reply);
     }
     pair.compare_ledgers()
         .map_err(|message| (plan.calls, message))

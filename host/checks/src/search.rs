@@ -101,7 +101,7 @@ impl<'d, D: Desk> Search<'d, D> {
     }
 
     /// A packet of a few beats arrives: its entry id and its price; none where
-    /// other calls have left no node or no credit.
+    /// other calls have left no node or no credit, or have halted the port.
     fn arrive(&mut self, port: u32, id: u32, queue: u32) -> Result<Option<(u16, u32)>, String> {
         let shape = self.settings.shape();
         let length = self.random.among(shape.shortest(), 3 * self.settings.beat);
@@ -192,6 +192,8 @@ impl<'d, D: Desk> Search<'d, D> {
         let ids = self.ids();
         let r = &mut self.random;
         let (port, id, queue) = (r.below(ports), r.below(ids), r.below(queues));
+        // Other calls may have halted it.
+        self.accepted(Call::Clear { port })?;
         if self.arrive_watched(port, id, queue)?.is_none() {
             return Ok(());
         }
@@ -223,6 +225,7 @@ impl<'d, D: Desk> Search<'d, D> {
         for _ in 0..self.random.below(4 * self.settings.nodes).min(150) {
             let (port, queue) = (self.random.below(ports), self.random.below(queues));
             let header = plain(&shape, 0, port, queue, shape.shortest());
+            self.accepted(Call::Clear { port })?;
             // Refused where the pool is empty.
             self.scene.call(&Call::Arrive { port, header })?;
             self.scene.call(&Call::Stitch { port })?;

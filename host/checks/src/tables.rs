@@ -44,6 +44,8 @@ pub struct Tables {
     pub queues: usize,
     pub nodes: usize,
     pub last: Table,
+    /// The ports' marks.
+    pub halted: Table,
     pub arrival: Table,
     pub outward: Table,
     pub head: Table,
@@ -85,6 +87,7 @@ impl Tables {
             queues,
             nodes,
             last: table(1, ports),
+            halted: table(1, ports),
             arrival: table(2, credits),
             outward: table(2, credits),
             head: table(2, lists),
@@ -105,11 +108,12 @@ impl Tables {
     }
 
     /// All of them, in the memory's order.
-    pub fn in_order(&self) -> [Table; 16] {
+    pub fn in_order(&self) -> [Table; 17] {
         [
             SETTING,
             MAPPED,
             self.last,
+            self.halted,
             self.arrival,
             self.outward,
             self.head,
@@ -224,39 +228,39 @@ mod tests {
                 Shape::TEN_BYTES,
                 1,
                 [
-                    0, 16, 4112, 4116, 4300, 4484, 4884, 5284, 6084, 6092, 6100, 6116, 6120, 6124,
-                    6128, 6132, 6136,
+                    0, 16, 4112, 4116, 4120, 4304, 4488, 4888, 5288, 6088, 6096, 6104, 6120, 6124,
+                    6128, 6132, 6136, 6140,
                 ],
             ),
             (
                 Shape::wide(4, 24),
                 256,
                 [
-                    0, 16, 4112, 4116, 4300, 4484, 4884, 5284, 6084, 8132, 10180, 14276, 15300,
-                    16324, 17348, 18372, 19396,
+                    0, 16, 4112, 4116, 4120, 4304, 4488, 4888, 5288, 6088, 8136, 10184, 14280,
+                    15304, 16328, 17352, 18376, 19400,
                 ],
             ),
             (
                 Shape::wide(2, 2),
                 2,
                 [
-                    0, 16, 4112, 4114, 4118, 4122, 4146, 4170, 4218, 4226, 4234, 4250, 4254, 4258,
-                    4262, 4266, 4270,
+                    0, 16, 4112, 4114, 4116, 4120, 4124, 4148, 4172, 4220, 4228, 4236, 4252, 4256,
+                    4260, 4264, 4268, 4272,
                 ],
             ),
             (
                 Shape::wide(32, 64),
                 2048,
                 [
-                    0, 16, 4112, 4144, 8176, 12208, 20528, 28848, 45488, 176560, 307632, 569776,
-                    635312, 700848, 766384, 831920, 897456,
+                    0, 16, 4112, 4144, 4176, 8208, 12240, 20560, 28880, 45520, 176592, 307664,
+                    569808, 635344, 700880, 766416, 831952, 897488,
                 ],
             ),
         ] {
             let tables = Tables::sized(shape, nodes);
             let starts = tables.in_order().map(|table| table.start);
-            assert_eq!(starts, wanted[..16]);
-            assert_eq!(tables.size, wanted[16]);
+            assert_eq!(starts, wanted[..17]);
+            assert_eq!(tables.size, wanted[17]);
             let settings = Settings::of(shape, nodes, 64, 1, 0);
             assert_eq!(tables.size, size(&settings));
         }

@@ -61,6 +61,11 @@ pub fn call(memory: &mut [u8], call: &Call) -> Result<Reply, String> {
             // The wrapper's entry ids have no room for it.
             Err(_) => return library::call(memory, call),
         },
+        Call::Clear { port } => switch.clear(*port).map(|()| Reply::Done),
+        Call::Report { port } => switch.report(*port).map(|halt| {
+            let mark = halt.map_or(0, |halt| halt.number());
+            Reply::Mark(mark as u8)
+        }),
         // The typed round lends room enough, always.
         Call::Round { room } if room.len() < round_bytes => {
             let mut lent = room.clone();

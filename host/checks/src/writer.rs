@@ -19,6 +19,7 @@ pub fn image(ledger: &Ledger) -> Vec<u8> {
     }
     for (port, at) in ledger.ports.iter().enumerate() {
         tables.last.set(&mut memory, port, at.last_served);
+        tables.halted.set(&mut memory, port, at.mark.into());
         for queue in 1..tables.queues {
             let cell = tables.credit_cell(port, queue);
             tables
@@ -131,6 +132,12 @@ mod tests {
         ] {
             assert!(!matches!(model.call(&call), Reply::Refused(_)), "{call:?}");
         }
+        // A header of port 0's at port 1.
+        let lie = Call::Arrive {
+            port: 1,
+            header: header(0, 1),
+        };
+        assert_eq!(model.call(&lie), Reply::Refused(8));
         let memory = image(model.ledger().unwrap());
         let wanted_settings = [0, 2, 0, 2, 0, 2, 0, 64, 0, 1, 0, 9, 0, 1, 0, 0];
         assert_eq!(memory[..16], wanted_settings);
@@ -138,8 +145,8 @@ mod tests {
         (map[1], map[4095]) = (1, 1);
         assert_eq!(memory[16..4112], map);
         let behind = [
-            // Marks; arrival credits, one of three beats less; outward credits.
-            &[1, 1, 0, 6, 0, 9, 0, 0, 1, 2][..],
+            // Last served; marks; arrival credits, one of three beats less; outward credits.
+            &[1, 1, 0, 8, 0, 6, 0, 9, 0, 0, 1, 2][..],
             // Heads, of free, ingress, egress 0 and 1, prefetch 0 and 1 a port.
             &[0, 1, 0, 0, 0, 0, 0, 0, 0, 0, 0, 0],
             &[8, 1, 8, 0, 0, 0, 0, 0, 0, 0, 0, 0],

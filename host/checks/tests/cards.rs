@@ -3,7 +3,10 @@
 
 use model::checksum::crc8;
 use traffic::header;
-use ventorupo::{EntryId, ListKind, Refusal, Settings, Side, Switch, Turn};
+use ventorupo::{
+    find, repair, EntryId, Finding, Halt, ListKind, Refusal, RoundTurn, Rule, Settings, Side,
+    Switch, Turn,
+};
 
 const SMALL: Settings = Settings::ten_bytes(8, 64, 4, 128);
 
@@ -188,7 +191,7 @@ fn one_queue_holds_every_node() {
         nodes: 2048,
         ..SMALL
     };
-    let mut switch = Switch::setup(vec![0; 112_580], settings).unwrap();
+    let mut switch = Switch::setup(vec![0; 112_584], settings).unwrap();
     for entry in 0..8192 {
         let port = u32::from(entry / 2048);
         let header = plain(0, port, 0, 12);
@@ -396,4 +399,246 @@ fn more_memory_than_needed() {
         assert_eq!(switch.turn(0), Ok(Turn::Idle));
         assert!(memory[needed..].iter().all(|&byte| byte == 0x5A));
     }
+}
+
+// Ports that lie are halted.
+
+/// Where the marks of four ports start (docs/LAYOUT.md).
+const HALTED: usize = 4116;
+
+/// Right for port p but for its checksum.
+fn wrong_sum(port: u32) -> [u8; 10] {
+    let mut header = plain(0, port, 0, 12);
+    header[9] ^= 1;
+    header
+}
+
+/// What is told of the four ports.
+fn reports(switch: &Switch<Vec<u8>>) -> [Option<Halt>; 4] {
+    [0, 1, 2, 3].map(|port| switch.report(port).unwrap())
+}
+
+#[test]
+fn a_bad_checksum_halts_its_port() {
+    let mut switch = switch(SMALL);
+    assert_eq!(switch.arrive(1, &wrong_sum(1)), Err(Refusal::Checksum));
+    assert_eq!(reports(&switch), [None, Some(Halt::Checksum), None, None]);
+    // All the credit is in hand; 12 bytes cost 1 of 128.
+    for queue in 1..24 {
+        let header = plain(0, 1, queue, 12);
+        assert_eq!(switch.arrive(1, &header), Err(Refusal::NoCredit));
+    }
+    let inside = plain(0, 1, 0, 8191);
+    assert_eq!(switch.arrive(1, &inside), Ok(EntryId(2048)));
+    assert_eq!(switch.arrive(0, &plain(0, 0, 1, 12)), Ok(EntryId(0)));
+    // Cleared, it goes on with the next node, and has its credit still.
+    switch.clear(1).unwrap();
+    assert_eq!(reports(&switch), [None; 4]);
+    let dearest = plain(0, 1, 1, 8191);
+    assert_eq!(switch.arrive(1, &dearest), Ok(EntryId(2049)));
+    assert_eq!(
+        switch.arrive(1, &plain(0, 1, 1, 12)),
+        Err(Refusal::NoCredit)
+    );
+}
+
+#[test]
+fn the_first_mark_stays() {
+    let mut switch = switch(SMALL);
+    assert_eq!(switch.arrive(3, &wrong_sum(3)), Err(Refusal::Checksum));
+    let marked = switch.memory().to_vec();
+    // A second fault, and each fault again: refused with their own numbers.
+    assert_eq!(switch.arrive(3, &plain(0, 2, 5, 12)), Err(Refusal::Source));
+    assert_eq!(switch.arrive(3, &wrong_sum(3)), Err(Refusal::Checksum));
+    assert_eq!(switch.report(3), Ok(Some(Halt::Checksum)));
+    assert_eq!(switch.memory(), marked);
+    // And the other way round.
+    switch.clear(3).unwrap();
+    assert_eq!(switch.arrive(3, &plain(0, 2, 5, 12)), Err(Refusal::Source));
+    assert_eq!(switch.arrive(3, &wrong_sum(3)), Err(Refusal::Checksum));
+    assert_eq!(switch.report(3), Ok(Some(Halt::Source)));
+}
+
+/// A header from port 2, says its source; but it came in at port 1.
+#[test]
+fn the_arriving_port_is_marked_and_not_the_source() {
+    let mut switch = switch(SMALL);
+    let header = plain(0, 2, 5, 12);
+    assert_eq!(switch.arrive(1, &header), Err(Refusal::Source));
+    assert_eq!(reports(&switch), [None, Some(Halt::Source), None, None]);
+    assert_eq!(switch.arrive(2, &header), Ok(EntryId(4096)));
+    // With a wrong checksum too.
+    let mut header = plain(0, 3, 5, 12);
+    header[9] ^= 1;
+    assert_eq!(switch.arrive(0, &header), Err(Refusal::Checksum));
+    assert_eq!(
+        reports(&switch),
+        [Some(Halt::Checksum), Some(Halt::Source), None, None]
+    );
+}
+
+/// One byte differs, and no other; of the later lies none.
+#[test]
+fn the_mark_is_the_only_change() {
+    let mut switch = switch(SMALL);
+    bring(&mut switch, 5, 100);
+    for (lie, number) in [(wrong_sum(0), 7), (plain(0, 1, 0, 12), 8)] {
+        let before = switch.memory().to_vec();
+        switch.arrive(0, &lie).unwrap_err();
+        let mut left = before.clone();
+        left[HALTED] = number;
+        assert_eq!(switch.memory(), left);
+        switch.arrive(0, &lie).unwrap_err();
+        assert_eq!(switch.memory(), left);
+        switch.clear(0).unwrap();
+        assert_eq!(switch.memory(), before);
+    }
+}
+
+/// Of a port above the last, and for a size, a reserved bit (beside a wrong
+/// source too), a length and a queue.
+#[test]
+fn other_refusals_mark_nobody() {
+    let mut switch = switch(SMALL);
+    let before = switch.memory().to_vec();
+    let reserved = |source| header(0, source, 0, 12, false, true, 0, 0, 0);
+    for (port, header, refusal) in [
+        (4, &wrong_sum(0)[..], Refusal::NoPort),
+        (4, &plain(0, 0, 5, 12), Refusal::NoPort),
+        (u32::MAX, &wrong_sum(3), Refusal::NoPort),
+        (1, &wrong_sum(1)[..9], Refusal::HeaderSize),
+        (1, &reserved(1), Refusal::ReservedBit),
+        (1, &reserved(2), Refusal::ReservedBit),
+        (1, &plain(0, 1, 0, 11), Refusal::TooShort),
+        (1, &plain(0, 1, 24, 12), Refusal::HeaderQueue),
+    ] {
+        assert_eq!(switch.arrive(port, header), Err(refusal));
+        assert_eq!(switch.memory(), before);
+        assert_eq!(reports(&switch), [None; 4]);
+    }
+    // What no port can be told of is nobody's.
+    assert_eq!(switch.report(4), Err(Refusal::NoPort));
+    assert_eq!(switch.clear(4), Err(Refusal::NoPort));
+}
+
+/// The free list is empty: a queue above 0 is told of the halt, queue 0 of the
+/// pool.
+#[test]
+fn a_halted_port_tests_in_the_papers_order() {
+    let mut switch = switch(Settings { nodes: 1, ..SMALL });
+    switch.arrive(0, &SHORTEST).unwrap();
+    assert_eq!(
+        switch.arrive(0, &plain(0, 0, 5, 12)),
+        Err(Refusal::NoFreeNode)
+    );
+    switch.arrive(0, &wrong_sum(0)).unwrap_err();
+    let faulty = |source, queue, length, reserved| {
+        header(0, source, queue, length, false, reserved, 0, 0, 0)
+    };
+    for (header, refusal) in [
+        (&SHORTEST[1..], Refusal::HeaderSize),
+        (&wrong_sum(0)[..], Refusal::Checksum),
+        (&faulty(1, 24, 11, true), Refusal::ReservedBit),
+        (&faulty(1, 24, 11, false), Refusal::Source),
+        (&faulty(0, 24, 11, false), Refusal::TooShort),
+        (&faulty(0, 24, 12, false), Refusal::HeaderQueue),
+        (&faulty(0, 23, 12, false), Refusal::NoCredit),
+        (&faulty(0, 0, 12, false), Refusal::NoFreeNode),
+    ] {
+        assert_eq!(switch.arrive(0, header), Err(refusal));
+    }
+    assert_eq!(switch.report(0), Ok(Some(Halt::Checksum)));
+}
+
+#[test]
+fn setup_and_repair_lift_the_mark() {
+    let mut switch = switch(SMALL);
+    let fresh = switch.memory().to_vec();
+    switch.arrive(2, &wrong_sum(2)).unwrap_err();
+    // A refused setup leaves it.
+    let none = Settings { slots: 0, ..SMALL };
+    assert_eq!(switch.setup_again(none), Err(Refusal::BadSetting));
+    assert_eq!(switch.report(2), Ok(Some(Halt::Checksum)));
+    switch.setup_again(SMALL).unwrap();
+    assert_eq!(switch.memory(), fresh);
+    switch.arrive(2, &wrong_sum(2)).unwrap_err();
+    switch.repair().unwrap();
+    assert_eq!(switch.memory(), fresh);
+    assert_eq!(reports(&switch), [None; 4]);
+    // Of a mark that is none too.
+    let mut memory = switch.into_memory();
+    memory[HALTED + 3] = 255;
+    repair(&mut memory).unwrap();
+    assert_eq!(memory, fresh);
+}
+
+#[test]
+fn clear_and_report_of_no_state() {
+    let mut memory = vec![0; 65_536];
+    let mut mark = 77;
+    for port in [0, 3, 4, u32::MAX] {
+        assert_eq!(ventorupo::calls::clear(&mut memory, port), 3);
+        assert_eq!(ventorupo::calls::report(&memory, port, &mut mark), 3);
+    }
+    let mut memory = switch(SMALL).into_memory();
+    for port in [4, 255, 256, 260, 65_536, u32::MAX] {
+        assert_eq!(ventorupo::calls::clear(&mut memory, port), 4);
+        assert_eq!(ventorupo::calls::report(&memory, port, &mut mark), 4);
+    }
+    // A refusal leaves the room.
+    assert_eq!(mark, 77);
+    assert_eq!(ventorupo::calls::report(&memory, 3, &mut mark), 0);
+    assert_eq!(mark, 0);
+}
+
+/// 18 comes with beats, and is a mark already; 1 is none.
+#[test]
+fn marks_written_by_hand() {
+    let mut memory = switch(SMALL).into_memory();
+    memory[HALTED + 2] = 18;
+    assert_eq!(find(&memory), None);
+    let mut halted = Switch::over(memory.clone());
+    assert_eq!(reports(&halted), [None, None, Some(Halt::Beat), None]);
+    assert_eq!(
+        halted.arrive(2, &plain(0, 2, 1, 12)),
+        Err(Refusal::NoCredit)
+    );
+    // The first stays.
+    assert_eq!(halted.arrive(2, &wrong_sum(2)), Err(Refusal::Checksum));
+    assert_eq!(halted.report(2), Ok(Some(Halt::Beat)));
+    halted.clear(2).unwrap();
+    assert_eq!(halted.arrive(2, &plain(0, 2, 1, 12)), Ok(EntryId(4096)));
+
+    memory[HALTED + 1] = 1;
+    let finding = Finding {
+        rule: Rule::I,
+        item: 1,
+    };
+    assert_eq!(find(&memory), Some(finding));
+    let mut broken = Switch::over(memory.clone());
+    assert_eq!(broken.report(1), Err(Refusal::NoState));
+    assert_eq!(broken.clear(1), Err(Refusal::NoState));
+    // A lie on memory that is no state marks nobody.
+    assert_eq!(broken.arrive(0, &wrong_sum(0)), Err(Refusal::NoState));
+    assert_eq!(broken.memory(), memory);
+}
+
+#[test]
+fn turns_go_on_at_a_halted_port() {
+    let mut switch = switch(SMALL);
+    for queue in [0, 5, 9] {
+        bring_covered(&mut switch, queue);
+    }
+    switch.arrive(0, &plain(0, 0, 7, 12)).unwrap();
+    switch.credit(0, 7, 1).unwrap();
+    for port in 0..4 {
+        switch.arrive(port, &wrong_sum(port)).unwrap_err();
+    }
+    assert_eq!(switch.ready(0).unwrap().word, 1 << 9 | 1 << 5 | 1);
+    assert_eq!([served(&mut switch), served(&mut switch)], [0, 5]);
+    // What came in before the halt is stitched, fetched and sent.
+    assert_eq!(switch.round().unwrap()[0], RoundTurn::Sent(EntryId(3)));
+    assert_eq!(switch.round().unwrap()[0], RoundTurn::Sent(EntryId(2)));
+    assert_eq!(switch.round().unwrap()[..], [RoundTurn::Idle; 4]);
+    assert_eq!(reports(&switch), [Some(Halt::Checksum); 4]);
 }

@@ -3,11 +3,12 @@
 use checks::counts::Counts;
 use checks::run::{run, Plan};
 use checks::scale::Scale;
-use checks::{damage, library, wrapper, Desk};
+use checks::tables::Tables;
+use checks::{damage, left, library, reader, wrapper, Desk};
 use model::header::Header;
 use model::{size, Call, Model, Reply, Settings, Shape};
 use traffic::headers::spelt;
-use traffic::{plain, Profile, Traffic, SHAPES};
+use traffic::{plain, Before, Profile, Traffic, SHAPES};
 
 const NODES: [u32; 7] = [1, 2, 4, 16, 64, 256, 257];
 
@@ -57,6 +58,8 @@ fn the_library_agrees_with_the_model() {
     println!("{counts}");
     assert_eq!(counts.too_rare(1, 100), []);
     assert!(counts.each_call_at_least(100));
+    assert_eq!(counts.halts.too_rare(100), []);
+    assert!(counts.halts.above_queue_0() > 5_000);
 }
 
 #[test]
@@ -89,6 +92,7 @@ fn every_shape_gives_each_of_its_refusals() {
         let counts = run_profile(&library::call, Profile::Hostile, shape, &nodes, calls);
         println!("{shape:?}\n{counts}");
         assert_eq!(counts.amiss(&shape, 3), [], "{shape:?}");
+        assert_eq!(counts.halts.too_rare(3), [], "{shape:?}");
     }
 }
 
@@ -224,15 +228,27 @@ fn headers_with_faults(shape: &Shape) -> Vec<Vec<u8>> {
     headers
 }
 
-/// All of them at a port with and without a free node and credit.
+/// All of them at a port with and without a free node and credit, and halted.
 #[test]
 fn headers_with_every_mix_of_faults() {
     let mut counts = Counts::default();
     for shape in SHAPES {
         let port = shape.ports - 1;
-        for (taken, credit) in [(false, 1), (false, 0), (true, 1), (true, 0)] {
+        for (taken, credit, halted) in [
+            (false, 1, false),
+            (false, 0, false),
+            (true, 1, false),
+            (true, 0, false),
+            (false, 1, true),
+            (true, 1, true),
+        ] {
             let settings = Settings::of(shape, 1, 64, 1, credit);
             let mut calls = vec![Call::Setup(settings)];
+            if halted {
+                // From port 0, says its source.
+                let header = plain(&shape, 0, 0, 0, shape.shortest());
+                calls.push(Call::Arrive { port, header });
+            }
             if taken {
                 let header = plain(&shape, 0, port, 0, shape.shortest());
                 calls.push(Call::Arrive { port, header });
@@ -247,9 +263,11 @@ fn headers_with_every_mix_of_faults() {
                 let (mut memory, wanted) = (start.clone(), model.clone().call(&call));
                 let answer = library::call(&mut memory, &call);
                 assert_eq!(answer.as_ref(), Ok(&wanted), "{call:?}");
-                let refused = matches!(wanted, Reply::Refused(_));
-                assert_eq!(memory == start, refused, "{call:?}");
-                counts.note(&call, &wanted);
+                let mut kept = start.clone();
+                let still = left(&mut kept, &call, &wanted);
+                assert_eq!(still, matches!(wanted, Reply::Refused(_)), "{call:?}");
+                assert_eq!(memory == kept, still, "{call:?}");
+                counts.note(Before::of(&model, &call), &call, &wanted);
             }
         }
     }
@@ -257,6 +275,10 @@ fn headers_with_every_mix_of_faults() {
     for number in [7, 20, 8, 9, 19, 10, 11] {
         assert!(counts.refused(number) > 0, "refusal {number}");
     }
+    // Each is made on the same bytes anew, so nothing is cleared.
+    let rare = counts.halts.too_rare(10);
+    let never = ["cleared", "taken in above queue 0 after a clear"];
+    assert_eq!(rare, never.map(|name| (name, 0)));
 }
 
 /// Memory that no state fits into, of any length down to none.
@@ -285,7 +307,7 @@ fn memory_too_short_for_any_state() {
 #[test]
 fn the_size_is_the_published_formula() {
     let formula = |s: &Settings| {
-        let fixed = 16 + 4096 + s.ports + 4 * s.ports * (s.queues - 1);
+        let fixed = 16 + 4096 + 2 * s.ports + 4 * s.ports * (s.queues - 1);
         (fixed + 8 * s.ports * (2 + 2 * s.queues) + 13 * s.ports * s.nodes) as usize
     };
     let agrees = |settings: Settings| {
@@ -381,7 +403,7 @@ const SLIPPERY: Plan = Plan {
     seed: 3,
     profile: Profile::Valid,
     shape: Shape::TEN_BYTES,
-    memory_len: 6084 + 52 * 4,
+    memory_len: 6088 + 52 * 4,
     calls: 20_000,
     ledger_every: 256,
 };
@@ -404,7 +426,7 @@ fn a_slip_in_the_ledger_is_found_and_cut_down() {
         let reply = library::call(memory, call)?;
         if let (Call::Prefetch { .. }, Reply::Entry(_)) = (call, &reply) {
             // Arrival credit of port 0 and queue 1, lowest byte.
-            memory[4117] = memory[4117].wrapping_add(1);
+            memory[4121] = memory[4121].wrapping_add(1);
         }
         Ok(reply)
     };
@@ -444,14 +466,14 @@ fn a_slip_past_the_size_is_found_and_cut_down() {
 #[test]
 fn a_slip_in_the_test_for_a_state_is_found() {
     let slip = |memory: &mut [u8], call: &Call| {
-        let kept = memory.to_vec();
         // A last served queue out of range is taken for 0.
-        if memory.len() > 4112 && memory[4112] >= memory[3] {
+        let kept = memory.get(4112).copied().filter(|&last| last >= memory[3]);
+        if kept.is_some() {
             memory[4112] = 0;
         }
         let reply = library::call(memory, call)?;
-        if let Reply::Refused(_) | Reply::Idle = reply {
-            memory.copy_from_slice(&kept);
+        if let (Some(last), Reply::Refused(_) | Reply::Idle) = (kept, &reply) {
+            memory[4112] = last;
         }
         Ok(reply)
     };
@@ -468,4 +490,129 @@ fn a_slip_in_the_test_for_a_state_is_found() {
     let failure = found.expect("the slip was not found");
     assert_eq!(failure.changes.len(), 1);
     assert_eq!(failure.changes[0].at, 4112);
+}
+
+/// A hostile run: there are lies enough in it.
+const LYING: Plan = Plan {
+    profile: Profile::Hostile,
+    ..SLIPPERY
+};
+
+/// The byte of a port's mark, of memory that is a state.
+fn mark(memory: &mut [u8], port: u32) -> &mut u8 {
+    let tables = Tables::of(&reader::settings(memory));
+    &mut memory[tables.halted.start + port as usize]
+}
+
+/// Is this an arrival that is refused so?
+fn refused_at(call: &Call, reply: &Reply, numbers: &[u8]) -> Option<u32> {
+    match (call, reply) {
+        (Call::Arrive { port, .. }, Reply::Refused(number)) if numbers.contains(number) => {
+            Some(*port)
+        }
+        _ => None,
+    }
+}
+
+/// A slip, told, and the library with it.
+type Slip = (&'static str, fn(&mut [u8], &Call) -> Result<Reply, String>);
+
+const SLIPS: [Slip; 8] = [
+    ("a lie marks nobody", |memory, call| {
+        let kept = memory.to_vec();
+        let reply = library::call(memory, call)?;
+        if let Reply::Refused(_) = reply {
+            memory.copy_from_slice(&kept);
+        }
+        Ok(reply)
+    }),
+    ("the port next to it is marked", |memory, call| {
+        let kept = memory.to_vec();
+        let reply = library::call(memory, call)?;
+        if let Some(port) = refused_at(call, &reply, &[7, 8]) {
+            let told = *mark(memory, port);
+            memory.copy_from_slice(&kept);
+            *mark(memory, port ^ 1) = told;
+        }
+        Ok(reply)
+    }),
+    ("the last mark stays", |memory, call| {
+        let reply = library::call(memory, call)?;
+        if let (Some(port), Reply::Refused(number)) = (refused_at(call, &reply, &[7, 8]), &reply) {
+            *mark(memory, port) = *number;
+        }
+        Ok(reply)
+    }),
+    ("a short length marks too", |memory, call| {
+        let reply = library::call(memory, call)?;
+        if let Some(port) = refused_at(call, &reply, &[9]) {
+            *mark(memory, port) = 7;
+        }
+        Ok(reply)
+    }),
+    ("a lie costs credit too", |memory, call| {
+        let reply = library::call(memory, call)?;
+        if let Some(port) = refused_at(call, &reply, &[7, 8]) {
+            *mark(memory, port + 4) ^= 1;
+        }
+        Ok(reply)
+    }),
+    ("a clear that lifts nothing", |memory, call| match call {
+        Call::Clear { port } => {
+            library::call(memory, &Call::Ready { port: *port }).map(|reply| match reply {
+                Reply::Word(..) => Reply::Done,
+                refused => refused,
+            })
+        }
+        _ => library::call(memory, call),
+    }),
+    ("a clear that lifts all", |memory, call| {
+        let reply = library::call(memory, call)?;
+        if let (Call::Clear { .. }, Reply::Done) = (call, &reply) {
+            for port in 0..reader::settings(memory).ports {
+                *mark(memory, port) = 0;
+            }
+        }
+        Ok(reply)
+    }),
+    ("a report that tells that, not why", |memory, call| {
+        Ok(match library::call(memory, call)? {
+            Reply::Mark(1..) => Reply::Mark(7),
+            reply => reply,
+        })
+    }),
+];
+
+#[test]
+fn a_slip_in_a_halt_is_found() {
+    for (name, slip) in SLIPS {
+        match run(&LYING, &slip, &mut Counts::default()) {
+            Ok(()) => panic!("not found: {name}"),
+            Err(failure) => println!("{name}: {failure}"),
+        }
+    }
+}
+
+/// A halt that is overlooked is a price that is covered: taken in all the same.
+#[test]
+fn a_slip_that_overlooks_a_halt_is_found() {
+    let slip = |memory: &mut [u8], call: &Call| {
+        let port = match call {
+            Call::Arrive { port, .. } if reader::judged(memory).is_ok() => *port,
+            _ => return library::call(memory, call),
+        };
+        if port >= reader::settings(memory).ports {
+            return library::call(memory, call);
+        }
+        let kept = std::mem::take(mark(memory, port));
+        let reply = library::call(memory, call)?;
+        if kept != 0 {
+            *mark(memory, port) = kept;
+        }
+        Ok(reply)
+    };
+    let failure = run(&LYING, &slip, &mut Counts::default()).unwrap_err();
+    println!("{failure}");
+    // Setup, a lie and an arrival.
+    assert_eq!(failure.remaining.len(), 3);
 }

@@ -136,7 +136,7 @@ fn traffic_goes_on_after_a_repair() {
 #[test]
 fn any_bytes_are_found_alike() {
     let mut random = Random::new(11);
-    let lengths = (0..40).chain([4243, 4244, 4245, 6135, 6136, 6137, 65_536]);
+    let lengths = (0..40).chain([4245, 4246, 4247, 6139, 6140, 6141, 65_536]);
     for length in lengths.cycle().take(2000) {
         let mut bytes: Vec<u8> = (0..length).map(|_| random.word() as u8).collect();
         // Settings that are right, and the rest anything: of two editions.
@@ -175,6 +175,10 @@ fn a_slip_in_the_test_is_found() {
         (
             (|memory| matches!((PROVED.find)(memory), (0 | 7, _))) as fn(&[u8]) -> bool,
             "the test says true, the finding is Some(Finding { rule: 'g'",
+        ),
+        (
+            |memory| matches!((PROVED.find)(memory), (0 | 9, _)),
+            "the test says true, the finding is Some(Finding { rule: 'i'",
         ),
         (
             |memory| rules::is_state(memory) && memory[4112] == 0,

@@ -89,10 +89,10 @@ fn rounds_on_damaged_memory() {
         let mut damaged = 0;
         while damaged < scale.share(100) {
             let at = match random.below(6) {
-                // Settings, map and marks often.
+                // Settings, map, last served queues and marks often.
                 0 => random.below(16),
                 1 => 16 + random.below(4096),
-                2 => 4112 + random.below(scale.shape.ports),
+                2 => 4112 + random.below(2 * scale.shape.ports),
                 _ => random.below(memory.len() as u32),
             };
             memory[at as usize] ^= 1 << random.below(8);

@@ -77,8 +77,8 @@ fn a_packet_goes_through_every_queue_of_every_port() {
     }
 }
 
-/// All of 64 queues ready: bit 63 is the word's last, and above a mark of 63
-/// there is none.
+/// All of 64 queues ready: bit 63 is the word's last, and where 63 was the last
+/// served there is none above it.
 #[test]
 fn the_ready_word_of_64_queues() {
     for ports in [2, 32] {
@@ -87,7 +87,7 @@ fn the_ready_word_of_64_queues() {
         for queue in (0..64).chain(0..64) {
             bring(&mut pair, &shape, queue);
         }
-        // At setup the mark is 63, so queue 0 is the next.
+        // At setup 63 counts as served, so queue 0 is the next.
         for queue in 0..64 {
             let ready = pair.call(&Call::Ready { port: 0 });
             assert_eq!(ready, Ok(Reply::Word(u64::MAX, 64)));
@@ -103,14 +103,14 @@ fn the_ready_word_of_64_queues() {
     }
 }
 
-/// Queue 63 alone, from marks below it and from its own.
+/// Queue 63 alone, where queues below it or itself were served last.
 #[test]
-fn queue_63_alone_is_served_from_every_mark() {
+fn queue_63_alone_is_served_after_every_queue() {
     let shape = Shape::wide(2, 64);
     let mut pair = begun(Settings::of(shape, 8, 64, 2, 8));
-    for mark in [0, 31, 32, 62, 63] {
-        bring(&mut pair, &shape, mark);
-        assert_eq!(u32::from(served(&mut pair)), mark);
+    for last in [0, 31, 32, 62, 63] {
+        bring(&mut pair, &shape, last);
+        assert_eq!(u32::from(served(&mut pair)), last);
         bring(&mut pair, &shape, 63);
         let ready = pair.call(&Call::Ready { port: 0 });
         assert_eq!(ready, Ok(Reply::Word(1 << 63, 1)));
@@ -129,7 +129,7 @@ fn queue_63_alone_is_served_from_every_mark() {
 fn two_ports_and_two_queues() {
     let shape = Shape::wide(2, 2);
     let mut pair = begun(Settings::of(shape, 2, 64, 1, 9));
-    assert_eq!(pair.lent(), 4270 + 3);
+    assert_eq!(pair.lent(), 4272 + 3);
     pair.call(&Call::Map { id: 1, port: 1 }).unwrap();
     let header = plain(&shape, 1, 0, 1, 8191);
     let arrive = |port| Call::Arrive {
@@ -166,6 +166,49 @@ fn two_ports_and_two_queues() {
     assert_eq!(pair.call(&round(7)), Ok(Reply::Refused(27)));
     let turns = vec![0, 1, 0, 0, 0, 0, 0, 0];
     assert_eq!(pair.call(&round(8)), Ok(Reply::Turns(turns)));
+}
+
+/// The last port of every shape lies: it alone is halted, for queues above 0.
+#[test]
+fn the_last_port_of_every_shape_is_halted_and_cleared() {
+    for shape in SHAPES {
+        let mut pair = begun(Settings::of(shape, 2, 64, 1, 9));
+        let port = shape.ports - 1;
+        let arrive = |port, source, queue| Call::Arrive {
+            port,
+            header: plain(&shape, 0, source, queue, 64),
+        };
+        let last = shape.queues - 1;
+        // Every source that there is room for, and that isn't the port.
+        for source in (0..1 << shape.port_bits()).filter(|&source| source != port) {
+            assert_eq!(
+                pair.call(&arrive(port, source, last)),
+                Ok(Reply::Refused(8))
+            );
+        }
+        for other in 0..port {
+            let report = pair.call(&Call::Report { port: other });
+            assert_eq!(report, Ok(Reply::Mark(0)));
+        }
+        assert_eq!(pair.call(&Call::Report { port }), Ok(Reply::Mark(8)));
+        assert_eq!(pair.call(&arrive(port, port, last)), Ok(Reply::Refused(10)));
+        let entry = (port * 2048) as u16;
+        assert_eq!(pair.call(&arrive(port, port, 0)), Ok(Reply::Entry(entry)));
+        let before = Reply::Entry(((port - 1) * 2048) as u16);
+        assert_eq!(pair.call(&arrive(port - 1, port - 1, last)), Ok(before));
+        for call in [
+            Call::Clear { port: port + 1 },
+            Call::Report { port: port + 1 },
+        ] {
+            assert_eq!(pair.call(&call), Ok(Reply::Refused(4)));
+        }
+        assert_eq!(pair.call(&Call::Clear { port }), Ok(Reply::Done));
+        assert_eq!(
+            pair.call(&arrive(port, port, last)),
+            Ok(Reply::Entry(entry + 1))
+        );
+        assert_eq!(pair.call(&Call::Report { port }), Ok(Reply::Mark(0)));
+    }
 }
 
 /// A state of the ten-byte edition and one of the wide edition with its counts
@@ -247,7 +290,7 @@ fn the_largest_switch_full_and_called_at_its_edges() {
     let ledger = model.ledger().unwrap();
     assert!(ledger.ports.iter().all(|port| port.free.is_empty()));
     let mut pair = Pair::over(&library::call, ledger, 1);
-    assert_eq!(pair.lent(), 897_456);
+    assert_eq!(pair.lent(), 897_488);
     assert_eq!(PROVED.finds(&pair.memory()[..pair.lent()]), Ok(None));
     pair.compare_ledgers().unwrap();
 
@@ -261,6 +304,15 @@ fn the_largest_switch_full_and_called_at_its_edges() {
     let header = plain(&LARGEST, 0, 31, 0, 14);
     let arrived = pair.call(&Call::Arrive { port: 32, header });
     assert_eq!(arrived, Ok(Reply::Refused(4)));
+    // Port 31 lies, and is told of that where it was told of its pool.
+    let header = plain(&LARGEST, 0, 30, 63, 14);
+    let lie = pair.call(&Call::Arrive { port: 31, header });
+    assert_eq!(lie, Ok(Reply::Refused(8)));
+    let header = plain(&LARGEST, 0, 31, 63, 14);
+    let arrived = pair.call(&Call::Arrive { port: 31, header });
+    assert_eq!(arrived, Ok(Reply::Refused(10)));
+    let report = pair.call(&Call::Report { port: 31 });
+    assert_eq!(report, Ok(Reply::Mark(8)));
     let place = |entry| Call::Where { entry };
     let ingress = ListKind::Ingress { port: 31 };
     assert_eq!(pair.call(&place(65_535)), Ok(Reply::Found(ingress, 147)));

@@ -1,5 +1,6 @@
 //! The bench program on the model: tagged fields in, lines out. It keeps to the
-//! ten-byte header, four ports and 24 queues.
+//! ten-byte header, four ports and 24 queues, and has no field for clear and
+//! report: what it halts stays so until the next setup.
 
 use crate::{Call, Model, Reply, Settings};
 
@@ -84,8 +85,8 @@ fn words(reply: &Reply) -> String {
         Reply::Stitched(record) => format!("0 {}", u16::from_be_bytes([record[0], record[1]])),
         Reply::Idle => "0 idle".to_string(),
         Reply::Leaves(packet, _) => format!("0 {}", packet.entry),
-        Reply::Word(..) | Reply::Found(..) | Reply::Turns(_) => {
-            unreachable!("no tag asks for ready, where or a round")
+        Reply::Word(..) | Reply::Found(..) | Reply::Mark(_) | Reply::Turns(_) => {
+            unreachable!("no tag asks for ready, where, a mark or a round")
         }
     }
 }

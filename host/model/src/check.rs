@@ -1,8 +1,8 @@
-//! When a ledger is sound: rules (a) to (g), each gone through over the whole
-//! ledger before the next. The message starts with the broken rule's letter.
+//! When a ledger is sound: rules (a) to (g) and (i), each gone through over the
+//! whole ledger before the next. The message starts with the broken rule's letter.
 
 use crate::ledger::{index, owner};
-use crate::{price, size, Ledger, ListKind, Settings, DESTINATIONS, LONGEST, MOST_CREDIT};
+use crate::{price, size, Ledger, ListKind, Settings, DESTINATIONS, LONGEST, MARKS, MOST_CREDIT};
 
 /// A broken rule ends the check with a message.
 macro_rules! rule {
@@ -20,7 +20,8 @@ pub fn check(ledger: &Ledger, memory_len: usize) -> Result<(), String> {
     own_nodes(ledger)?;
     queues_of_lists(ledger)?;
     records(ledger)?;
-    arrival_credit(ledger)
+    arrival_credit(ledger)?;
+    marks(ledger)
 }
 
 /// Rule (a).
@@ -175,6 +176,18 @@ fn arrival_credit(ledger: &Ledger) -> Result<(), String> {
                 ledger.settings.credit
             );
         }
+    }
+    Ok(())
+}
+
+/// Rule (i).
+fn marks(ledger: &Ledger) -> Result<(), String> {
+    for (port, at) in ledger.ports.iter().enumerate() {
+        rule!(
+            MARKS.contains(&at.mark),
+            "(i) port {port} has mark {}",
+            at.mark
+        );
     }
     Ok(())
 }

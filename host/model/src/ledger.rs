@@ -1,5 +1,6 @@
 //! The ledger, and every call on it but setup. Each call tests all of its
-//! refusals, in the paper's order, before it changes anything.
+//! refusals, in the paper's order, before it changes anything; a refused one
+//! changes nothing but, after an arrival whose header lies, its port's mark.
 
 use std::collections::VecDeque;
 
@@ -23,6 +24,8 @@ pub struct Port {
     /// Cell 0 as above.
     pub outward_credit: Vec<u32>,
     pub last_served: u32,
+    /// 0, or the number of the refusal that halted the port.
+    pub mark: u8,
     /// By node index; none exactly while the node is free.
     pub packets: Vec<Option<Packet>>,
 }
@@ -64,6 +67,7 @@ impl Port {
             arrival_credit,
             outward_credit: vec![0; queues],
             last_served: settings.queues - 1,
+            mark: 0,
             packets: vec![None; settings.nodes as usize],
         }
     }
@@ -117,12 +121,19 @@ impl Ledger {
 
     pub(crate) fn arrive(&mut self, port: u32, bytes: &[u8]) -> Result<Reply, u8> {
         let p = self.port_in_range(port)?;
-        let header = header::judged(&self.settings.shape(), bytes, Some(port))?;
+        let header = header::judged(&self.settings.shape(), bytes, Some(port));
+        let at = &mut self.ports[p];
+        // A header that lies halts the port where it came in; the first mark stays.
+        if let (Err(number @ (7 | 8)), 0) = (&header, at.mark) {
+            at.mark = *number;
+        }
+        let header = header?;
         let queue = header.queue as usize;
         let price = price(header.length, header.queue, self.settings.beat);
-        let at = &mut self.ports[p];
-        // Queue 0 costs nothing, so its cell, always 0, covers it.
-        if price > at.arrival_credit[queue] {
+        // Queue 0 costs nothing, so its cell, always 0, covers it. The others of a
+        // halted port are refused as if credit were 0.
+        let halted = at.mark != 0 && queue > 0;
+        if halted || price > at.arrival_credit[queue] {
             return Err(10);
         }
         let entry = at.free.pop_front().ok_or(11)?;
@@ -250,6 +261,17 @@ impl Ledger {
             .place(entry_id(port, index))
             .expect("every node stands in one list");
         Ok(Reply::Found(kind, position))
+    }
+
+    pub(crate) fn clear(&mut self, port: u32) -> Result<Reply, u8> {
+        let p = self.port_in_range(port)?;
+        self.ports[p].mark = 0;
+        Ok(Reply::Done)
+    }
+
+    pub(crate) fn report(&self, port: u32) -> Result<Reply, u8> {
+        let p = self.port_in_range(port)?;
+        Ok(Reply::Mark(self.ports[p].mark))
     }
 
     /// Every node's place, port by port and index by index.

@@ -1,5 +1,5 @@
 //! An independent model of the queue manager, written from papers 01 and 02
-//! (requests) alone.
+//! (requests) alone.
 //!
 //! The model keeps plain lists and numbers; it has no memory image. The
 //! caller's memory is only a length here, so that setup can refuse a short one.
@@ -76,6 +76,14 @@ pub enum Call {
     Where {
         entry: u32,
     },
+    /// Lifts the port's mark.
+    Clear {
+        port: u32,
+    },
+    /// Reads the port's mark.
+    Report {
+        port: u32,
+    },
     /// With the room that is lent for the turns, as it stands before.
     Round {
         room: Vec<u8>,
@@ -87,7 +95,7 @@ pub enum Call {
 pub enum Reply {
     /// The refusal's number in the paper's table.
     Refused(u8),
-    /// Setup, credit and map: accepted, no value.
+    /// Setup, credit, map and clear: accepted, no value.
     Done,
     /// Arrive and prefetch: the entry id.
     Entry(u16),
@@ -101,6 +109,8 @@ pub enum Reply {
     Word(u64, u32),
     /// Where: the node's list and the position in it, from 0.
     Found(ListKind, u32),
+    /// Report: the port's mark.
+    Mark(u8),
     /// Round: the bytes for each port's turn.
     Turns(Vec<u8>),
 }
@@ -145,14 +155,28 @@ pub enum Choice {
     EarlyOut,
 }
 
+/// The marks that a port can have: none, or the number of the refusal that
+/// halted it. Nothing gives 18 yet.
+pub const MARKS: [u8; 4] = [0, 7, 8, 18];
+
+/// The one change that a refusal may make: the port that an arrival's answer
+/// marks, if it has no mark yet, and the mark. For those who compare what was
+/// before a call with what is after it; the model itself does not ask.
+pub fn marked(call: &Call, reply: &Reply) -> Option<(u32, u8)> {
+    match (call, reply) {
+        (Call::Arrive { port, .. }, Reply::Refused(number @ (7 | 8))) => Some((*port, *number)),
+        _ => None,
+    }
+}
+
 /// The bytes of lent memory that a state of these settings needs.
 pub fn size(settings: &Settings) -> usize {
     let [ports, queues, nodes] =
         [settings.ports, settings.queues, settings.nodes].map(|number| number as usize);
     let beside = 16 + DESTINATIONS as usize;
-    // Its mark; for each queue above 0 two credits, and for each list head, tail
-    // and count.
-    let each_port = 1 + 4 * (queues - 1) + 8 * (2 + 2 * queues);
+    // The queue last served, and its mark; for each queue above 0 two credits, and
+    // for each list head, tail and count.
+    let each_port = 2 + 4 * (queues - 1) + 8 * (2 + 2 * queues);
     beside + ports * (each_port + 13 * nodes)
 }
 
@@ -229,7 +253,7 @@ impl Model {
         Ok(())
     }
 
-    /// The model's own soundness, rules (a) to (g) in the paper's order. A
+    /// The model's own soundness, rules (a) to (g) and (i) in the paper's order. A
     /// model without a ledger has nothing that could be unsound.
     pub fn check(&self) -> Result<(), String> {
         match &self.ledger {
@@ -259,6 +283,8 @@ impl Model {
             Call::Turn { port } => ledger.turn(*port, self.choice),
             Call::Ready { port } => ledger.ready(*port),
             Call::Where { entry } => ledger.find(*entry),
+            Call::Clear { port } => ledger.clear(*port),
+            Call::Report { port } => ledger.report(*port),
             Call::Round { room } => ledger.round(room.len(), self.choice),
         }
     }

@@ -2,6 +2,7 @@
 //! refusals' order, of a switch with the ten-byte header; those of the others
 //! are in `wide`.
 
+mod halts;
 mod wide;
 
 use crate::bench::bench;
@@ -9,7 +10,8 @@ use crate::checksum::crc8;
 use crate::header::Header;
 use crate::ledger::pick;
 use crate::{
-    header, price, size, Call, Choice, ListKind, Model, Packet, Reply, Settings, Shape, Side,
+    header, marked, price, size, Call, Choice, ListKind, Model, Packet, Reply, Settings, Shape,
+    Side,
 };
 
 /// Fields of these widths written digit by digit, and the checksum behind them:
@@ -92,12 +94,17 @@ impl Desk {
         Desk(model)
     }
 
-    /// Every call is followed by the check, and a refused one changes nothing.
+    /// Every call is followed by the check, and a refused one changes nothing but,
+    /// where the header lied, the mark of a port that had none.
     fn call(&mut self, call: Call) -> Reply {
-        let before = self.0.clone();
+        let mut left = self.0.clone();
         let reply = self.0.call(&call);
-        if let Reply::Refused(_) | Reply::Idle = reply {
-            assert_eq!(self.0, before, "{call:?}");
+        if let (Some((port, number)), Some(ledger)) = (marked(&call, &reply), &mut left.ledger) {
+            let mark = &mut ledger.ports[port as usize].mark;
+            *mark = if *mark == 0 { number } else { *mark };
+        }
+        if let Reply::Refused(_) | Reply::Idle | Reply::Mark(_) = reply {
+            assert_eq!(self.0, left, "{call:?}");
         }
         assert_eq!(self.0.check(), Ok(()), "{call:?}");
         reply
@@ -144,6 +151,14 @@ impl Desk {
 
     fn place(&mut self, entry: u32) -> Reply {
         self.call(Call::Where { entry })
+    }
+
+    fn clear(&mut self, port: u32) -> Reply {
+        self.call(Call::Clear { port })
+    }
+
+    fn report(&mut self, port: u32) -> Reply {
+        self.call(Call::Report { port })
     }
 
     /// What a round tells of each port's turn: the entry id, or none if idle.
@@ -517,6 +532,8 @@ fn everything_but_setup_is_refused_before_setup() {
         Call::Turn { port: 4 },
         Call::Ready { port: 0 },
         Call::Where { entry: u32::MAX },
+        Call::Clear { port: 9 },
+        Call::Report { port: 0 },
     ] {
         assert_eq!(model.call(&call), Reply::Refused(3));
         assert_eq!(model.check(), Ok(()));
@@ -628,6 +645,10 @@ fn arrive_tests_in_the_papers_order() {
         assert_eq!(desk.arrive(0, &faulty(0, 11, 0)), Reply::Refused(9));
         assert_eq!(desk.arrive(0, &faulty(0, 8191, 0)), Reply::Refused(19));
     }
+    // The first 7 has halted the port: 10 before 11, whatever the price, until it is cleared.
+    assert_eq!(desk.arrive(0, &written(0, 0, 3, 128)), Reply::Refused(10));
+    assert_eq!(desk.arrive(0, &ACCEPTED_HEADER), Reply::Refused(11));
+    desk.clear(0);
     assert_eq!(desk.arrive(0, &written(0, 0, 3, 129)), Reply::Refused(10));
     assert_eq!(desk.arrive(0, &written(0, 0, 3, 128)), Reply::Refused(11));
     // Every wrong bit of the header is noticed.
@@ -647,6 +668,8 @@ fn the_other_calls_test_in_table_order() {
         assert_eq!(desk.credit(port, 0, u32::MAX), Reply::Refused(4));
         assert_eq!(desk.turn(port), Reply::Refused(4));
         assert_eq!(desk.ready(port), Reply::Refused(4));
+        assert_eq!(desk.clear(port), Reply::Refused(4));
+        assert_eq!(desk.report(port), Reply::Refused(4));
         assert_eq!(desk.map(3, port), Reply::Refused(4));
         assert_eq!(desk.map(4096, port), Reply::Refused(15));
     }
@@ -1060,6 +1083,17 @@ fn check_names_the_broken_rule() {
     assert_eq!(broken(|l| record(l).queue = 3), "(g)");
     assert_eq!(broken(|l| l.ports[1].arrival_credit[2] += 1), "(g)");
     assert_eq!(broken(|l| l.ports[3].arrival_credit[1] = 0), "(g)");
+    for mark in (1..=255).filter(|mark| ![7, 8, 18].contains(mark)) {
+        assert_eq!(broken(|l| l.ports[3].mark = mark), "(i)");
+    }
+    // Behind (g).
+    assert_eq!(
+        broken(|l| {
+            l.ports[0].mark = 1;
+            l.ports[3].arrival_credit[1] = 0;
+        }),
+        "(g)"
+    );
 }
 
 // The night crew's audit and repair.

@@ -17,7 +17,7 @@ use std::time::Instant;
 
 use checks::tables::Tables;
 use checks::{library, writer};
-use model::{size, Call, Choice, Model, Reply, Settings, Shape};
+use model::{marked, size, Call, Choice, Model, Reply, Settings, Shape};
 use traffic::{plain, Profile, Traffic};
 use ventorupo::calls;
 
@@ -62,7 +62,10 @@ fn numbers(s: &Settings) -> [u32; 8] {
     ]
 }
 
-/// A setup, then valid traffic of the wanted kinds; and the model behind it.
+/// A setup, then valid traffic of the wanted kinds; and the model behind it. The
+/// few lies in it are left out: not all kinds of calls have a clear among them, and
+/// ports that stay halted would take in nothing above queue 0. So no port is ever
+/// halted here, and a clear finds no mark.
 fn valid_traffic(
     seed: u64,
     settings: Settings,
@@ -75,9 +78,14 @@ fn valid_traffic(
     let mut traffic = Traffic::of(seed, Profile::Valid, settings.shape());
     while list.len() <= calls {
         let call = traffic.next(&model);
-        if wanted(&call) {
-            model.call(&call);
-            list.push(call);
+        if !wanted(&call) {
+            continue;
+        }
+        let reply = model.call(&call);
+        match marked(&call, &reply) {
+            // Undone: the mark is all that it has changed.
+            Some((port, _)) => drop(model.call(&Call::Clear { port })),
+            None => list.push(call),
         }
     }
     (list, model)
@@ -198,7 +206,7 @@ fn the_test_for_a_state(shape: Shape) {
     println!();
 }
 
-const NAMES: [&str; 10] = [
+const NAMES: [&str; 12] = [
     "setup",
     "arrive",
     "stitch",
@@ -209,6 +217,8 @@ const NAMES: [&str; 10] = [
     "ready",
     "where",
     "map",
+    "clear",
+    "report",
 ];
 
 /// Nanoseconds a call of each kind, on a switch that is filled and emptied.
@@ -280,6 +290,16 @@ fn each_call(shape: Shape, nodes: u32) -> Vec<(&'static str, f64)> {
             let mut place = [0; 8];
             for port in 0..ports {
                 assert_eq!(calls::place_of(m, port * 2048 + nodes / 2, &mut place), 0);
+            }
+        });
+        phase(10, ports as usize, &mut |m| {
+            for port in 0..ports {
+                assert_eq!(calls::clear(m, port), 0);
+            }
+        });
+        phase(11, ports as usize, &mut |m| {
+            for port in 0..ports {
+                assert_eq!(calls::report(m, port, &mut 0), 0);
             }
         });
         phase(5, headers.len(), &mut |m| {
@@ -394,6 +414,8 @@ fn quick(memory: &mut [u8], call: &Call) -> u32 {
         Call::Turn { port } => calls::turn(memory, *port, &mut [0; 16]),
         Call::Ready { port } => calls::ready(memory, *port, &mut 0, &mut 0),
         Call::Where { entry } => calls::place_of(memory, *entry, &mut [0; 8]),
+        Call::Clear { port } => calls::clear(memory, *port),
+        Call::Report { port } => calls::report(memory, *port, &mut 0),
         Call::Round { .. } => calls::round(memory, &mut [0; MOST_TURNS]),
     }
 }
@@ -526,6 +548,7 @@ fn same_work(shape: Shape) {
     for call in valid_traffic(1, settings, 2000, single).0 {
         let wanted = model.call(&call);
         assert_ne!(wanted, Reply::Refused(3));
+        assert_eq!(marked(&call, &wanted), None);
         assert_eq!(library::call(&mut memory, &call), Ok(wanted));
     }
     // And an act leaves what the call leaves.

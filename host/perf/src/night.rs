@@ -60,7 +60,7 @@ pub fn on_sound_images(shape: Shape) {
 /// A rule with a way to break it where its walk looks last.
 type Late = (char, &'static str, fn(&mut [u8], &Tables));
 
-const LATE: [Late; 8] = [
+const LATE: [Late; 9] = [
     ('c', "the last list's tail", |memory, tables| {
         let filled = |list: &usize| !tables.nodes_of(memory, *list).is_empty();
         let mut lists = (0..tables.lists()).rev();
@@ -108,6 +108,9 @@ const LATE: [Late; 8] = [
     ('g', "the last credit", |memory, tables| {
         let (arrival, cell) = (tables.arrival, tables.credits() - 1);
         arrival.set(memory, cell, arrival.get(memory, cell) ^ 1);
+    }),
+    ('i', "the last port's mark", |memory, tables| {
+        tables.halted.set(memory, tables.ports - 1, 1);
     }),
 ];
 

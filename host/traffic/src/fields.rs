@@ -1,6 +1,6 @@
 //! Tagged fields for the bench program.
 
-use model::{bench, Call, Model, Settings};
+use model::{bench, marked, Call, Model, Settings};
 
 use crate::random::Random;
 use crate::{Profile, Traffic};
@@ -11,8 +11,9 @@ fn right_length(tag: u8) -> usize {
 }
 
 /// A call's tagged field: tag, length, value. None where no field can say it:
-/// ready, where and a round have no tag, a field has no room for larger numbers,
-/// a setup's is of the ten-byte header, and an arrival's header is ten bytes.
+/// ready, where, a round, clear and report have no tag, a field has no room for
+/// larger numbers, a setup's is of the ten-byte header, and an arrival's header is
+/// ten bytes.
 pub fn field(call: &Call) -> Option<Vec<u8>> {
     let one = |number: u32| u8::try_from(number).ok();
     let two = |number: u32| Some(u16::try_from(number).ok()?.to_be_bytes());
@@ -52,7 +53,11 @@ pub fn field(call: &Call) -> Option<Vec<u8>> {
             (6, value)
         }
         Call::Map { id, port } => (7, vec![one(*id)?, one(*port)?]),
-        Call::Ready { .. } | Call::Where { .. } | Call::Round { .. } => return None,
+        Call::Ready { .. }
+        | Call::Where { .. }
+        | Call::Round { .. }
+        | Call::Clear { .. }
+        | Call::Report { .. } => return None,
     };
     Some(tagged(tag, &value))
 }
@@ -64,28 +69,61 @@ fn tagged(tag: u8, value: &[u8]) -> Vec<u8> {
     bytes
 }
 
+/// What the bench program halts stays so until the next setup. So of the lies in
+/// the traffic most are left out, and a setup stands now and then for a clear:
+/// else nothing above queue 0 would come in for long.
+const LIES_FOR_ONE: u32 = 8;
+const CLEARS_FOR_A_SETUP: u32 = 16;
+
 /// A bench program's input: `n` right fields and, in half of the streams, a
 /// bad field at the end, some with bytes after it that mustn't be read.
 pub fn stream(seed: u64, n: usize) -> Vec<u8> {
     let mut random = Random::new(!seed);
-    let profile = random.pick(&Profile::ALL);
-    let mut traffic = Traffic::new(seed, profile);
-    // Followed along, so that the calls fit the state.
-    let mut model = Model::new(bench::MEMORY);
-    let mut bytes = Vec::new();
-    let mut written = 0;
-    while written < n {
-        let call = traffic.next(&model);
-        if let Some(field) = field(&call) {
-            bytes.extend(field);
-            model.call(&call);
-            written += 1;
-        }
-    }
+    let calls = calls(&mut random, seed, n);
+    let mut bytes: Vec<u8> = calls.iter().filter_map(field).flatten().collect();
     if random.one_in(2) {
         bytes.extend(bad_end(&mut random));
     }
     bytes
+}
+
+/// So many calls that have a field each.
+pub(crate) fn calls(random: &mut Random, seed: u64, n: usize) -> Vec<Call> {
+    let profile = random.pick(&Profile::ALL);
+    let mut traffic = Traffic::new(seed, profile);
+    // Followed along, so that the calls fit the state.
+    let mut model = Model::new(bench::MEMORY);
+    let mut calls = Vec::new();
+    while calls.len() < n {
+        let call = match (traffic.next(&model), model.ledger()) {
+            (Call::Clear { .. }, Some(ledger)) if random.one_in(CLEARS_FOR_A_SETUP) => {
+                Call::Setup(ledger.settings)
+            }
+            (call, _) => call,
+        };
+        if field(&call).is_some() && made(random, &mut model, &call) {
+            calls.push(call);
+        }
+    }
+    calls
+}
+
+/// Makes the call, unless it is one of the lies that are left out.
+fn made(random: &mut Random, model: &mut Model, call: &Call) -> bool {
+    let mark = |model: &Model, port: u32| Some(model.ledger()?.ports.get(port as usize)?.mark);
+    let unmarked = match call {
+        Call::Arrive { port, .. } => mark(model, *port) == Some(0),
+        _ => false,
+    };
+    let reply = model.call(call);
+    match marked(call, &reply) {
+        Some((port, _)) if unmarked && !random.one_in(LIES_FOR_ONE) => {
+            // Undone: the mark is all that it has changed.
+            model.call(&Call::Clear { port });
+            false
+        }
+        _ => true,
+    }
 }
 
 /// A bad field: another tag, a wrong length or a cut field.

@@ -4,12 +4,14 @@
 #![forbid(unsafe_code)]
 
 mod fields;
+mod halts;
 pub mod headers;
 mod random;
 #[cfg(test)]
 mod tests;
 
 pub use fields::{field, stream};
+pub use halts::{Before, Halts};
 pub use headers::{header, plain, SHAPES};
 pub use random::Random;
 
@@ -103,9 +105,11 @@ enum Step {
     Ready,
     Where,
     Round,
+    Clear,
+    Report,
 }
 
-const STEPS: [Step; 9] = [
+const STEPS: [Step; 11] = [
     Step::Arrive,
     Step::Stitch,
     Step::Prefetch,
@@ -115,6 +119,8 @@ const STEPS: [Step; 9] = [
     Step::Ready,
     Step::Where,
     Step::Round,
+    Step::Clear,
+    Step::Report,
 ];
 
 // Settings just beyond their rows, and some that a cut to a byte or two would
@@ -129,14 +135,16 @@ const WRONG_PACKETS: [u32; 6] = [1, 2, 255, 256, 65_536, u32::MAX];
 const AIMS: [u32; 15] = [4, 5, 6, 7, 8, 9, 10, 11, 12, 13, 14, 15, 19, 20, 27];
 
 impl Phase {
-    /// How often each of the steps, in the order of `STEPS`.
-    fn weights(self) -> [u32; 9] {
+    /// How often each of the steps, in the order of `STEPS`. A clear is made seldom
+    /// where no port is halted; where one is, often: else the lies among the calls
+    /// would leave nothing but queue 0.
+    fn weights(self) -> [u32; 11] {
         match self {
-            Phase::Fill => [40, 24, 14, 5, 3, 5, 4, 5, 1],
-            Phase::Even => [20, 20, 20, 12, 3, 17, 4, 4, 2],
-            Phase::Drain => [5, 20, 25, 16, 1, 27, 3, 3, 2],
-            Phase::Flood => [60, 20, 10, 3, 2, 0, 2, 3, 0],
-            Phase::Ebb => [0, 24, 26, 20, 1, 25, 2, 2, 2],
+            Phase::Fill => [40, 24, 14, 5, 3, 5, 4, 5, 1, 8, 2],
+            Phase::Even => [20, 20, 20, 12, 3, 17, 4, 4, 2, 8, 2],
+            Phase::Drain => [5, 20, 25, 16, 1, 27, 3, 3, 2, 8, 2],
+            Phase::Flood => [60, 20, 10, 3, 2, 0, 2, 3, 0, 8, 1],
+            Phase::Ebb => [0, 24, 26, 20, 1, 25, 2, 2, 2, 8, 1],
         }
     }
 }
@@ -390,7 +398,34 @@ impl Traffic {
                 entry: self.node(ledger),
             }),
             Step::Round => Some(self.round(ledger)),
+            Step::Clear => self.clear(ledger),
+            Step::Report => Some(Call::Report {
+                port: self.port_to_ask(ledger),
+            }),
         }
+    }
+
+    /// A port that is halted, if there is one.
+    fn halted(&mut self, ledger: &Ledger) -> Option<u32> {
+        self.ports_from_any(ledger)
+            .find(|&port| ledger.ports[port as usize].mark != 0)
+    }
+
+    /// A port that is halted, if there is one, half of the time; else any.
+    fn port_to_ask(&mut self, ledger: &Ledger) -> u32 {
+        let any = self.random.below(ledger.settings.ports);
+        match self.random.one_in(2) {
+            true => self.halted(ledger).unwrap_or(any),
+            false => any,
+        }
+    }
+
+    /// Where no port is halted, a clear of one now and then: it is done too.
+    fn clear(&mut self, ledger: &Ledger) -> Option<Call> {
+        let any = self.random.below(ledger.settings.ports);
+        let none = self.random.one_in(10).then_some(any);
+        let port = self.halted(ledger).or(none)?;
+        Some(Call::Clear { port })
     }
 
     /// A destination id: mostly one that a header can name, now and then one that
@@ -447,11 +482,12 @@ impl Traffic {
         made_up.unwrap_or_else(|| self.arriving_queue(shape))
     }
 
-    /// An arriving queue, but queue 0 in place of one that has no credit left at the port.
+    /// An arriving queue, but queue 0 in place of one that has no credit left at the
+    /// port, and at a port that is halted.
     fn covered_queue(&mut self, ledger: &Ledger, port: u32) -> u32 {
         let queue = self.arriving_queue(&ledger.settings.shape());
-        let credit = &ledger.ports[port as usize].arrival_credit;
-        if queue > 0 && credit[queue as usize] == 0 {
+        let at = &ledger.ports[port as usize];
+        if at.mark != 0 || queue > 0 && at.arrival_credit[queue as usize] == 0 {
             0
         } else {
             queue
@@ -666,13 +702,17 @@ impl Traffic {
     fn aimed(&mut self, refusal: u32, ledger: &Ledger) -> Call {
         let shape = ledger.settings.shape();
         let Shape { ports, queues, .. } = shape;
-        let port = self.random.below(ports);
+        let port = match refusal {
+            // Of some lies the port is halted already.
+            7 | 8 if self.random.one_in(3) => self.port_to_ask(ledger),
+            _ => self.random.below(ports),
+        };
         let at = &ledger.ports[port as usize];
         match refusal {
             4 => {
                 let port = self.beyond(ports);
                 let queue = self.random.below(queues);
-                match self.random.below(7) {
+                match self.random.below(9) {
                     0 => Call::Arrive {
                         port,
                         header: self.header(&shape, port % ports, queue, shape.shortest()),
@@ -689,6 +729,8 @@ impl Traffic {
                         port,
                     },
                     5 => Call::Turn { port },
+                    6 => Call::Clear { port },
+                    7 => Call::Report { port },
                     _ => Call::Ready { port },
                 }
             }
@@ -754,6 +796,16 @@ impl Traffic {
                 let length = self.any_length(&shape);
                 let reserved = reserved_bits(&mut self.random, &shape).unwrap_or(0);
                 let header = self.header_with(&shape, source, queue, length, reserved);
+                Call::Arrive { port, header }
+            }
+            10 if self.random.one_in(3) => {
+                // At a halted port, if there is one, with credit in hand if there is any.
+                let port = self.halted(ledger).unwrap_or(port);
+                let credit = &ledger.ports[port as usize].arrival_credit;
+                let queue = (1..queues)
+                    .max_by_key(|&queue| credit[queue as usize])
+                    .unwrap();
+                let header = self.header(&shape, port, queue, shape.shortest());
                 Call::Arrive { port, header }
             }
             10 => {
@@ -900,7 +952,7 @@ impl Traffic {
         } else {
             self.random.below(queues)
         };
-        match self.random.below(13) {
+        match self.random.below(15) {
             0..=4 => {
                 let header = self.any_header(&ledger.settings.shape(), port);
                 Call::Arrive { port, header }
@@ -931,6 +983,8 @@ impl Traffic {
                 let bytes = self.random.below(most);
                 self.round_with(bytes as usize)
             }
+            12 => Call::Clear { port },
+            13 => Call::Report { port },
             _ => Call::Where {
                 entry: if self.random.one_in(2) {
                     self.no_node(ledger)

@@ -2,18 +2,20 @@ use std::collections::BTreeMap;
 
 use model::bench::bench;
 use model::header::{read, write, Header};
-use model::{size, Call, Choice, Model, Reply, Settings, Shape, REFUSALS};
+use model::{marked, size, Call, Choice, Model, Reply, Settings, Shape, REFUSALS};
 
+use crate::fields::calls;
 use crate::headers::{
     any_bytes, any_shape, made_up_queue, no_shape, reserved_bits, right_fields, spelt, wrong_fields,
 };
-use crate::{field, header, plain, stream, Profile, Random, Traffic, SHAPES};
+use crate::{field, header, plain, stream, Before, Halts, Profile, Random, Traffic, SHAPES};
 
 /// How often each answer came. Refusals by their numbers.
 #[derive(Default, Debug)]
 struct Counts {
     refused: [u64; 28],
     accepted: BTreeMap<&'static str, u64>,
+    halts: Halts,
 }
 
 fn name(call: &Call, reply: &Reply) -> &'static str {
@@ -29,7 +31,23 @@ fn name(call: &Call, reply: &Reply) -> &'static str {
         (Call::Ready { .. }, _) => "ready",
         (Call::Where { .. }, _) => "where",
         (Call::Round { .. }, _) => "round",
+        (Call::Clear { .. }, _) => "clear",
+        (Call::Report { .. }, _) => "report",
     }
+}
+
+/// What a call that moves nothing leaves of a model: all of it but, where a header
+/// lied, the mark of a port that had none.
+fn left(before: &Model, call: &Call, reply: &Reply) -> Model {
+    let mut ledger = match before.ledger() {
+        Some(ledger) => ledger.clone(),
+        None => return before.clone(),
+    };
+    if let Some((port, number)) = marked(call, reply) {
+        let mark = &mut ledger.ports[port as usize].mark;
+        *mark = if *mark == 0 { number } else { *mark };
+    }
+    Model::with_ledger(before.memory_len(), ledger)
 }
 
 /// 200,000 calls of a profile, over some seeds, with the ten-byte header.
@@ -38,7 +56,7 @@ fn run(profile: Profile, memory_len: usize) -> Counts {
 }
 
 /// So many calls eight times over. Both choices of the turn answer the same, the
-/// check holds, and a refusal changes nothing.
+/// check holds, and a refusal changes nothing but a mark.
 fn run_shape(profile: Profile, shape: Shape, memory_len: usize, calls: usize) -> Counts {
     let mut counts = Counts::default();
     for seed in 0..8 {
@@ -48,14 +66,17 @@ fn run_shape(profile: Profile, shape: Shape, memory_len: usize, calls: usize) ->
         for number in 0..calls {
             let call = traffic.next(&whole);
             let before = (number % 20 == 0).then(|| whole.clone());
+            let stood = Before::of(&whole, &call);
             let reply = whole.call(&call);
             assert_eq!(early.call(&call), reply, "{call:?}");
+            counts.halts.note(stood, &call, &reply);
             match reply {
                 Reply::Refused(refusal) => counts.refused[refusal as usize] += 1,
                 _ => *counts.accepted.entry(name(&call, &reply)).or_default() += 1,
             }
-            if let (Some(before), Reply::Refused(_) | Reply::Idle) = (before, reply) {
-                assert_eq!(whole, before, "{call:?}");
+            let nothing = matches!(reply, Reply::Refused(_) | Reply::Idle | Reply::Mark(_));
+            if let (Some(before), true) = (before, nothing) {
+                assert_eq!(whole, left(&before, &call, &reply), "{call:?}");
             }
             if number % 100 == 0 {
                 assert_eq!(
@@ -69,6 +90,7 @@ fn run_shape(profile: Profile, shape: Shape, memory_len: usize, calls: usize) ->
     }
     println!("{profile:?} {shape:?}: {:?}", counts.accepted);
     println!("  refused 1 to 27: {:?}", &counts.refused[1..]);
+    println!("  {}", counts.halts);
     counts
 }
 
@@ -109,6 +131,8 @@ fn each_call_at_least(counts: &Counts, least: u64) {
         "ready",
         "where",
         "round",
+        "clear",
+        "report",
     ] {
         let times = counts.accepted.get(call).copied().unwrap_or(0);
         assert!(times >= least, "{call}: {times} times");
@@ -121,6 +145,8 @@ fn valid_traffic() {
     assert!(accepted(&counts) > 190_000);
     each_call_at_least(&counts, 500);
     each_refusal_at_least(&counts, 30);
+    // Halted ports are cleared soon.
+    assert!(counts.halts.above_queue_0() > 20_000);
 }
 
 #[test]
@@ -129,6 +155,7 @@ fn hostile_traffic() {
     each_call_at_least(&counts, 500);
     each_refusal_at_least(&counts, 1500);
     assert!(counts.refused[1] > 500 && counts.refused[2] > 2000);
+    assert_eq!(counts.halts.too_rare(1000), []);
 }
 
 #[test]
@@ -171,6 +198,10 @@ fn traffic_of_every_shape() {
             if profile == Profile::Hostile {
                 refusals_of_shape_at_least(&shape, &counts, 20);
                 assert!(counts.refused[1] > 5 && counts.refused[2] > 20);
+                assert_eq!(counts.halts.too_rare(10), [], "{shape:?}");
+            }
+            if profile == Profile::Valid {
+                assert!(counts.halts.above_queue_0() > 200, "{shape:?}");
             }
         }
     }
@@ -360,6 +391,27 @@ fn streams_have_their_fields_and_some_end_badly() {
     assert!(good > 100 && bad > 100);
 }
 
+/// The bench program has no clear, and yet packets of all queues come in, beside
+/// lies and what they turn away.
+#[test]
+fn streams_take_in_packets_above_queue_0() {
+    let mut halts = Halts::default();
+    for seed in 0..120 {
+        let mut model = Model::new(65_536);
+        for call in calls(&mut Random::new(!seed), seed, 600) {
+            let before = Before::of(&model, &call);
+            let reply = model.call(&call);
+            halts.note(before, &call, &reply);
+        }
+    }
+    println!("{halts}");
+    // There is no clear, and so nothing after one.
+    let rare = halts.too_rare(20);
+    let never = ["cleared", "taken in above queue 0 after a clear"];
+    assert_eq!(rare, never.map(|name| (name, 0)));
+    assert!(halts.above_queue_0() > 3000);
+}
+
 #[test]
 fn fields_have_no_room_for_larger_numbers() {
     assert_eq!(field(&Call::Turn { port: 255 }), Some(vec![5, 0, 1, 255]));
@@ -367,6 +419,8 @@ fn fields_have_no_room_for_larger_numbers() {
     assert_eq!(field(&Call::Ready { port: 0 }), None);
     assert_eq!(field(&Call::Where { entry: 0 }), None);
     assert_eq!(field(&Call::Round { room: vec![0; 16] }), None);
+    assert_eq!(field(&Call::Clear { port: 0 }), None);
+    assert_eq!(field(&Call::Report { port: 0 }), None);
     for settings in [
         Settings::wide(4, 24, 1, 64, 1, 0),
         Settings {

@@ -203,6 +203,60 @@ impl Place {
     }
 }
 
+/// Why a port is halted, as [`Switch::report`](crate::Switch::report) tells it:
+/// the refusal of the first header that lied there since setup, repair or clear.
+///
+/// While a port is halted, headers for queues above 0 are refused 10 there; queue
+/// 0 goes on.
+///
+/// ```
+/// use ventorupo::{Halt, Refusal};
+///
+/// assert_eq!(Halt::Checksum.number(), Refusal::Checksum.number());
+/// assert_eq!(Halt::Checksum.to_string(), "checksum differs");
+/// assert_eq!(Halt::from_number(18), Some(Halt::Beat));
+/// assert_eq!(Halt::from_number(9), None);
+/// ```
+#[derive(Debug, Clone, Copy, PartialEq, Eq, Hash, PartialOrd, Ord)]
+#[non_exhaustive]
+pub enum Halt {
+    /// 7: checksum differs.
+    Checksum = 7,
+    /// 8: header's source isn't the arriving port.
+    Source = 8,
+    /// 18: a packet's beats aren't those that its length asks for. No call gives it
+    /// yet, but a state may hold it.
+    Beat = 18,
+}
+
+impl Halt {
+    /// Every one, in the order of their numbers.
+    pub const ALL: &'static [Halt] = &[Halt::Checksum, Halt::Source, Halt::Beat];
+
+    /// The refusal's number in the papers, which is the port's mark.
+    pub fn number(self) -> u32 {
+        self as u32
+    }
+
+    /// The one of a number, if it is one that halts.
+    pub fn from_number(number: u32) -> Option<Halt> {
+        let its = |halt: &Halt| halt.number() == number;
+        Halt::ALL.iter().copied().find(its)
+    }
+}
+
+impl fmt::Display for Halt {
+    fn fmt(&self, f: &mut fmt::Formatter<'_>) -> fmt::Result {
+        match self {
+            Halt::Checksum => Refusal::Checksum.fmt(f),
+            Halt::Source => Refusal::Source.fmt(f),
+            Halt::Beat => f.write_str(
+                "last mark too early, absent where the length ends, or a beat of a wrong size",
+            ),
+        }
+    }
+}
+
 /// Ready's answer.
 #[derive(Debug, Clone, Copy, PartialEq, Eq)]
 pub struct Ready {

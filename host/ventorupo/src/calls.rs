@@ -1,6 +1,7 @@
 //! The C interface's calls, with slices for pointers and lengths: each but the
 //! size and the finding answers 0 or a refusal's number, and a refusal changes
-//! neither memory nor room.
+//! neither memory nor room, but that an arrival refused 7 or 8 sets its port's
+//! mark, one byte of the memory, if the port has none.
 //!
 //! All of this crate's unsafe code is here. C asks that a pointer is valid for
 //! its length, that it is aligned, and that lent memories do not overlap. A
@@ -35,6 +36,8 @@ mod c {
             count: *mut u32,
         ) -> u32;
         pub fn vr_where(mem: *const u8, len: usize, entry: u32, place: *mut u8) -> u32;
+        pub fn vr_clear(mem: *mut u8, len: usize, port: u32) -> u32;
+        pub fn vr_report(mem: *const u8, len: usize, port: u32, mark: *mut u32) -> u32;
         pub fn vr_audit(mem: *const u8, len: usize, places: *mut u8, places_len: usize) -> u32;
         pub fn vr_find(mem: *const u8, len: usize, rule: *mut u32, item: *mut u64);
         pub fn vr_repair(mem: *mut u8, len: usize) -> u32;
@@ -129,6 +132,16 @@ pub fn ready(memory: &[u8], port: u32, word: &mut u64, count: &mut u32) -> u32 {
 pub fn place_of(memory: &[u8], entry: u32, place: &mut [u8; 8]) -> u32 {
     // Sound: the memory is read only; the room has the 8 bytes C asks for.
     unsafe { c::vr_where(memory.as_ptr(), memory.len(), entry, place.as_mut_ptr()) }
+}
+
+pub fn clear(memory: &mut [u8], port: u32) -> u32 {
+    // Sound: the slice's own pointer and length.
+    unsafe { c::vr_clear(memory.as_mut_ptr(), memory.len(), port) }
+}
+
+pub fn report(memory: &[u8], port: u32, mark: &mut u32) -> u32 {
+    // Sound: the memory is read only; an aligned room, apart from it.
+    unsafe { c::vr_report(memory.as_ptr(), memory.len(), port, mark) }
 }
 
 pub fn audit(memory: &[u8], places: &mut [u8]) -> u32 {

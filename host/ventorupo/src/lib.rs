@@ -2,8 +2,9 @@
 //!
 //! A switch has 2 to 32 ports with 2 to 64 queues each ([`Settings`]). Its
 //! whole state lives in bytes that you lend or hand over. A call answers a
-//! value or a [`Refusal`], and after a refusal no byte differs. Nothing has to
-//! be checked beforehand, not even that the bytes are a state.
+//! value or a [`Refusal`], and after a refusal no byte differs, but for the mark
+//! of a port where a header lied ([`Halt`]). Nothing has to be checked beforehand,
+//! not even that the bytes are a state.
 //!
 //! ```
 //! use ventorupo::{EntryId, Header, Refusal, Settings, Side, Switch, Turn};
@@ -45,7 +46,7 @@
 //! use ventorupo::{EntryId, Refusal, Settings, Switch};
 //!
 //! let settings = Settings::ten_bytes(1, 64, 1, 16);
-//! let mut switch = Switch::setup([0; 6136], settings).map_err(|(why, _)| why)?;
+//! let mut switch = Switch::setup([0; 6140], settings).map_err(|(why, _)| why)?;
 //! // Destination 0, source 0, queue 0, length 12.
 //! let header = [0, 0, 0x30, 0, 0, 0, 0, 0, 0, 0x72];
 //! assert_eq!(settings.form().read(&header)?.length, 12);
@@ -63,7 +64,9 @@ mod night;
 mod refusal;
 mod settings;
 
-pub use answers::{EntryId, ListKind, Place, Ready, Record, RoundTurn, Sent, Side, Turn, Turns};
+pub use answers::{
+    EntryId, Halt, ListKind, Place, Ready, Record, RoundTurn, Sent, Side, Turn, Turns,
+};
 pub use header::{Form, Header, HeaderBytes};
 pub use night::{audit, find, repair, Finding, Rule};
 pub use refusal::Refusal;
@@ -101,7 +104,7 @@ fn done(number: u32) -> Result<(), Refusal> {
 /// use ventorupo::{Settings, Switch};
 ///
 /// let settings = Settings::ten_bytes(2, 128, 8, 0);
-/// let mut memory = [0; 6188];
+/// let mut memory = [0; 6192];
 /// Switch::setup(&mut memory[..], settings).unwrap();
 /// // The state stays in the bytes.
 /// let mut switch = Switch::over(memory);
@@ -136,7 +139,8 @@ impl<M: AsRef<[u8]> + AsMut<[u8]>> Switch<M> {
     }
 
     /// A packet's header, of the switch's form, arrives at a port: takes a free
-    /// node for it.
+    /// node for it. Refused 7 or 8, it halts the port, and that mark is all that
+    /// changes; see [`Halt`].
     pub fn arrive(&mut self, port: u32, header: &[u8]) -> Result<EntryId, Refusal> {
         let mut entry = 0;
         done(calls::arrive(
@@ -192,7 +196,7 @@ impl<M: AsRef<[u8]> + AsMut<[u8]>> Switch<M> {
     /// use ventorupo::{Refusal, RoundTurn, Settings, Switch};
     ///
     /// let settings = Settings::ten_bytes(1, 64, 1, 16);
-    /// let mut switch = Switch::setup([0; 6136], settings).map_err(|(why, _)| why)?;
+    /// let mut switch = Switch::setup([0; 6140], settings).map_err(|(why, _)| why)?;
     /// // Destination 0, which is mapped to port 0, source 0, queue 0, length 12.
     /// let entry = switch.arrive(0, &[0, 0, 0x30, 0, 0, 0, 0, 0, 0, 0x72])?;
     /// let turns = switch.round()?;
@@ -231,6 +235,48 @@ impl<M: AsRef<[u8]> + AsMut<[u8]>> Switch<M> {
         Ok(Ready { word, count })
     }
 
+    /// Lifts the port's mark, so that it takes in queues above 0 again; of a port
+    /// that isn't halted it is done too.
+    pub fn clear(&mut self, port: u32) -> Result<(), Refusal> {
+        done(calls::clear(self.memory.as_mut(), port))
+    }
+
+    /// Why the port is halted; none if it isn't.
+    ///
+    /// ```
+    /// use ventorupo::{Halt, Header, Refusal, Settings, Switch};
+    ///
+    /// let settings = Settings::ten_bytes(2, 64, 1, 16);
+    /// let mut switch = Switch::setup([0; 6192], settings).map_err(|(why, _)| why)?;
+    /// let header = |queue| Header { source: 1, queue, length: 100, ..Header::default() };
+    /// let [above, queue_0] = [5, 0].map(|queue| settings.form().write(&header(queue)).unwrap());
+    /// // A header that says it comes from port 1 arrives at port 2.
+    /// assert_eq!(switch.arrive(2, &above), Err(Refusal::Source));
+    /// assert_eq!(switch.report(2)?, Some(Halt::Source));
+    /// assert_eq!(switch.report(1)?, None);
+    /// // At port 1 a bit goes wrong on the line.
+    /// let mut wrong = above.to_vec();
+    /// wrong[0] ^= 1;
+    /// assert_eq!(switch.arrive(1, &wrong), Err(Refusal::Checksum));
+    /// assert_eq!(switch.report(1)?, Some(Halt::Checksum));
+    /// // Queue 5 has to wait, and queue 0 goes on.
+    /// assert_eq!(switch.arrive(1, &above), Err(Refusal::NoCredit));
+    /// assert!(switch.arrive(1, &queue_0).is_ok());
+    /// switch.clear(1)?;
+    /// assert!(switch.arrive(1, &above).is_ok());
+    /// # Ok::<(), Refusal>(())
+    /// ```
+    pub fn report(&self, port: u32) -> Result<Option<Halt>, Refusal> {
+        let mut mark = 0;
+        done(calls::report(self.memory.as_ref(), port, &mut mark))?;
+        match mark {
+            0 => Ok(None),
+            _ => Ok(Some(
+                Halt::from_number(mark).expect("a state's marks are 0, 7, 8 or 18"),
+            )),
+        }
+    }
+
     /// Where a node stands.
     pub fn place_of(&self, entry: EntryId) -> Result<Place, Refusal> {
         let mut place = [0; 8];
@@ -254,7 +300,7 @@ impl<M: AsRef<[u8]> + AsMut<[u8]>> Switch<M> {
     /// use ventorupo::{EntryId, ListKind, Refusal, Settings, Switch};
     ///
     /// let settings = Settings::ten_bytes(2, 64, 1, 16);
-    /// let mut switch = Switch::setup([0; 6188], settings).map_err(|(why, _)| why)?;
+    /// let mut switch = Switch::setup([0; 6192], settings).map_err(|(why, _)| why)?;
     /// switch.arrive(0, &[0, 0, 0x30, 0, 0, 0, 0, 0, 0, 0x72])?;
     /// let places = switch.audit()?;
     /// assert_eq!(places.len(), 8);

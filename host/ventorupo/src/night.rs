@@ -25,11 +25,13 @@ pub enum Rule {
     F,
     /// Arrival credit and the prices outstanding are K together.
     G,
+    /// Every port's mark is 0, 7, 8 or 18. Rule 8, (h), is one to come.
+    I = 9,
 }
 
 impl Rule {
     /// Every rule, in the order in which they are tested.
-    pub const ALL: [Rule; 7] = [
+    pub const ALL: [Rule; 8] = [
         Rule::A,
         Rule::B,
         Rule::C,
@@ -37,6 +39,7 @@ impl Rule {
         Rule::E,
         Rule::F,
         Rule::G,
+        Rule::I,
     ];
 
     /// 1 for (a), 2 for (b), and so on, as the C interface tells it.
@@ -49,7 +52,7 @@ impl Rule {
         Rule::ALL.into_iter().find(|rule| rule.number() == number)
     }
 
-    /// `a` to `g`.
+    /// `a` to `g`, or `i`.
     pub fn letter(self) -> char {
         char::from(b'a' + (self as u8 - Rule::A as u8))
     }
@@ -76,7 +79,7 @@ impl fmt::Display for Finding {
 /// use ventorupo::{find, Rule, Settings, Switch};
 ///
 /// let settings = Settings::ten_bytes(2, 64, 1, 16);
-/// let mut image = Switch::setup([0; 6188], settings).unwrap().into_memory();
+/// let mut image = Switch::setup([0; 6192], settings).unwrap().into_memory();
 /// assert_eq!(find(&image), None);
 /// // Port 1 has served queue 200.
 /// image[4113] = 200;
@@ -105,35 +108,35 @@ pub fn find(memory: &[u8]) -> Option<Finding> {
 /// use ventorupo::{audit, Refusal, Settings, Switch};
 ///
 /// let settings = Settings::ten_bytes(2, 64, 1, 16);
-/// let image = Switch::setup([0; 6188], settings).unwrap().into_memory();
+/// let image = Switch::setup([0; 6192], settings).unwrap().into_memory();
 /// let mut room = [9; 4 * 2 * 8 + 1];
 /// assert_eq!(audit(&image, &mut room[..63]), Err(Refusal::ShortRoom));
 /// assert_eq!(audit(&image, &mut room), Ok(()));
 /// // Port 3, node 1: second of its free list.
 /// assert_eq!(room[56..], [24, 1, 0, 3, 0, 0, 0, 1, 9]);
-/// assert_eq!(audit(&[0; 6188], &mut []), Err(Refusal::NoState));
+/// assert_eq!(audit(&[0; 6192], &mut []), Err(Refusal::NoState));
 /// ```
 pub fn audit(memory: &[u8], room: &mut [u8]) -> Result<(), Refusal> {
     done(calls::audit(memory, room))
 }
 
 /// Writes the starting ledger for the settings that an image has, with its map;
-/// entries above the last port become 0. Packets are lost, also of a sound
-/// image; bytes past the state's size stay. Refused 3 where rule (a) is broken:
+/// entries above the last port become 0. Packets and marks are lost, also of a
+/// sound image; bytes past the state's size stay. Refused 3 where rule (a) is broken:
 /// settings out of their rows, or memory too short for them.
 ///
 /// ```
 /// use ventorupo::{find, repair, Refusal, Settings, Switch};
 ///
 /// let settings = Settings::ten_bytes(2, 64, 1, 16);
-/// let mut image = Switch::setup([9; 6188 + 1], settings).unwrap().into_memory();
+/// let mut image = Switch::setup([9; 6192 + 1], settings).unwrap().into_memory();
 /// image[16] = 3; // Destination 0 goes to port 3.
 /// image[4113] = 200;
 /// repair(&mut image)?;
 /// assert_eq!(find(&image), None);
 /// assert_eq!(image[16], 3);
-/// assert_eq!(image[6188], 9);
-/// assert_eq!(repair(&mut [0; 6188]), Err(Refusal::NoState));
+/// assert_eq!(image[6192], 9);
+/// assert_eq!(repair(&mut [0; 6192]), Err(Refusal::NoState));
 /// # Ok::<(), Refusal>(())
 /// ```
 pub fn repair(memory: &mut [u8]) -> Result<(), Refusal> {

@@ -7,7 +7,8 @@ use std::fmt;
 macro_rules! refusals {
     ($($name:ident = $number:literal, $calls:literal, $meaning:literal;)*) => {
         /// Why a call was refused; the papers' numbers, in their order. A refused call
-        /// changes nothing.
+        /// changes nothing, but that an arrival refused 7 or 8 may mark its port: see
+        /// [`Halt`](crate::Halt).
         #[derive(Debug, Clone, Copy, PartialEq, Eq, Hash, PartialOrd, Ord)]
         pub enum Refusal {
             $(#[doc = concat!($number, " (", $calls, "): ", $meaning, ".")] $name = $number,)*
@@ -36,7 +37,7 @@ refusals! {
     Checksum = 7, "arrive, read_header", "checksum differs";
     Source = 8, "arrive", "header's source isn't the arriving port";
     TooShort = 9, "arrive, read_header", "length under the header's size plus 2";
-    NoCredit = 10, "arrive", "price above arrival credit";
+    NoCredit = 10, "arrive", "price above arrival credit; at a halted port, queue above 0";
     NoFreeNode = 11, "arrive", "free list empty";
     NothingThere = 12, "stitch, prefetch", "list to take from is empty";
     SlotsInUse = 13, "prefetch", "all slots in use";

@@ -1,18 +1,19 @@
 //! The wrapper's own promises: memories of every kind, and the refusals.
 
 use ventorupo::{
-    audit, find, repair, size, EntryId, Finding, Form, Header, ListKind, Refusal, RoundTurn, Rule,
-    Settings, Switch, Turn, MOST_PORTS, PLACE_BYTES, TEN_BYTES, TURN_BYTES, WIDE,
+    audit, find, repair, size, EntryId, Finding, Form, Halt, Header, ListKind, Refusal, RoundTurn,
+    Rule, Settings, Switch, Turn, MOST_PORTS, PLACE_BYTES, TEN_BYTES, TURN_BYTES, WIDE,
 };
 
 const SETTINGS: Settings = Settings::ten_bytes(1, 512, 8, 3);
 
 /// The bytes of its state.
-const SIZE: usize = 6136;
+const SIZE: usize = 6140;
 
-/// Where its map and its last served queues start (docs/LAYOUT.md).
+/// Where its map, its last served queues and its marks start (docs/LAYOUT.md).
 const MAP: usize = 16;
 const LAST: usize = 4112;
+const HALTED: usize = 4116;
 
 /// Switches of every edition and of the least and the most ports and queues.
 const SHAPES: [(u32, u32, u32); 7] = [
@@ -59,7 +60,7 @@ fn memory_of_every_kind() {
 fn bytes(s: &Settings) -> usize {
     let [ports, queues, nodes] = [s.ports, s.queues, s.nodes].map(|n| n as usize);
     let (credits, lists) = (ports * (queues - 1), ports * (2 + 2 * queues));
-    16 + 4096 + ports + 4 * credits + 8 * lists + 13 * ports * nodes
+    16 + 4096 + 2 * ports + 4 * credits + 8 * lists + 13 * ports * nodes
 }
 
 #[test]
@@ -428,11 +429,13 @@ fn four_bytes_tell_of_a_turn_or_of_none() {
 
 #[test]
 fn rules_and_their_numbers() {
-    for (number, (letter, rule)) in (1..).zip(('a'..='g').zip(Rule::ALL)) {
+    // (h) is a rule to come.
+    let numbers = (1..=7).chain([9]);
+    for (number, (letter, rule)) in numbers.zip("abcdefgi".chars().zip(Rule::ALL)) {
         assert_eq!((rule.number(), rule.letter()), (number, letter));
         assert_eq!(Rule::from_number(number), Some(rule));
     }
-    for number in [0, 8, 9, 256 + 1, u32::MAX] {
+    for number in [0, 8, 10, 256 + 1, u32::MAX] {
         assert_eq!(Rule::from_number(number), None);
     }
     let finding = Finding {
@@ -526,6 +529,7 @@ fn a_repair_keeps_settings_map_and_what_is_past_the_size() {
     switch.map(4095, 1).unwrap();
     let mended = switch.memory().to_vec();
     switch.arrive(0, &SHORTEST).unwrap();
+    assert_eq!(switch.arrive(1, &SHORTEST), Err(Refusal::Source));
     let mut memory = switch.into_memory();
     memory[MAP] = 4;
     memory[LAST + 3] = 24;
@@ -559,4 +563,122 @@ fn a_repair_is_refused_where_the_settings_are_wrong() {
     assert_eq!(repair(&mut memory[..SIZE - 1]), Err(Refusal::NoState));
     assert_eq!(repair(&mut memory), Ok(()));
     assert_eq!(repair(&mut []), Err(Refusal::NoState));
+}
+
+#[test]
+fn halts_and_their_numbers() {
+    for (number, &halt) in [7, 8, 18].into_iter().zip(Halt::ALL) {
+        assert_eq!(halt.number(), number);
+        assert_eq!(Halt::from_number(number), Some(halt));
+        assert!(!halt.to_string().is_empty());
+    }
+    assert_eq!(Halt::ALL.len(), 3);
+    for number in (0..7).chain(9..18).chain([19, 256 + 7, u32::MAX]) {
+        assert_eq!(Halt::from_number(number), None);
+    }
+    let refusals = [Refusal::Checksum, Refusal::Source];
+    for (halt, refusal) in Halt::ALL.iter().zip(refusals) {
+        assert_eq!(halt.number(), refusal.number());
+        assert_eq!(halt.to_string(), refusal.to_string());
+    }
+}
+
+/// Where the marks of a switch start.
+fn halted(settings: Settings) -> usize {
+    LAST + settings.ports as usize
+}
+
+/// What is told of each port.
+fn reports(switch: &Switch<Vec<u8>>, settings: Settings) -> Vec<Option<Halt>> {
+    let report = |port| switch.report(port).unwrap();
+    (0..settings.ports).map(report).collect()
+}
+
+/// The last port of every shape is halted, and cleared; no other is.
+#[test]
+fn a_halted_port_is_reported_and_cleared() {
+    for settings in settings(2) {
+        let mut switch = switch(settings);
+        let last = settings.ports - 1;
+        let mut wanted = vec![None; settings.ports as usize];
+        assert_eq!(reports(&switch, settings), wanted);
+        let header = Header {
+            source: last,
+            queue: settings.queues - 1,
+            length: 512,
+            ..Header::default()
+        };
+        let right = settings.form().write(&header).unwrap();
+        let mut wrong = right.to_vec();
+        wrong[0] ^= 0x80;
+        // One byte, and no other.
+        let mut left = switch.memory().to_vec();
+        left[halted(settings) + last as usize] = 7;
+        assert_eq!(switch.arrive(last, &wrong), Err(Refusal::Checksum));
+        assert_eq!(switch.memory(), left);
+        wanted[last as usize] = Some(Halt::Checksum);
+        assert_eq!(reports(&switch, settings), wanted);
+        assert_eq!(switch.arrive(last, &right), Err(Refusal::NoCredit));
+        assert_eq!(switch.memory(), left);
+
+        assert_eq!(switch.clear(last + 1), Err(Refusal::NoPort));
+        assert_eq!(switch.report(last + 1), Err(Refusal::NoPort));
+        assert_eq!(switch.clear(0), Ok(()));
+        assert_eq!(switch.memory(), left);
+        assert_eq!(switch.clear(last), Ok(()));
+        left[halted(settings) + last as usize] = 0;
+        assert_eq!(switch.memory(), left);
+        assert_eq!(reports(&switch, settings), vec![None; wanted.len()]);
+        assert_eq!(switch.arrive(last, &right).unwrap().port() as u32, last);
+    }
+}
+
+#[test]
+fn no_state_is_neither_cleared_nor_reported() {
+    let mut switch = Switch::over(vec![7; SIZE]);
+    for port in [0, 4, u32::MAX] {
+        assert_eq!(switch.clear(port), Err(Refusal::NoState));
+        assert_eq!(switch.report(port), Err(Refusal::NoState));
+    }
+    assert_eq!(switch.into_memory(), vec![7; SIZE]);
+    assert_eq!(Switch::over([]).clear(0), Err(Refusal::NoState));
+}
+
+/// Every byte there can be: those that are no mark are found under (i).
+#[test]
+fn marks_by_hand() {
+    for settings in settings(1) {
+        let sound = switch(settings).into_memory();
+        for (port, mark) in (0..settings.ports).flat_map(|p| (0..=255u8).map(move |m| (p, m))) {
+            let mut memory = sound.clone();
+            memory[halted(settings) + port as usize] = mark;
+            let finding = Finding {
+                rule: Rule::I,
+                item: port.into(),
+            };
+            let report = Switch::over(&mut memory[..]).report(port);
+            match mark {
+                0 => assert_eq!((find(&memory), report), (None, Ok(None))),
+                7 | 8 | 18 => {
+                    let halt = Halt::from_number(mark.into());
+                    assert!(halt.is_some());
+                    assert_eq!((find(&memory), report), (None, Ok(halt)));
+                }
+                _ => {
+                    assert_eq!(find(&memory), Some(finding));
+                    assert_eq!(report, Err(Refusal::NoState));
+                    assert_eq!(finding.to_string(), format!("rule (i), item {port}"));
+                }
+            }
+        }
+    }
+    // The first of several.
+    let mut memory = switch(SETTINGS).into_memory();
+    memory[HALTED + 1..HALTED + 4].fill(9);
+    memory[HALTED] = 18;
+    let found = find(&memory).unwrap();
+    assert_eq!(
+        (found.rule, found.rule.number(), found.item),
+        (Rule::I, 9, 1)
+    );
 }

@@ -239,7 +239,7 @@ mod tests {
             assert_eq!(image.get(Mapped, 2), (end == 19).then_some(1));
             assert_eq!(image.get(Mapped, 3), None);
             // Ports, queues and nodes say it; the edition comes behind them.
-            assert_eq!(image.needed(), (end >= 6).then_some(6984));
+            assert_eq!(image.needed(), (end >= 6).then_some(6992));
             assert_eq!(image.get(Price, 7), None);
         }
     }
@@ -279,16 +279,16 @@ mod tests {
     #[test]
     fn counts_are_the_images_own() {
         for (settings, needed) in [
-            ([4, 24, 2, 0], 6188),
-            ([4, 24, 2, 1], 6188),
-            ([2, 2, 1, 1], 4244),
-            ([8, 16, 2, 1], 6984),
-            ([32, 64, 1, 1], 45_904),
+            ([4, 24, 2, 0], 6192),
+            ([4, 24, 2, 1], 6192),
+            ([2, 2, 1, 1], 4246),
+            ([8, 16, 2, 1], 6992),
+            ([32, 64, 1, 1], 45_936),
             // Whatever the edition, also where it has other rows or is none.
-            ([8, 16, 2, 0], 6984),
-            ([5, 24, 2, 0], 6707),
-            ([4, 23, 2, 0], 6108),
-            ([8, 16, 2, 2], 6984),
+            ([8, 16, 2, 0], 6992),
+            ([5, 24, 2, 0], 6712),
+            ([4, 23, 2, 0], 6112),
+            ([8, 16, 2, 2], 6992),
         ] {
             let memory = image(settings);
             let image = Image::new(&memory);

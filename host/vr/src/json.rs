@@ -13,6 +13,7 @@ pub fn json(view: &View) -> String {
     let ports = image.shape.ports;
     let mapped = (0..IDS).map(|id| number(image.get(Table::Mapped, id)));
     let last = (0..ports).map(|port| number(image.get(Table::Last, port)));
+    let marks = (0..ports).map(|port| number(image.get(Table::Halted, port)));
     let walks = view.lists.walks.iter().map(|walk| list(image, walk));
     let nowhere = view.lists.nowhere(image);
     let needed = image.needed();
@@ -29,6 +30,7 @@ pub fn json(view: &View) -> String {
         ("settings", settings(image)),
         ("map", block(mapped)),
         ("last_served", row(last)),
+        ("marks", row(marks)),
         ("credits", lines(credits(image))),
         ("lists", lines(walks)),
         (

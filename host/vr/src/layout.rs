@@ -88,6 +88,9 @@ pub const SLOTS: usize = 4;
 pub const CREDIT: usize = 5;
 pub const EDITION: usize = 6;
 
+/// The marks that a port can have: none, or the refusal that halted it.
+pub const MARKS: [u32; 4] = [0, 7, 8, 18];
+
 /// The edition of ten-byte headers.
 pub const TEN_BYTES: u32 = 0;
 
@@ -97,6 +100,7 @@ pub enum Table {
     Setting,
     Mapped,
     Last,
+    Halted,
     Arrival,
     Outward,
     Head,
@@ -114,10 +118,11 @@ pub enum Table {
 
 use Table::*;
 
-pub const TABLES: [Table; 16] = [
+pub const TABLES: [Table; 17] = [
     Setting,
     Mapped,
     Last,
+    Halted,
     Arrival,
     Outward,
     Head,
@@ -139,7 +144,7 @@ impl Table {
         match self {
             Count | Stamp => 4,
             Setting | Arrival | Outward | Head | Tail | Next | Length => 2,
-            Mapped | Last | Queue | Dest | Poisoned | Transaction | Price => 1,
+            Mapped | Last | Halted | Queue | Dest | Poisoned | Transaction | Price => 1,
         }
     }
 }
@@ -183,7 +188,7 @@ impl Shape {
         match table {
             Setting => ROWS.len(),
             Mapped => IDS,
-            Last => self.ports,
+            Last | Halted => self.ports,
             Arrival | Outward => self.cells(),
             Head | Tail | Count => self.lists(),
             _ => self.all_nodes(),
@@ -207,6 +212,12 @@ impl Shape {
 /// settings, a map of four, four ports and 24 queues.
 pub fn size_before_wide(nodes: usize) -> usize {
     1988 + 52 * nodes
+}
+
+/// The bytes of a state by the build before the marks, which had all the other
+/// tables.
+pub fn size_before_marks(shape: Shape) -> usize {
+    shape.size() - shape.ports
 }
 
 #[cfg(test)]
@@ -304,7 +315,7 @@ mod tests {
                 queues: 24,
                 nodes,
             };
-            assert_eq!(shape.size() - size, 2 * 2 + 4096 - 4);
+            assert_eq!(size_before_marks(shape) - size, 2 * 2 + 4096 - 4);
         }
     }
 
@@ -319,12 +330,12 @@ mod tests {
                         nodes,
                     };
                     let ends = 4 * ports * (queues - 1) + 8 * ports * (2 + 2 * queues);
-                    let size = 16 + 4096 + ports + ends + 13 * ports * nodes;
+                    let size = 16 + 4096 + 2 * ports + ends + 13 * ports * nodes;
                     assert_eq!(shape.size(), size);
                     assert!(size <= Shape::MOST.size());
                 }
             }
         }
-        assert_eq!(Shape::MOST.size(), 897_456);
+        assert_eq!(Shape::MOST.size(), 897_488);
     }
 }

@@ -4,6 +4,7 @@ use crate::image::{Image, Kind};
 use crate::layout::{Table, IDS};
 use crate::lists::Walk;
 use crate::view::{counted, map_by_port, number, View};
+use crate::words::marked;
 
 /// What is told of a repair: the image as it was, and as it is now.
 pub fn told(before: &View, after: &Image) -> String {
@@ -20,7 +21,8 @@ pub fn told(before: &View, after: &Image) -> String {
     }
     lines.push(packets(before));
     lines.push(outward(&before.image));
-    lines.push("as after setup: free lists, arrival credits, last served queues".into());
+    lines.extend(marks(&before.image));
+    lines.push("as after setup: free lists, arrival credits, last served queues, marks".into());
     lines.join("\n") + "\n"
 }
 
@@ -74,4 +76,17 @@ fn outward(before: &Image) -> String {
     let beats: u64 = some.iter().map(|&credit| u64::from(credit)).sum();
     let queues = counted(some.len() as u64, "queue");
     format!("dropped: outward credit {beats} (of {queues})")
+}
+
+/// The marks that are lifted.
+fn marks(before: &Image) -> Option<String> {
+    let mark = |port: usize| before.get(Table::Halted, port).filter(|&mark| mark > 0);
+    let of_port = |port: usize| Some((port, mark(port)?));
+    let marks: Vec<(usize, u32)> = (0..before.shape.ports).filter_map(of_port).collect();
+    let (port, mark) = *marks.first()?;
+    let which = match marks.len() {
+        1 => "the mark".to_string(),
+        many => format!("{many} marks, the first"),
+    };
+    Some(format!("dropped: {which} of port {port}, {}", marked(mark)))
 }

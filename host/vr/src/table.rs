@@ -4,6 +4,7 @@ use crate::image::{Entry, Image, Kind};
 use crate::layout::Table;
 use crate::lists::Walk;
 use crate::view::{counted, map_by_port, number, View};
+use crate::words::marked;
 
 /// A line of ids gets no longer than about this.
 const WIDE: usize = 96;
@@ -129,6 +130,9 @@ fn port_lists(view: &View, port: usize) -> String {
     let of_count = |count| walks.iter().filter(|walk| walk.count == count).count();
     let (empty, cut) = (of_count(Some(0)), of_count(None));
     let mut text = format!("\nport {port}\n");
+    if let Some(mark) = view.image.get(Table::Halted, port).filter(|&mark| mark > 0) {
+        text += &format!("  {}\n", marked(mark));
+    }
     for walk in &walks {
         // Of an empty list nothing is said, and of others what can be read.
         if walk.count != Some(0) && walk.head.is_some() {

@@ -3,7 +3,9 @@
 use std::collections::BTreeMap;
 
 use crate::image::Image;
-use crate::layout::{size_before_wide, Table, IDS, NODES, PORTS, QUEUES, ROWS, SETTINGS_BYTES};
+use crate::layout::{
+    size_before_marks, size_before_wide, Table, IDS, NODES, PORTS, QUEUES, ROWS, SETTINGS_BYTES,
+};
 use crate::lists::Lists;
 use crate::words;
 
@@ -45,15 +47,27 @@ impl<'m> View<'m> {
         self.finding.is_some().into()
     }
 
-    /// What an image that is none may be instead. Nodes stand where they stood in
-    /// the older build.
+    /// What an image that is none may be instead. Ports, queues and nodes stand
+    /// where they stood in the older builds.
     pub fn hint(&self) -> Option<String> {
         let nodes = self.image.count(NODES)?;
-        let older = self.there == size_before_wide(nodes as usize) as u64;
         let none = self.finding.map_or(false, |found| found.rule == Rule::A);
-        let nodes = counted(nodes.into(), "node");
-        (older && none).then(|| {
-            format!("it is as long as an image of {nodes} a port by the build before the wide headers, which is to be set up afresh, not repaired (docs/DECISIONS.md, 79)")
+        let long = |bytes: usize| none && self.there == bytes as u64;
+        let a_port = format!("{} a port", counted(nodes.into(), "node"));
+        if long(size_before_wide(nodes as usize)) {
+            return Some(format!(
+                "it is as long as an image of {a_port} by the build before the wide headers, \
+                 which is to be set up afresh, not repaired (docs/DECISIONS.md, 79)"
+            ));
+        }
+        let shape = self.image.shape;
+        let older = self.image.needed().is_some() && long(size_before_marks(shape));
+        let (ports, queues) = (shape.ports, shape.queues);
+        older.then(|| {
+            format!(
+                "it is as long as an image of {ports} ports, {queues} queues and {a_port} \
+                 by the build before the marks of halted ports, which is to be set up afresh"
+            )
         })
     }
 

@@ -3,12 +3,12 @@
 use crate::fields::{bits, largest, least};
 use crate::image::{price, Entry, Image, Kind, Record};
 use crate::layout::{
-    row, Row, Table, BEAT, CREDIT, EDITION, IDS, PORTS, QUEUES, ROWS, SETTINGS_BYTES, SLOTS,
+    row, Row, Table, BEAT, CREDIT, EDITION, IDS, MARKS, PORTS, QUEUES, ROWS, SETTINGS_BYTES, SLOTS,
 };
 use crate::lists::{Lists, Spot};
 use crate::view::counted;
 
-use ventorupo::{Finding, Form, Rule};
+use ventorupo::{Finding, Form, Halt, Rule};
 
 /// What a rule asks, as the scope paper says it.
 pub fn asks(rule: Rule) -> &'static str {
@@ -20,6 +20,7 @@ pub fn asks(rule: Rule) -> &'static str {
         Rule::E => "a node in an egress or prefetch list has that list's queue",
         Rule::F => "every field recorded for a node that isn't free is in range, its price that of queue, length and beat",
         Rule::G => "for each port and queue above 0, arrival credit and prices outstanding are together the setting credit",
+        Rule::I => "every port's mark is 0, 7, 8 or 18",
     }
 }
 
@@ -49,6 +50,7 @@ fn item_words(image: &Image, lists: &Lists, rule: Rule, item: usize) -> Option<S
         Rule::E => own_queue(image, lists, entry),
         Rule::F => record(image, lists, entry),
         Rule::G => paid(image, lists, item),
+        Rule::I => mark(image, item),
     }
 }
 
@@ -207,6 +209,20 @@ fn paid(image: &Image, lists: &Lists, cell: usize) -> Option<String> {
     wrong.then(|| {
         format!("port {port}, queue {queue}: arrival credit {credit} and prices outstanding {prices} are {both} together, not {all}")
     })
+}
+
+fn mark(image: &Image, port: usize) -> Option<String> {
+    let mark = image.get(Table::Halted, port)?;
+    let wrong = !MARKS.contains(&mark);
+    wrong.then(|| format!("port {port}: {}", marked(mark)))
+}
+
+/// What a mark above 0 says of its port.
+pub fn marked(mark: u32) -> String {
+    match Halt::from_number(mark) {
+        Some(why) => format!("halted by {mark} ({why})"),
+        None => format!("mark {mark} is none of 0, 7, 8 and 18"),
+    }
 }
 
 /// The prices of a port's nodes of a queue that aren't free.

@@ -164,6 +164,7 @@ fn numbers_are_the_calls() {
     map[..4].copy_from_slice(&[0, 1, 2, 3]);
     assert_eq!(numbers("map"), map);
     assert_eq!(numbers("last_served"), [23; 4]);
+    assert_eq!(numbers("marks"), [0; 4]);
     assert_eq!(numbers("in_no_list"), []);
     assert_eq!(*dump.of("sound"), Json::Truth(true));
     assert_eq!(dump.of("credits").elements().len(), 92);
@@ -198,7 +199,7 @@ fn an_image_cut_anywhere() {
         let (table, dump) = (vr::table::table(&view), Json::read(&vr::json::json(&view)));
         let ends = match there {
             0..=15 => "the image ends within the settings".to_string(),
-            _ => format!("the image ends at byte {there} of 6188"),
+            _ => format!("the image ends at byte {there} of 6192"),
         };
         assert!(table.starts_with("(a) the image is too short: "));
         assert!(table.ends_with(&format!("\nreading stops: {ends}\n")));
@@ -411,4 +412,55 @@ fn nodes_out_of_their_row() {
         assert!(table.contains(&free), "{table}");
         assert_eq!(table.matches(why).count(), 5);
     }
+}
+
+/// A halted port's line, with why, and a mark that is none; in the JSON the marks
+/// as they stand.
+#[test]
+fn halted_ports() {
+    let folder = Folder::new("dump-halted");
+    let shown = |marks: [u32; 4]| {
+        let change = |port: usize| (at::HALTED + port, 1, marks[port]);
+        let file = folder.file("image", &changed(&[0, 1, 2, 3].map(change)));
+        let (table, json) = (on("dump", &file), json(&file));
+        assert_eq!(table.status, json.status);
+        let dump = Json::read(&json.out);
+        let told: Vec<u64> = dump
+            .of("marks")
+            .elements()
+            .iter()
+            .map(Json::number)
+            .collect();
+        assert_eq!(told, marks.map(u64::from));
+        assert_eq!(nodes_of_table(&table.out), nodes_of_json(&dump));
+        (table.status, table.out)
+    };
+    let beat = "18 (last mark too early, absent where the length ends, or a beat of a wrong size)";
+    let (status, table) = shown([7, 8, 0, 18]);
+    assert_eq!(status, Some(0));
+    for line in [
+        "\nport 0\n  halted by 7 (checksum differs)\n  empty lists: 50\n".to_string(),
+        "\nport 1\n  halted by 8 (header's source isn't the arriving port)\n  free: ".into(),
+        "\nport 2\n  ingress: ".into(),
+        format!("\nport 3\n  halted by {beat}\n  free: "),
+    ] {
+        assert!(table.contains(&line), "{line}: {table}");
+    }
+    let (status, table) = shown([0, 7, 1, 255]);
+    assert_eq!(status, Some(1));
+    assert!(table.starts_with("(i) port 2: mark 1 is none of 0, 7, 8 and 18\n\n"));
+    for line in [
+        "\nport 1\n  halted by 7 (checksum differs)\n",
+        "\nport 2\n  mark 1 is none of 0, 7, 8 and 18\n",
+        "\nport 3\n  mark 255 is none of 0, 7, 8 and 18\n",
+    ] {
+        assert!(table.contains(line), "{line}: {table}");
+    }
+    // Cut off within the marks.
+    let cut = &changed(&[(at::HALTED, 1, 8)])[..at::HALTED + 2];
+    let said = json(&folder.file("cut", cut)).out;
+    assert!(
+        said.contains("\n  \"marks\": [8, 0, null, null],\n"),
+        "{said}"
+    );
 }

@@ -18,7 +18,8 @@ fn asks(letter: char) -> &'static str {
         'd' => "free and ingress lists hold only their own port's nodes",
         'e' => "a node in an egress or prefetch list has that list's queue",
         'f' => "every field recorded for a node that isn't free is in range, its price that of queue, length and beat",
-        _ => "for each port and queue above 0, arrival credit and prices outstanding are together the setting credit",
+        'g' => "for each port and queue above 0, arrival credit and prices outstanding are together the setting credit",
+        _ => "every port's mark is 0, 7, 8 or 18",
     }
 }
 
@@ -133,14 +134,14 @@ fn rule_a_too_short() {
         format!("a state of {ports} ports, {queues} queues and {nodes} a port takes {bytes}")
     };
     for there in [16, 100, at::SIZE - 1] {
-        short(&small()[..there], &state(4, 24, "2 nodes", 6188));
+        short(&small()[..there], &state(4, 24, "2 nodes", 6192));
     }
     let one = changed(&[two(0, 2, 1)]);
-    short(&one[..6135], &state(4, 24, "1 node", 6136));
+    short(&one[..6139], &state(4, 24, "1 node", 6140));
     let most = changed(&[two(0, 2, 2048)]);
-    short(&most, &state(4, 24, "2048 nodes", 112_580));
+    short(&most, &state(4, 24, "2048 nodes", 112_584));
     let wide = changed(&[two(0, 0, 32), two(0, 1, 64), two(0, 2, 2048), two(0, 6, 1)]);
-    short(&wide, &state(32, 64, "2048 nodes", 897_456));
+    short(&wide, &state(32, 64, "2048 nodes", 897_488));
 }
 
 #[test]
@@ -317,6 +318,34 @@ fn rule_g() {
     }
 }
 
+#[test]
+fn rule_i() {
+    let folder = Folder::new("explain-i");
+    for (port, mark) in [(0, 1), (1, 6), (2, 9), (3, 17), (3, 19), (0, 255)] {
+        let words = format!("(i) port {port}: mark {mark} is none of 0, 7, 8 and 18");
+        let bytes = changed(&[one(at::HALTED, port, mark)]);
+        says(&folder, &bytes, port as u64, &words);
+    }
+    // The first of several; and every mark there is, is sound.
+    let bytes = changed(&[
+        one(at::HALTED, 0, 7),
+        one(at::HALTED, 1, 77),
+        one(at::HALTED, 2, 78),
+    ]);
+    says(
+        &folder,
+        &bytes,
+        1,
+        "(i) port 1: mark 77 is none of 0, 7, 8 and 18",
+    );
+    let marks = [(1, 7), (2, 8), (3, 18)].map(|(port, mark)| one(at::HALTED, port, mark));
+    let said = on("explain", &folder.file("image", &changed(&marks)));
+    assert_eq!(
+        (said.status, said.out.as_str()),
+        (Some(0), "a sound state\n")
+    );
+}
+
 /// A wide switch of five ports, three queues and one node a port: its counts and
 /// its header's size and widths stand in what is said.
 #[test]
@@ -324,20 +353,22 @@ fn a_wide_image() {
     let folder = Folder::new("explain-wide");
     let file = folder.file("image", &wide());
     assert_eq!(on("explain", &file).out, "a sound state\n");
-    // Starts: last 4112, arrival 4117, head 4157, tail 4237, count 4317, next 4477, length 4487, queue 4517, dest 4522, price 4537.
+    // Starts: last 4112, halted 4117, arrival 4122, head 4162, count 4322, length 4492, queue 4522, dest 4527, price 4542.
     let ingress = "(f) node 0 of port 0 (entry id 0) at position 0 of the ingress list of port 0: ";
     let prefetch = "(f) node 0 of port 4 (entry id 8192) at position 0 of the prefetch list of port 3, queue 2: ";
     for (at, number, item, words) in [
         (4116, 3, 4, "(b) port 4: last served queue 3 is none of 3".to_string()),
         (16 + 4095, 5, 5 + 4095, "(b) destination id 4095: mapped port 5 is none of 5".into()),
-        (4317 + 4 * 39 + 3, 2, 5 + 4096 + 14, "(b) port 4, queue 2: the prefetch list has 2 nodes, its slots are 1".into()),
-        (4157 + 2, 40, 1, "(c) ingress list of port 0: entry id 10240 at position 0 is no node: port 5 is none of 5".into()),
-        (4487 + 1, 12, 0, format!("{ingress}length 12 is under 13")),
-        (4517, 3, 0, format!("{ingress}queue 3 is none of 3")),
-        (4522, 8, 0, format!("{ingress}destination id 8 is above 7")),
-        (4522 + 4, 200, 8192, format!("{prefetch}destination id 200 is above 7")),
-        (4537 + 4, 1, 8192, format!("{prefetch}price 1 is wrong, length 65 at beat 64 costs 2")),
-        (4117 + 2 * 9 + 1, 15, 9, "(g) port 4, queue 2: arrival credit 15 and prices outstanding 2 are 17 together, not 16".into()),
+        (4322 + 4 * 39 + 3, 2, 5 + 4096 + 14, "(b) port 4, queue 2: the prefetch list has 2 nodes, its slots are 1".into()),
+        (4162 + 2, 40, 1, "(c) ingress list of port 0: entry id 10240 at position 0 is no node: port 5 is none of 5".into()),
+        (4492 + 1, 12, 0, format!("{ingress}length 12 is under 13")),
+        (4522, 3, 0, format!("{ingress}queue 3 is none of 3")),
+        (4527, 8, 0, format!("{ingress}destination id 8 is above 7")),
+        (4527 + 4, 200, 8192, format!("{prefetch}destination id 200 is above 7")),
+        (4542 + 4, 1, 8192, format!("{prefetch}price 1 is wrong, length 65 at beat 64 costs 2")),
+        (4122 + 2 * 9 + 1, 15, 9, "(g) port 4, queue 2: arrival credit 15 and prices outstanding 2 are 17 together, not 16".into()),
+        (4117, 19, 0, "(i) port 0: mark 19 is none of 0, 7, 8 and 18".into()),
+        (4117 + 4, 9, 4, "(i) port 4: mark 9 is none of 0, 7, 8 and 18".into()),
     ] {
         let mut bytes = wide();
         bytes[at] = number;
@@ -349,8 +380,9 @@ fn a_wide_image() {
 #[test]
 fn rules_in_their_order() {
     let folder = Folder::new("explain-order");
-    let mut changes = vec![two(at::ARRIVAL, 0, 0)];
+    let mut changes = vec![one(at::HALTED, 0, 5)];
     for (change, item, words) in [
+        (two(at::ARRIVAL, 0, 0), 0, "(g) port 0, queue 1: arrival credit 0 and prices outstanding 0 are 0 together, not 16"),
         (one(at::POISONED, 5, 9), 4097, "(f) node 1 of port 2 (entry id 4097) at position 1 of the ingress list of port 2: poisoned flag 9 is above 1"),
         (one(at::LAST, 2, 99), 2, "(b) port 2: last served queue 99 is none of 24"),
         (two(0, 4, 0), 4, "(a) setting slots: 0 is not in its row (1 to 8)"),
@@ -376,7 +408,7 @@ const HINT: &str = "hint: it is as long as an image of 2 nodes a port by the bui
 fn an_image_of_an_older_build() {
     let folder = Folder::new("explain-older");
     for (map, words) in [
-        ([0; 4], "(a) the image is too short: it has 2092 bytes, a state of 4 ports, 24 queues and 2 nodes a port takes 6188"),
+        ([0; 4], "(a) the image is too short: it has 2092 bytes, a state of 4 ports, 24 queues and 2 nodes a port takes 6192"),
         ([0, 1, 2, 3], "(a) setting packets: 515 is not in its row (0)"),
         ([3, 2, 1, 0], "(a) setting edition: 770 is not in its row (0 or 1)"),
     ] {
@@ -386,7 +418,7 @@ fn an_image_of_an_older_build() {
         assert!(said.ends_with(&format!("\n{HINT}")), "{said}");
         assert_eq!(said.lines().count(), 3);
         let table = on("dump", &file).out;
-        let bytes = "\nbytes: 2092 there, 6188 needed\n";
+        let bytes = "\nbytes: 2092 there, 6192 needed\n";
         assert!(table.contains(&format!("{bytes}{HINT}\nport ")), "{table}");
         let json = vr(&["dump".as_ref(), "--json".as_ref(), file.as_os_str()]).out;
         let hint = HINT.trim_end().trim_start_matches("hint: ");
@@ -395,6 +427,51 @@ fn an_image_of_an_older_build() {
         let said = vr(&["repair".as_ref(), file.as_os_str(), "-o".as_ref(), new.as_os_str()]);
         assert!(said.out.ends_with(&format!("nothing was written\n{HINT}")), "{}", said.out);
         assert!(!new.exists());
+    }
+}
+
+/// The hint for an image of this shape by the build before the marks.
+fn hint_of_marks(shape: &str) -> String {
+    format!(
+        "\nhint: it is as long as an image of {shape} by the build before the marks of halted ports, \
+         which is to be set up afresh\n"
+    )
+}
+
+/// So is one that has all but the marks, whatever its shape.
+#[test]
+fn an_image_of_the_build_before_the_marks() {
+    let folder = Folder::new("explain-marks");
+    let older = |mut bytes: Vec<u8>, at: usize, ports: usize| {
+        bytes.drain(at..at + ports);
+        bytes
+    };
+    let file = folder.file("image", &older(small(), at::HALTED, 4));
+    let said = on("explain", &file).out;
+    let top = "(a) the image is too short: it has 6188 bytes, a state of 4 ports, 24 queues and 2 nodes a port takes 6192\n";
+    let hint = hint_of_marks("4 ports, 24 queues and 2 nodes a port");
+    assert!(said.starts_with(top) && said.ends_with(&hint), "{said}");
+    assert_eq!(said.lines().count(), 3);
+    let new = folder.path("new");
+    let words = [
+        "repair".as_ref(),
+        file.as_os_str(),
+        "-o".as_ref(),
+        new.as_os_str(),
+    ];
+    let said = vr(&words).out;
+    assert!(
+        said.ends_with(&format!("nothing was written{hint}")),
+        "{said}"
+    );
+    assert!(!new.exists());
+    let said = on("explain", &folder.file("wide", &older(wide(), 4117, 5))).out;
+    let hint = hint_of_marks("5 ports, 3 queues and 1 node a port");
+    assert!(said.ends_with(&hint), "{said}");
+    // A byte more or less is just too short.
+    for there in [at::SIZE - 5, at::SIZE - 3, at::SIZE - 1] {
+        let said = on("explain", &folder.file("image", &small()[..there])).out;
+        assert!(said.starts_with("(a) ") && !said.contains("hint"), "{said}");
     }
 }
 
@@ -409,7 +486,7 @@ fn no_image_of_an_older_build() {
         let said = on("explain", &folder.file("image", &bytes)).out;
         assert!(said.starts_with("(a) ") && !said.contains("hint"), "{said}");
     }
-    // 2 ports, 2 queues and 90 nodes take 6558 bytes.
+    // 2 ports, 2 queues and 90 nodes take 6560 bytes.
     let mut state = switch(Settings::wide(2, 2, 90, 64, 1, 16)).into_memory();
     state.resize(1988 + 52 * 90, 0);
     let said = |state: &[u8]| on("explain", &folder.file("image", state)).out;

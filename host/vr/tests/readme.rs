@@ -59,7 +59,10 @@ fn is_as_written(number: usize, commands: usize, folder: &Folder) {
 #[test]
 fn the_session_is_as_written() {
     let folder = Folder::new("readme");
-    folder.file("image", &changed(&[(at::LAST, 1, 200)]));
+    folder.file(
+        "image",
+        &changed(&[(at::LAST, 1, 200), (at::HALTED + 3, 1, 7)]),
+    );
     is_as_written(0, 4, &folder);
 }
 

@@ -36,7 +36,11 @@ fn fresh(map: [u32; 4]) -> Vec<u8> {
 #[test]
 fn what_is_kept_and_dropped() {
     let folder = Folder::new("repair-told");
-    let mut bytes = changed(&[(at::LAST, 1, 200), (at::MAPPED + 2, 1, 9)]);
+    let mut bytes = changed(&[
+        (at::LAST, 1, 200),
+        (at::MAPPED + 2, 1, 9),
+        (at::HALTED + 1, 1, 8),
+    ]);
     bytes.extend([7; 10]);
     let (image, new) = (folder.file("image", &bytes), folder.path("new"));
     let said = repair(&image, &new);
@@ -48,7 +52,8 @@ fn what_is_kept_and_dropped() {
          kept: 10 bytes past the state\n\
          dropped: 4 packets (ingress 2, egress 1, prefetch 1)\n\
          dropped: outward credit 65635 (of 2 queues)\n\
-         as after setup: free lists, arrival credits, last served queues\n\
+         dropped: the mark of port 1, halted by 8 (header's source isn't the arriving port)\n\
+         as after setup: free lists, arrival credits, last served queues, marks\n\
          written: {}; {} is as it was\n",
         new.display(),
         image.display()
@@ -73,6 +78,32 @@ fn one_of_something_is_said_so() {
     assert!(said
         .out
         .contains("\ndropped: outward credit 100 (of 1 queue)\n"));
+}
+
+/// Several marks are told of in one line, those that are none too.
+#[test]
+fn marks_are_lifted() {
+    let folder = Folder::new("repair-marks");
+    for (marks, wanted) in [
+        (
+            [0, 18, 8, 9],
+            "\ndropped: 3 marks, the first of port 1, halted by 18 (last mark too early, ",
+        ),
+        (
+            [0, 0, 3, 0],
+            "\ndropped: the mark of port 2, mark 3 is none of 0, 7, 8 and 18\n",
+        ),
+    ] {
+        let change = |port: usize| (at::HALTED + port, 1, marks[port]);
+        let image = folder.file("image", &changed(&[0, 1, 2, 3].map(change)));
+        let new = folder.path("new");
+        let said = repair(&image, &new);
+        assert!(said.out.contains(wanted), "{}", said.out);
+        assert_eq!(fs::read(&new).unwrap(), fresh([0, 1, 2, 3]));
+        fs::remove_file(&new).unwrap();
+    }
+    let (image, new) = (folder.file("image", &small()), folder.path("new"));
+    assert!(!repair(&image, &new).out.contains("dropped: the mark"));
 }
 
 #[test]
@@ -100,13 +131,14 @@ const OTHERS_NODES: [Change; 4] = [
 fn every_rule_is_mended() {
     let folder = Folder::new("repair-rules");
     let loops = ", and what could not be read in 1 list";
-    let broken: [(char, &[Change], &str); 6] = [
+    let broken: [(char, &[Change], &str); 7] = [
         ('b', &[(at::LAST + 3, 1, 24)], ""),
         ('c', &[(at::NEXT + 4, 2, 2048)], loops),
         ('d', &OTHERS_NODES, ""),
         ('e', &[(at::QUEUE, 1, 9)], ""),
         ('f', &[(at::POISONED + 4, 1, 2)], ""),
         ('g', &[(at::ARRIVAL, 2, 3)], ""),
+        ('i', &[(at::HALTED, 1, 3)], ""),
     ];
     for (rule, changes, stuck) in broken {
         let image = folder.file("image", &changed(changes));
@@ -266,7 +298,8 @@ fn a_wide_image() {
                   kept: ports 5, queues 3, nodes 1, beat 64, slots 1, credit 16, edition 1, packets 0\n\
                   kept: map, 4093 ids to port 0, 1 id to port 1, 1 id to port 3, 1 id to port 4\n\
                   dropped: 2 packets (ingress 1, egress 0, prefetch 1)\n\
-                  dropped: outward credit 9 (of 1 queue)\n";
+                  dropped: outward credit 9 (of 1 queue)\n\
+                  dropped: the mark of port 4, halted by 8 (header's source isn't the arriving port)\n";
     assert!(said.out.starts_with(wanted), "{}", said.out);
     let mut switch = switch(Settings::wide(5, 3, 1, 64, 1, 16));
     for (id, port) in [(2, 3), (7, 4), (4095, 1)] {

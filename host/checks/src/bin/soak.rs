@@ -14,12 +14,13 @@ use checks::{library, run};
 const DAMAGED_A_RUN: usize = 100;
 const CALLS_FOR_A_DAMAGED: u64 = 50;
 /// From so many calls on, each answer must have come often enough, and each way
-/// of breaking a rule: once for so many calls. Of setups there are few, and of
-/// calls before the first.
+/// of breaking a rule, and what is to be seen of halted ports: once for so many
+/// calls. Of setups there are few, and of calls before the first.
 const MANY_CALLS: u64 = 200_000;
 const CALLS_FOR_AN_ANSWER: u64 = 1000;
 const CALLS_FOR_1_TO_3: u64 = 10_000;
 const CALLS_FOR_A_WAY: u64 = 100_000;
+const CALLS_FOR_A_HALT: u64 = 5_000;
 
 /// The plans of the first numbers, with so many parts in all.
 fn enough<P>(parts: u64, plan: impl Fn(u64) -> (P, usize)) -> Vec<P> {
@@ -111,6 +112,10 @@ fn main() {
     let rare = counts.too_rare(calls / CALLS_FOR_1_TO_3, least);
     if !rare.is_empty() || !counts.each_call_at_least(least) {
         fail(format!("too rare to count, refusal and times: {rare:?}"));
+    }
+    let rare = counts.halts.too_rare(calls / CALLS_FOR_A_HALT);
+    if !rare.is_empty() {
+        fail(format!("too rarely seen of halted ports: {rare:?}"));
     }
     let rare = verdicts.too_rare(calls / CALLS_FOR_A_WAY);
     if !rare.is_empty() {

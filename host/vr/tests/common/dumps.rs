@@ -89,8 +89,12 @@ pub fn nodes_of_table(dump: &str) -> Nodes {
     nodes
 }
 
-/// A list's heading: `egress, queue 5: 2 nodes`.
+/// A list's heading: `egress, queue 5: 2 nodes`. Before the lists may stand what
+/// the port's mark says.
 fn begin(list: &mut Stands, heading: &str) {
+    if heading.starts_with("halted by ") || heading.starts_with("mark ") {
+        return;
+    }
     let (name, _) = heading.split_once(':').unwrap();
     if name == "empty lists" {
         return;

@@ -1,7 +1,7 @@
 //! Images for the tests, made by valid calls.
 
 use traffic::{Random, SHAPES};
-use ventorupo::{Header, RoundTurn, Settings, Switch};
+use ventorupo::{Header, Refusal, RoundTurn, Settings, Switch};
 
 /// Where the tables of a state of four ports, 24 queues and two nodes a port
 /// start (docs/LAYOUT.md).
@@ -10,18 +10,19 @@ use ventorupo::{Header, RoundTurn, Settings, Switch};
 pub mod at {
     pub const MAPPED: usize = 16;
     pub const LAST: usize = 4112;
-    pub const ARRIVAL: usize = 4116;
-    pub const OUTWARD: usize = 4300;
-    pub const HEAD: usize = 4484;
-    pub const TAIL: usize = 4884;
-    pub const COUNT: usize = 5284;
-    pub const NEXT: usize = 6084;
-    pub const LENGTH: usize = 6100;
-    pub const QUEUE: usize = 6148;
-    pub const DEST: usize = 6156;
-    pub const POISONED: usize = 6164;
-    pub const PRICE: usize = 6180;
-    pub const SIZE: usize = 6188;
+    pub const HALTED: usize = 4116;
+    pub const ARRIVAL: usize = 4120;
+    pub const OUTWARD: usize = 4304;
+    pub const HEAD: usize = 4488;
+    pub const TAIL: usize = 4888;
+    pub const COUNT: usize = 5288;
+    pub const NEXT: usize = 6088;
+    pub const LENGTH: usize = 6104;
+    pub const QUEUE: usize = 6152;
+    pub const DEST: usize = 6160;
+    pub const POISONED: usize = 6168;
+    pub const PRICE: usize = 6184;
+    pub const SIZE: usize = 6192;
 }
 
 pub const SMALL: Settings = Settings::ten_bytes(2, 64, 1, 16);
@@ -128,7 +129,8 @@ pub fn changed(changes: &[Change]) -> Vec<u8> {
 
 /// A wide switch of five ports, three queues and one node a port, with a packet
 /// of the last queue from port 4 in a slot of port 3, and one at port 0 that
-/// has a destination id above the last port.
+/// has a destination id above the last port; port 4 is halted, since a header of
+/// port 0's came in there.
 // Not every test needs it.
 #[allow(dead_code)]
 pub fn wide() -> Vec<u8> {
@@ -156,6 +158,8 @@ pub fn wide() -> Vec<u8> {
         ..Header::default()
     };
     arrive(&mut switch, settings, second);
+    let bytes = settings.form().write(&second).unwrap();
+    assert_eq!(switch.arrive(4, &bytes), Err(Refusal::Source));
     switch.credit(3, 2, 9).unwrap();
     switch.into_memory()
 }
