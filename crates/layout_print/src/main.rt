@@ -33,6 +33,7 @@ fn line(nodes: u32)
     start(s, Table::Setting);
     start(s, Table::Mapped);
     start(s, Table::Last);
+    start(s, Table::Halted);
     start(s, Table::Arrival);
     start(s, Table::Outward);
     start(s, Table::Head);
