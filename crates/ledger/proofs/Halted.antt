@@ -1,20 +1,26 @@
 -- The customer's night, continued: an arrival is answered by its own port's free list, credit and mark; and had a port's refused arrivals
 -- never been sent, nothing would differ but its mark. Assumes nothing.
 use mathlib.Core.Path.{_≡_, refl, sym, ap, _∙_, subst}
-use mathlib.Core.Logic.{_≢_}
+use mathlib.Core.Logic.{_≢_, _⊎_, inl, inr, ⊎-elim}
+use mathlib.Core.Bool.{Bool, true, false, cond}
 use mathlib.Core.List.{List, [], _∷_, _++_}
-use mathlib.Core.Bool.{true, false}
-use Prim.Native.Nat.{ℕ, _<_}
+use Prim.Native.Nat.{ℕ, zero, suc, _<_}
 use native.Mathlib.Omega.{arith}
-use lib.ListN.{getD}
+use native.Mathlib.Decide.{ℕ-discrete}
+use lib.ListN.{length, getD, set, length-set}
+use lib.Seq.{getD-set-other}
+use lib.Dec.{eqb}
 use Rattle.ledger.specs.Settings.{Settings}
 use Rattle.ledger.specs.Rules.{Rule, refuse, guard, Clear}
 use Rattle.ledger.specs.Header.{form, fieldsOf, arrivalRules}
-use Rattle.ledger.specs.Ledger.{free, arrival, halted, Packet, recorded, place#, creditAt, Ledger, oldest, listAt, arrivalOf, markOf}
-use Rattle.ledger.specs.Halt.{OnlyMark}
-use Rattle.ledger.specs.Calls.{arrive, Reply, refused, entry, noPort, firstOf, arriving, lastRules, result, onRefusal, step}
+use Rattle.ledger.specs.Ledger.{Packet, recorded, Place, free, place#, creditAt, Column, column#, arrival, halted, Ledger, listAt, arrivalOf, markOf}
+use Rattle.ledger.specs.Ledger.{oldest, pop, push, move, change, putIn}
+use Rattle.ledger.specs.Halt.{marks, OnlyMark}
+use Rattle.ledger.specs.Calls.{arrive, Reply, refused, entry, noPort, firstOf, arriving, lastRules, result, markedFor, onRefusal, step}
 use Rattle.ledger.specs.Sound.{Orderly}
 use Rattle.ledger.specs.Night.{AgreeAt}
+use Rattle.ledger.proofs.Columns.{change-other}
+use Rattle.ledger.proofs.Halt.{marks-first, marked-by}
 use Rattle.ledger.proofs.Passes.{passes}
 use Rattle.ledger.proofs.Promises.{refusal-marks}
 
@@ -74,3 +80,94 @@ agree-elsewhere S L N p r o other = record {
 pub refused-agree : (S : Settings) (L : Ledger) → Orderly S L → (p : ℕ) (h : List ℕ) (n : ℕ) → step S L (arrive p h) .0 ≡ refused n
     → (r : ℕ) → r ≢ p → AgreeAt S r L (step S L (arrive p h) .1)
 refused-agree S L s p h n e r other = agree-elsewhere S L (step S L (arrive p h) .1) p r (refusal-marks S L s p h n e .only) other
+
+-- ---- side by side: the ledger L, and N, which is L had port p's refused arrivals never been sent
+
+-- a number put in two lists of a length: where they agreed they agree, and at that place
+put-alike : (xs ys : List ℕ) (i v j : ℕ) → length xs ≡ length ys → (j ≢ i → getD xs j 0 ≡ getD ys j 0) → getD (set xs i v) j 0 ≡ getD (set ys i v) j 0
+put-alike [] [] i v j long same = refl
+put-alike [] (y ∷ ys) i v j long same = absurd (omega arith)
+put-alike (x ∷ xs) [] i v j long same = absurd (omega arith)
+put-alike (x ∷ xs) (y ∷ ys) zero v zero long same = refl
+put-alike (x ∷ xs) (y ∷ ys) zero v (suc j) long same = same (omega arith)
+put-alike (x ∷ xs) (y ∷ ys) (suc i) v zero long same = same (omega arith)
+put-alike (x ∷ xs) (y ∷ ys) (suc i) v (suc j) long same = put-alike xs ys i v j (omega arith) (λ n. same (omega arith))
+
+-- they differ in p's mark alone, which in N is L's or none
+record Behind (p : ℕ) (N L : Ledger) : Type 0 where
+  only : OnlyMark p N L
+  low : (markOf N p ≡ markOf L p) ⊎ (markOf N p ≡ 0)
+  long : length (L .numbers halted) ≡ length (N .numbers halted)
+
+behind-self : (p : ℕ) (L : Ledger) → Behind p L L
+behind-self p L = record {
+  only = record { same-lists = refl; same-numbers = λ c n. refl; other-marks = λ r n. refl };
+  low = inl refl;
+  long = refl;
+}
+
+module _ {p : ℕ} {N L : Ledger} (b : Behind p N L) where
+  behind-move : (S : Settings) (v w : Place) (k : Packet) → Behind p (move S v w k N) (move S v w k L)
+  unfolding move
+  behind-move S v w k = record {
+    only = record {
+      same-lists = ap (λ (ls : List (List Packet)). push (place# S w) k (pop (place# S v) ls)) (b .only .same-lists);
+      same-numbers = b .only .same-numbers;
+      other-marks = b .only .other-marks;
+    };
+    low = b .low;
+    long = b .long;
+  }
+
+  behind-change : (c : Column) (f : List ℕ → List ℕ) → c ≢ halted → Behind p (change c f N) (change c f L)
+  behind-change c f n = record {
+    only = record {
+      same-lists = unfold change in b .only .same-lists;
+      same-numbers = λ d m. unfold change in
+          ap (λ (xs : List ℕ). cond (eqb (column# c) (column# d)) (f xs) xs) (b .only .same-numbers d m);
+      other-marks = λ r m. rw (change-other c f L halted n, change-other c f N halted n) (b .only .other-marks r m);
+    };
+    low = rw (change-other c f L halted n, change-other c f N halted n) (b .low);
+    long = rw (change-other c f L halted n, change-other c f N halted n) (b .long);
+  }
+
+  behind-put : (r v : ℕ) → Behind p (putIn halted r v N) (putIn halted r v L)
+  unfolding change
+  behind-put r v = record {
+    only = record {
+      same-lists = b .only .same-lists;
+      same-numbers = λ d m. ap (λ (xs : List ℕ). cond (eqb (column# halted) (column# d)) (set xs r v) xs) (b .only .same-numbers d m);
+      other-marks = λ i m. put-alike (L .numbers halted) (N .numbers halted) r v i (b .long) (λ n. b .only .other-marks i m);
+    };
+    low = at (ℕ-discrete p r);
+    long = length-set (L .numbers halted) r v ∙ b .long ∙ sym (length-set (N .numbers halted) r v);
+  }
+    where
+      at : Dec (p ≡ r) → (markOf (putIn halted r v N) p ≡ markOf (putIn halted r v L) p) ⊎ (markOf (putIn halted r v N) p ≡ 0)
+      at (yes e) = inl (sym (put-alike (L .numbers halted) (N .numbers halted) r v p (b .long) (λ n. absurd (n e))))
+      at (no n) = rw (getD-set-other (L .numbers halted) r p v 0 n, getD-set-other (N .numbers halted) r p v 0 n) (b .low)
+
+  -- p's own mark, put in L alone: only where there was none
+  behind-marked : (S : Settings) (n : ℕ) → Behind p N (markedFor S p n L)
+  unfolding change
+  behind-marked S n = marked-by S p n L (Behind p N) put (λ e. b)
+    where
+      put : marks S p (markOf L p) n ≡ true → Behind p N (putIn halted p n L)
+      put e = record {
+        only = record {
+          same-lists = b .only .same-lists;
+          same-numbers = λ d m. change-other halted (λ xs. set xs p n) L d (λ i. m (sym i)) ∙ b .only .same-numbers d m;
+          other-marks = λ r m. getD-set-other (L .numbers halted) p r n 0 m ∙ b .only .other-marks r m;
+        };
+        low = inr (⊎-elim (λ i. i ∙ marks-first S p (markOf L p) n e) (λ i. i) (b .low));
+        long = length-set (L .numbers halted) p n ∙ b .long;
+      }
+
+  -- a mark at another port, put in both or in none
+  behind-both-marked : (S : Settings) (r n : ℕ) → r ≢ p → Behind p (markedFor S r n N) (markedFor S r n L)
+  unfolding markedFor
+  behind-both-marked S r n other = rw (b .only .other-marks r other) (go (marks S r (markOf N r) n))
+    where
+      go : (m : Bool) → Behind p (cond m (putIn halted r n N) N) (cond m (putIn halted r n L) L)
+      go true = behind-put r n
+      go false = b
