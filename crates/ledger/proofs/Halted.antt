@@ -4,7 +4,7 @@ use mathlib.Core.Path.{_≡_, refl, sym, ap, _∙_, subst}
 use mathlib.Core.Logic.{_≢_, _⊎_, inl, inr, ⊎-elim}
 use mathlib.Core.Bool.{Bool, true, false, cond}
 use mathlib.Core.List.{List, [], _∷_, _++_}
-use Prim.Native.Nat.{ℕ, zero, suc, _<_}
+use Prim.Native.Nat.{ℕ, zero, suc, _+_, _-_, _<_}
 use native.Mathlib.Omega.{arith}
 use native.Mathlib.Decide.{ℕ-discrete}
 use lib.ListN.{length, getD, set, length-set}
@@ -13,13 +13,16 @@ use lib.Dec.{eqb}
 use Rattle.ledger.specs.Settings.{Settings}
 use Rattle.ledger.specs.Rules.{Rule, refuse, guard, Clear}
 use Rattle.ledger.specs.Header.{form, fieldsOf, arrivalRules}
-use Rattle.ledger.specs.Ledger.{Packet, recorded, Place, free, place#, creditAt, Column, column#, arrival, halted, Ledger, listAt, arrivalOf, markOf}
+use Rattle.ledger.specs.Ledger.{owner, Packet, bare, recorded, Place, free, ingress, egress, prefetched, place#, creditAt, setCredit, Column, column#}
+use Rattle.ledger.specs.Ledger.{arrival, outward, last, mapped, halted, Ledger, listAt, arrivalOf, outwardOf, lastOf, mapOf, markOf}
 use Rattle.ledger.specs.Ledger.{oldest, pop, push, move, change, putIn}
+use Rattle.ledger.specs.Ready.{isReady, readyWord, pick}
 use Rattle.ledger.specs.Halt.{marks, OnlyMark}
-use Rattle.ledger.specs.Calls.{arrive, Reply, refused, entry, noPort, firstOf, arriving, lastRules, result, markedFor, onRefusal, step}
+use Rattle.ledger.specs.Calls.{Act, arrive, stitch, prefetch, credit, mapTo, turn, ready, whereIs, clear, report, Reply, refused, entry, idle, reported}
+use Rattle.ledger.specs.Calls.{noPort, firstOf, arriving, lastRules, arrived, served, serve, rules, result, markedFor, onRefusal, step}
 use Rattle.ledger.specs.Sound.{Orderly}
 use Rattle.ledger.specs.Night.{AgreeAt}
-use Rattle.ledger.proofs.Columns.{change-other}
+use Rattle.ledger.proofs.Columns.{column-inj, change-here, change-other}
 use Rattle.ledger.proofs.Halt.{marks-first, marked-by}
 use Rattle.ledger.proofs.Passes.{passes}
 use Rattle.ledger.proofs.Promises.{refusal-marks}
@@ -171,3 +174,73 @@ module _ {p : ℕ} {N L : Ledger} (b : Behind p N L) where
       go : (m : Bool) → Behind p (cond m (putIn halted r n N) N) (cond m (putIn halted r n L) L)
       go true = behind-put r n
       go false = b
+
+-- ---- one act on both
+
+-- the ledger with other marks
+unfoldable remark : List ℕ → Ledger → Ledger
+remark ys N = change halted (λ xs. ys) N
+
+is-remark : {p : ℕ} {N L : Ledger} → OnlyMark p N L → L ≡ remark (L .numbers halted) N
+unfolding remark
+is-remark {p} {N} {L} o = λ k. record { lists = lists k; numbers = λ d. number d (ℕ-discrete (column# halted) (column# d)) k }
+  where
+    lists : L .lists ≡ remark (L .numbers halted) N .lists
+    lists = unfold change in o .same-lists
+
+    number : (d : Column) → Dec (column# halted ≡ column# d) → L .numbers d ≡ remark (L .numbers halted) N .numbers d
+    number d (yes e) =
+        subst (λ (c : Column). L .numbers c ≡ remark (L .numbers halted) N .numbers c) (column-inj halted d e)
+        (sym (change-here halted (λ xs. L .numbers halted) N))
+    number d (no n) =
+        o .same-numbers d (λ e. n (ap column# (sym e))) ∙ sym (change-other halted (λ xs. L .numbers halted) N d (λ e. n (ap column# e)))
+
+-- columns with other numbers are other columns
+other-column : (c d : Column) → column# c ≢ column# d → c ≢ d
+other-column c d n e = n (ap column# e)
+
+-- what both answer and leave: the same answer, but to p's report
+abbrev Alike : ℕ → Act → Reply × Ledger → Reply × Ledger → Type 0
+Alike p a sent unsent = (a ≢ report p → unsent .0 ≡ sent .0) × Behind p (unsent .1) (sent .1)
+
+module _ (S : Settings) (p : ℕ) (ys : List ℕ) (N : Ledger) (b : Behind p N (remark ys N)) where
+  served-alike : (r q : ℕ) (k : Packet) → Behind p (served S N r q k) (served S (remark ys N) r q k)
+  unfolding remark change served
+  served-alike r q k =
+      let home : ℕ = owner (k .node) in
+      behind-change
+      (behind-change
+      (behind-change (behind-move b S (prefetched r q) (free home) (bare (k .node))) arrival
+      (λ xs. setCredit S xs home q (arrivalOf S N home q + k .price)) (other-column arrival halted (omega arith)))
+      outward (λ xs. setCredit S xs r q (outwardOf S N r q - k .price)) (other-column outward halted (omega arith)))
+      last (λ xs. set xs r q) (other-column last halted (omega arith))
+
+  -- nothing but a report and an arrival reads a mark
+  result-alike : (a : Act) → Alike p a (result S (remark ys N) a) (result S N a)
+  unfolding remark change arrived readyWord isReady
+  result-alike (arrive r h) =
+      let k : Packet = arriving S N r h in
+      (
+        λ n. refl,
+        behind-change (behind-move b S (free r) (ingress r) k) arrival (λ xs. setCredit S xs r (k .queue) (arrivalOf S N r (k .queue) - k .price))
+            (other-column arrival halted (omega arith)),
+      )
+  result-alike (stitch r) =
+      let k : Packet = firstOf S N (ingress r) in
+      (λ n. refl, behind-move b S (ingress r) (egress (mapOf N (k .dest)) (k .queue)) k)
+  result-alike (prefetch r q) = (λ n. refl, behind-move b S (egress r q) (prefetched r q) (firstOf S N (egress r q)))
+  result-alike (credit r q n) =
+      (λ n. refl, behind-change b outward (λ xs. setCredit S xs r q (outwardOf S N r q + n)) (other-column outward halted (omega arith)))
+  result-alike (mapTo d r) = (λ n. refl, behind-change b mapped (λ xs. set xs d r) (other-column mapped halted (omega arith)))
+  result-alike (turn r) = go (eqb (readyWord S N r) 0)
+    where
+      q : ℕ
+      q = pick (lastOf N r) (readyWord S N r)
+
+      go : (m : Bool) → Alike p (turn r) (cond m (idle, remark ys N) (serve S (remark ys N) r q)) (cond m (idle, N) (serve S N r q))
+      go true = (λ n. refl, b)
+      go false = (λ n. refl, served-alike r q (firstOf S N (prefetched r q)))
+  result-alike (ready r) = (λ n. refl, b)
+  result-alike (whereIs y) = (λ n. refl, b)
+  result-alike (clear r) = (λ n. refl, behind-put b r 0)
+  result-alike (report r) = (λ n. ap reported (sym (b .only .other-marks r (λ e. n (ap report e)))), b)
