@@ -9,7 +9,7 @@ use native.Mathlib.Omega.{arith}
 use native.Mathlib.Decide.{ℕ-discrete}
 use lib.ListN.{length, getD, set, length-set}
 use lib.Seq.{getD-set-other}
-use lib.Dec.{eqb}
+use lib.Dec.{eqb, ltb}
 use Rattle.ledger.specs.Settings.{Settings}
 use Rattle.ledger.specs.Rules.{Rule, refuse, guard, Clear}
 use Rattle.ledger.specs.Header.{form, fieldsOf, arrivalRules}
@@ -17,15 +17,18 @@ use Rattle.ledger.specs.Ledger.{owner, Packet, bare, recorded, Place, fr
 use Rattle.ledger.specs.Ledger.{arrival, outward, last, mapped, halted, Ledger, listAt, arrivalOf, outwardOf, lastOf, mapOf, markOf}
 use Rattle.ledger.specs.Ledger.{oldest, pop, push, move, change, putIn}
 use Rattle.ledger.specs.Ready.{isReady, readyWord, pick}
-use Rattle.ledger.specs.Halt.{marks, OnlyMark}
-use Rattle.ledger.specs.Calls.{Act, arrive, stitch, prefetch, credit, mapTo, turn, ready, whereIs, clear, report, Reply, refused, entry, idle, reported}
-use Rattle.ledger.specs.Calls.{noPort, firstOf, arriving, lastRules, arrived, served, serve, rules, result, markedFor, onRefusal, step}
+use Rattle.ledger.specs.Halt.{marks, heldUp, OnlyMark}
+use Rattle.ledger.specs.Calls.{Act, arrive, stitch, prefetch, credit, mapTo, turn, ready, whereIs, clear, report, isArrival}
+use Rattle.ledger.specs.Calls.{Reply, refused, entry, idle, reported, noPort, firstOf, arriving, lastRules, arrived, served, serve}
+use Rattle.ledger.specs.Calls.{rules, result, markedFor, onRefusal, step}
 use Rattle.ledger.specs.Sound.{Orderly}
-use Rattle.ledger.specs.Night.{AgreeAt}
+use Rattle.ledger.specs.Night.{AgreeAt, refusedAt}
+use Rattle.ledger.proofs.Tests.{true≢false, eqb-is, eqb-not, ltb-not, and-left, and-right}
 use Rattle.ledger.proofs.Columns.{column-inj, change-here, change-other}
-use Rattle.ledger.proofs.Halt.{marks-first, marked-by}
-use Rattle.ledger.proofs.Passes.{passes}
-use Rattle.ledger.proofs.Promises.{refusal-marks}
+use Rattle.ledger.proofs.Halt.{marks-first, marked-by, not-held}
+use Rattle.ledger.proofs.Passes.{guard-after, passes, Admits, admits}
+use Rattle.ledger.proofs.Steps.{cleared, stepped, refused-else}
+use Rattle.ledger.proofs.Promises.{refusal-marks, means-sound}
 
 -- ---- two ledgers under the same rules
 
@@ -203,6 +206,11 @@ other-column c d n e = n (ap column# e)
 abbrev Alike : ℕ → Act → Reply × Ledger → Reply × Ledger → Type 0
 Alike p a sent unsent = (a ≢ report p → unsent .0 ≡ sent .0) × Behind p (unsent .1) (sent .1)
 
+-- one act: port p's refused arrival, which N doesn't get, or any other, which both get
+record Kept (p : ℕ) (a : Act) (N : Ledger) (sent unsent : Reply × Ledger) : Type 0 where
+  dropped : refusedAt p a (sent .0) ≡ true → Behind p N (sent .1)
+  sent-too : refusedAt p a (sent .0) ≡ false → Alike p a sent unsent
+
 module _ (S : Settings) (p : ℕ) (ys : List ℕ) (N : Ledger) (b : Behind p N (remark ys N)) where
   served-alike : (r q : ℕ) (k : Packet) → Behind p (served S N r q k) (served S (remark ys N) r q k)
   unfolding remark change served
@@ -244,3 +252,87 @@ module _ (S : Settings) (p : ℕ) (ys : List ℕ) (N : Ledger) (b : Behind p N (
   result-alike (whereIs y) = (λ n. refl, b)
   result-alike (clear r) = (λ n. refl, behind-put b r 0)
   result-alike (report r) = (λ n. ap reported (sym (b .only .other-marks r (λ e. n (ap report e)))), b)
+
+  -- nor do the rules, but an arrival's
+  else-rules : (a : Act) → isArrival a ≡ false → rules S (remark ys N) a ≡ rules S N a
+  unfolding remark change
+  else-rules (arrive r h) i = absurd (true≢false i)
+  else-rules (stitch r) i = refl
+  else-rules (prefetch r q) i = refl
+  else-rules (credit r q n) i = refl
+  else-rules (mapTo d r) i = refl
+  else-rules (turn r) i = refl
+  else-rules (ready r) i = refl
+  else-rules (whereIs y) i = refl
+  else-rules (clear r) i = refl
+  else-rules (report r) i = refl
+
+  -- and those read their own port's
+  elsewhere-rules : (r : ℕ) (h : List ℕ) → r ≢ p → rules S (remark ys N) (arrive r h) ≡ rules S N (arrive r h)
+  unfolding remark change
+  elsewhere-rules r h other = rw (b .only .other-marks r other)
+
+  -- by the same rules both do alike, if they do so where they are refused
+  both-alike : (a : Act) → rules S (remark ys N) a ≡ rules S N a → ((n : ℕ) → Behind p (onRefusal S n a N) (onRefusal S n a (remark ys N)))
+      → Alike p a (step S (remark ys N) a) (step S N a)
+  both-alike a same left =
+      let no₁ : ℕ → Reply × Ledger = λ n. (refused n, onRefusal S n a (remark ys N)) in
+      let no₂ : ℕ → Reply × Ledger = λ n. (refused n, onRefusal S n a N) in
+      subst (λ (rs : List Rule). Alike p a (guard rs no₁ (result S (remark ys N) a)) (step S N a)) (sym same)
+      (guarded-both (Alike p a) (rules S N a) no₁ no₂ (result S (remark ys N) a) (result S N a) (λ n. (λ i. refl, left n)) (λ c. result-alike a))
+
+  -- an arrival at p that L takes in, N takes in: it is halted where L is, or not at all
+  taken-too : (h : List ℕ) → Admits S (remark ys N) p h → step S N (arrive p h) ≡ result S N (arrive p h)
+  unfolding remark change
+  taken-too h a =
+      let k : Packet = arriving S N p h in
+      let no′ : ℕ → Reply × Ledger = λ n. (refused n, onRefusal S n (arrive p h) N) in
+      let out : Reply × Ledger = result S N (arrive p h) in
+      let goes : heldUp (k .queue) (markOf N p) ≡ false = ⊎-elim (λ e. rw e (a .goes-on)) (λ e. rw e (not-held (k .queue))) (b .low) in
+      let pays : ltb (arrivalOf S N p (k .queue)) (k .price) ≡ false = ltb-not (arrivalOf S N p (k .queue)) (k .price) (a .afford) in
+      guard-after (noPort S p ∷ arrivalRules (form S) (S .queues) p h) (lastRules S N p k) no′ out (means-sound S p h (a .port) (a .header))
+      ∙ cleared (lastRules S N p k) no′ out (rw (goes, pays), (a .some, tt))
+
+  own-arrival : (h : List ℕ) → Kept p (arrive p h) N (step S (remark ys N) (arrive p h)) (step S N (arrive p h))
+  own-arrival h =
+      stepped S (remark ys N) (arrive p h) (λ out. Kept p (arrive p h) N out (step S N (arrive p h)))
+      (λ n. record {
+        dropped = λ e. unfold onRefusal in (behind-marked b S n);
+        sent-too = λ e. absurd (true≢false (rw (eqb-is p p refl) at e));
+      })
+      (λ c. record {
+        dropped = λ e. absurd (true≢false (sym (and-right (eqb p p) false e)));
+        sent-too = λ e. rw (taken-too h (admits S (remark ys N) p h c)) (result-alike (arrive p h));
+      })
+
+  else-act : (a : Act) → isArrival a ≡ false → refusedAt p a (step S (remark ys N) a .0) ≡ false
+      → Kept p a N (step S (remark ys N) a) (step S N a)
+  else-act a i other = record {
+    dropped = λ e. absurd (true≢false (sym e ∙ other));
+    sent-too = λ e. both-alike a (else-rules a i) (λ n. rw (refused-else S n a N i, refused-else S n a (remark ys N) i) b);
+  }
+
+  one-act : (a : Act) → Kept p a N (step S (remark ys N) a) (step S N a)
+  one-act (arrive r h) = at (ℕ-discrete r p)
+    where
+      at : Dec (r ≡ p) → Kept p (arrive r h) N (step S (remark ys N) (arrive r h)) (step S N (arrive r h))
+      at (yes e) = subst (λ (i : ℕ). Kept p (arrive i h) N (step S (remark ys N) (arrive i h)) (step S N (arrive i h))) (sym e) (own-arrival h)
+      at (no other) = record {
+        dropped = λ e. absurd (true≢false (sym (and-left (eqb r p) _ e) ∙ eqb-not r p other));
+        sent-too = λ e. both-alike (arrive r h) (elsewhere-rules r h other) (λ n. unfold onRefusal in (behind-both-marked b S r n other));
+      }
+  one-act (stitch r) = else-act (stitch r) refl refl
+  one-act (prefetch r q) = else-act (prefetch r q) refl refl
+  one-act (credit r q n) = else-act (credit r q n) refl refl
+  one-act (mapTo d r) = else-act (mapTo d r) refl refl
+  one-act (turn r) = else-act (turn r) refl refl
+  one-act (ready r) = else-act (ready r) refl refl
+  one-act (whereIs y) = else-act (whereIs y) refl refl
+  one-act (clear r) = else-act (clear r) refl refl
+  one-act (report r) = else-act (report r) refl refl
+
+any-act : (S : Settings) (p : ℕ) (N L : Ledger) → Behind p N L → (a : Act) → Kept p a N (step S L a) (step S N a)
+any-act S p N L b a =
+    let same = is-remark (b .only) in
+    subst (λ (M : Ledger). Kept p a N (step S M a) (step S N a)) (sym same)
+    (one-act S p (L .numbers halted) N (subst (Behind p N) same b) a)
