@@ -22,13 +22,15 @@ use Rattle.ledger.specs.Calls.{Act, arrive, stitch, prefetch, credit, ma
 use Rattle.ledger.specs.Calls.{Reply, refused, entry, idle, reported, noPort, firstOf, arriving, lastRules, arrived, served, serve}
 use Rattle.ledger.specs.Calls.{rules, result, markedFor, onRefusal, step}
 use Rattle.ledger.specs.Sound.{Orderly}
-use Rattle.ledger.specs.Night.{AgreeAt, refusedAt}
+use Rattle.ledger.specs.Desk.{Desk, has, Call, setup, act, desk, afterCalls, answersOf, SetupsRefused}
+use Rattle.ledger.specs.Night.{AgreeAt, refusedAt, others, asked, AlikeBut, OwnMarkAlone}
 use Rattle.ledger.proofs.Tests.{true≢false, eqb-is, eqb-not, ltb-not, and-left, and-right}
 use Rattle.ledger.proofs.Columns.{column-inj, change-here, change-other}
 use Rattle.ledger.proofs.Halt.{marks-first, marked-by, not-held}
 use Rattle.ledger.proofs.Passes.{guard-after, passes, Admits, admits}
 use Rattle.ledger.proofs.Steps.{cleared, stepped, refused-else}
 use Rattle.ledger.proofs.Promises.{refusal-marks, means-sound}
+use Rattle.ledger.proofs.Courses.{Faithful, act-answer, act-shows, refused-shows, desk-faithful}
 
 -- ---- two ledgers under the same rules
 
@@ -336,3 +338,82 @@ any-act S p N L b a =
     let same = is-remark (b .only) in
     subst (λ (M : Ledger). Kept p a N (step S M a) (step S N a)) (sym same)
     (one-act S p (L .numbers halted) N (subst (Behind p N) same b) a)
+
+-- ---- any calls
+
+module _ {X : Type 0} (call : X → Call → Reply × X) (shows : X → Desk) (long : X → ℕ) (faithful : Faithful call shows long) (S : Settings) where
+  pub arrival-alike : (x y : X) (L N : Ledger) → shows x ≡ has S L → shows y ≡ has S N → (r : ℕ) → AgreeAt S r L N → (h : List ℕ)
+      → call y (act (arrive r h)) .0 ≡ call x (act (arrive r h)) .0
+  arrival-alike x y L N e f r g h =
+      act-answer call shows long faithful S y N f (arrive r h)
+      ∙ same-answer S L N r h g
+      ∙ sym (act-answer call shows long faithful S x L e (arrive r h))
+
+  module _ (p : ℕ) where
+    -- the calls cs on x, and those of them that are left on y
+    record Course (sent-desk unsent-desk : Desk) (left : List (Act × Reply)) (xs : List Reply) : Type 0 where
+      sent : Ledger
+      unsent : Ledger
+      shown : sent-desk ≡ has S sent
+      shown-without : unsent-desk ≡ has S unsent
+      behind : Behind p unsent sent
+      answers : AlikeBut p left xs
+
+    abbrev Alongside : X → X → List Call → List (Act × Reply) → Type 0
+    Alongside x y cs left = Course (shows (afterCalls call x cs)) (shows (afterCalls call y (asked left))) left (answersOf call y (asked left))
+
+    -- one act more, where whatever shows what y may show after it goes along with the calls after it
+    first-act : (x y : X) (L N : Ledger) → shows x ≡ has S L → shows y ≡ has S N → Behind p N L → (a : Act) (cs : List Call) (left : List (Act × Reply))
+        → ((z : X) (M : Ledger) → shows z ≡ has S M → Behind p M (step S L a .1) → Alongside (call x (act a) .1) z cs left)
+        → Alongside x y (act a ∷ cs) (cond (refusedAt p a (call x (act a) .0)) left ((a, call x (act a) .0) ∷ left))
+    first-act x y L N e f b a cs left then′ = go (refusedAt p a r) refl
+      where
+        r : Reply
+        r = call x (act a) .0
+
+        same : r ≡ step S L a .0
+        same = act-answer call shows long faithful S x L e a
+
+        both : Kept p a N (step S L a) (step S N a)
+        both = any-act S p N L b a
+
+        go : (m : Bool) → refusedAt p a r ≡ m → Alongside x y (act a ∷ cs) (cond m left ((a, r) ∷ left))
+        go true i = then′ y N f (both .dropped (ap (refusedAt p a) (sym same) ∙ i))
+        go false i =
+            let t = both .sent-too (ap (refusedAt p a) (sym same) ∙ i) in
+            let o = then′ (call y (act a) .1) (step S N a .1) (act-shows call shows long faithful S y N f a) (t .1) in
+            record {
+              sent = o .sent;
+              unsent = o .unsent;
+              shown = o .shown;
+              shown-without = o .shown-without;
+              behind = o .behind;
+              answers = (λ n. act-answer call shows long faithful S y N f a ∙ t .0 n ∙ sym same, o .answers);
+            }
+
+    alongside : (x y : X) (L N : Ledger) → shows x ≡ has S L → shows y ≡ has S N → Behind p N L → (cs : List Call) → SetupsRefused call x cs
+        → Alongside x y cs (others p cs (answersOf call x cs))
+    alongside x y L N e f b [] g = record { sent = L; unsent = N; shown = e; shown-without = f; behind = b; answers = tt }
+    alongside x y L N e f b (setup T ∷ cs) g =
+        alongside (call x (setup T) .1) y L N (refused-shows call shows long faithful S x (setup T) refl (g .0 refl) ∙ e) f b cs (g .1)
+    alongside x y L N e f b (act a ∷ cs) g =
+        let x′ : X = call x (act a) .1 in
+        let e′ = act-shows call shows long faithful S x L e a in
+        first-act x y L N e f b a cs (others p cs (answersOf call x′ cs))
+        (λ z M i c. alongside x′ z (step S L a .1) M e′ i c cs (g .1))
+
+  pub own-mark-alone : (x : X) (L : Ledger) → shows x ≡ has S L → (p : ℕ) (cs : List Call) → SetupsRefused call x cs → OwnMarkAlone call shows S p x cs
+  own-mark-alone x L e p cs f =
+      let o = alongside p x x L L e e (behind-self p L) cs f in
+      record {
+        sent = o .sent;
+        unsent = o .unsent;
+        shown = o .shown;
+        shown-without = o .shown-without;
+        only = o .behind .only;
+        answers = o .answers;
+      }
+
+pub desk-own-mark-alone : (n : ℕ) (S : Settings) (L : Ledger) (p : ℕ) (cs : List Call) → SetupsRefused (desk n) (has S L) cs
+    → OwnMarkAlone (desk n) (λ D. D) S p (has S L) cs
+desk-own-mark-alone n S L = own-mark-alone (desk n) (λ D. D) (λ D. n) (desk-faithful n) S (has S L) L refl
