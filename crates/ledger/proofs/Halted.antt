@@ -14,7 +14,7 @@ use Rattle.ledger.specs.Settings.{Settings}
 use Rattle.ledger.specs.Rules.{Rule, refuse, guard, Clear}
 use Rattle.ledger.specs.Header.{form, fieldsOf, arrivalRules}
 use Rattle.ledger.specs.Ledger.{owner, Packet, bare, recorded, Place, free, ingress, egress, prefetched, place#, creditAt, setCredit, Column, column#}
-use Rattle.ledger.specs.Ledger.{arrival, outward, last, mapped, halted, Ledger, listAt, arrivalOf, outwardOf, lastOf, mapOf, markOf}
+use Rattle.ledger.specs.Ledger.{arrival, outward, last, mapped, halted, Ledger, arrivalOf, outwardOf, lastOf, mapOf, markOf}
 use Rattle.ledger.specs.Ledger.{oldest, pop, push, move, change, putIn}
 use Rattle.ledger.specs.Ready.{isReady, readyWord, pick}
 use Rattle.ledger.specs.Halt.{marks, heldUp, OnlyMark}
@@ -25,7 +25,7 @@ use Rattle.ledger.specs.Sound.{Orderly}
 use Rattle.ledger.specs.Desk.{Desk, has, Call, setup, act, desk, afterCalls, answersOf, SetupsRefused}
 use Rattle.ledger.specs.Night.{AgreeAt, refusedAt, others, asked, AlikeBut, OwnMarkAlone}
 use Rattle.ledger.proofs.Tests.{true≢false, eqb-is, eqb-not, ltb-not, and-left, and-right}
-use Rattle.ledger.proofs.Columns.{column-inj, change-here, change-other}
+use Rattle.ledger.proofs.Columns.{column-inj, other-column, change-here, change-other}
 use Rattle.ledger.proofs.Halt.{marks-first, marked-by, not-held}
 use Rattle.ledger.proofs.Passes.{guard-after, passes, Admits, admits}
 use Rattle.ledger.proofs.Steps.{cleared, stepped, refused-else}
@@ -50,6 +50,7 @@ guard-then (refuse n false ∷ rs) ts no′ out = guard-then rs ts no′ out
 -- ---- an arrival reads its own port's free list, credit and mark
 
 module _ (S : Settings) (L N : Ledger) (r : ℕ) (h : List ℕ) (g : AgreeAt S r L N) where
+  -- the rules that read the ledger are the same, of a queue that the switch has
   same-last : arriving S L r h .queue < S .queues → lastRules S N r (arriving S N r h) ≡ lastRules S L r (arriving S L r h)
   unfolding recorded
   same-last low = rw (g .same-free, g .same-mark, g .same-credit (fieldsOf (form S) h .queue) low)
@@ -63,14 +64,13 @@ module _ (S : Settings) (L N : Ledger) (r : ℕ) (h : List ℕ) (g : AgreeAt S r
       let out₂ : Reply × Ledger = result S L (arrive r h) in
       let last₁ : List Rule = lastRules S N r (arriving S N r h) in
       let last₂ : List Rule = lastRules S L r (arriving S L r h) in
-      rw (guard-then first last₁ no₁ out₁)
-      (rw (guard-then first last₂ no₂ out₂)
+      rw (guard-then first last₁ no₁ out₁, guard-then first last₂ no₂ out₂)
       (guarded-both Same first no₁ no₂ (guard last₁ no₁ out₁) (guard last₂ no₂ out₂)
       (λ n. refl)
       (λ c.
       subst (λ (rs : List Rule). Same (guard rs no₁ out₁) (guard last₂ no₂ out₂))
       (sym (same-last (unfold recorded in passes (form S) (S .queues) r h (c .1) .queue)))
-      (guarded-both Same last₂ no₁ no₂ out₁ out₂ (λ n. refl) (λ d. ap (λ (ks : List Packet). entry (oldest ks .node)) (g .same-free))))))
+      (guarded-both Same last₂ no₁ no₂ out₁ out₂ (λ n. refl) (λ d. ap (λ (ks : List Packet). entry (oldest ks .node)) (g .same-free)))))
     where
       Same : Reply × Ledger → Reply × Ledger → Type 0
       Same a b = a .0 ≡ b .0
@@ -81,7 +81,7 @@ module _ (S : Settings) (L N : Ledger) (r : ℕ) (h : List ℕ) (g : AgreeAt S r
 pub agree-elsewhere : (S : Settings) (L N : Ledger) (p r : ℕ) → OnlyMark p L N → r ≢ p → AgreeAt S r L N
 agree-elsewhere S L N p r o other = record {
   same-free = ap (λ (ls : List (List Packet)). getD ls (place# S (free r)) []) (o .same-lists);
-  same-credit = λ q low. ap (λ (xs : List ℕ). creditAt S xs r q) (o .same-numbers arrival (λ e. let z : _≡_ {A = ℕ} 0 1 = cc in omega arith));
+  same-credit = λ q low. ap (λ (xs : List ℕ). creditAt S xs r q) (o .same-numbers arrival (other-column arrival halted (omega arith)));
   same-mark = o .other-marks r other;
 }
 
@@ -89,9 +89,9 @@ pub refused-agree : (S : Settings) (L : Ledger) → Orderly S L → (p : ℕ) (h
     → (r : ℕ) → r ≢ p → AgreeAt S r L (step S L (arrive p h) .1)
 refused-agree S L s p h n e r other = agree-elsewhere S L (step S L (arrive p h) .1) p r (refusal-marks S L s p h n e .only) other
 
--- ---- side by side: the ledger L, and N, which is L had port p's refused arrivals never been sent
+-- ---- side by side: the ledger L, and N, what it would be had port p's refused arrivals never been sent
 
--- a number put in two lists of a length: where they agreed they agree, and at that place
+-- a number put in two lists of the same length: they agree where they did, and at its place
 put-alike : (xs ys : List ℕ) (i v j : ℕ) → length xs ≡ length ys → (j ≢ i → getD xs j 0 ≡ getD ys j 0) → getD (set xs i v) j 0 ≡ getD (set ys i v) j 0
 put-alike [] [] i v j long same = refl
 put-alike [] (y ∷ ys) i v j long same = absurd (omega arith)
@@ -101,7 +101,7 @@ put-alike (x ∷ xs) (y ∷ ys) zero v (suc j) long same = same (omega arith)
 put-alike (x ∷ xs) (y ∷ ys) (suc i) v zero long same = same (omega arith)
 put-alike (x ∷ xs) (y ∷ ys) (suc i) v (suc j) long same = put-alike xs ys i v j (omega arith) (λ n. same (omega arith))
 
--- they differ in p's mark alone, which in N is L's or none
+-- they differ in p's mark alone, which in N is L's or none; both have as many marks, so that a mark put in both is in both or in neither
 record Behind (p : ℕ) (N L : Ledger) : Type 0 where
   only : OnlyMark p N L
   low : (markOf N p ≡ markOf L p) ⊎ (markOf N p ≡ 0)
@@ -155,7 +155,7 @@ module _ {p : ℕ} {N L : Ledger} (b : Behind p N L) where
       at (yes e) = inl (sym (put-alike (L .numbers halted) (N .numbers halted) r v p (b .long) (λ n. absurd (n e))))
       at (no n) = rw (getD-set-other (L .numbers halted) r p v 0 n, getD-set-other (N .numbers halted) r p v 0 n) (b .low)
 
-  -- p's own mark, put in L alone: only where there was none
+  -- p's own mark, put in L alone: L had none, so N has none
   behind-marked : (S : Settings) (n : ℕ) → Behind p N (markedFor S p n L)
   unfolding change
   behind-marked S n = marked-by S p n L (Behind p N) put (λ e. b)
@@ -182,7 +182,7 @@ module _ {p : ℕ} {N L : Ledger} (b : Behind p N L) where
 
 -- ---- one act on both
 
--- the ledger with other marks
+-- the ledger with other marks: what doesn't read them computes to the same on both
 unfoldable remark : List ℕ → Ledger → Ledger
 remark ys N = change halted (λ xs. ys) N
 
@@ -199,10 +199,6 @@ is-remark {p} {N} {L} o = λ k. record { lists = lists k; numbers = λ d. number
         (sym (change-here halted (λ xs. L .numbers halted) N))
     number d (no n) =
         o .same-numbers d (λ e. n (ap column# (sym e))) ∙ sym (change-other halted (λ xs. L .numbers halted) N d (λ e. n (ap column# e)))
-
--- columns with other numbers are other columns
-other-column : (c d : Column) → column# c ≢ column# d → c ≢ d
-other-column c d n e = n (ap column# e)
 
 -- what both answer and leave: the same answer, but to p's report
 abbrev Alike : ℕ → Act → Reply × Ledger → Reply × Ledger → Type 0
@@ -225,12 +221,11 @@ module _ (S : Settings) (p : ℕ) (ys : List ℕ) (N : Ledger) (b : Behind p N (
       outward (λ xs. setCredit S xs r q (outwardOf S N r q - k .price)) (other-column outward halted (omega arith)))
       last (λ xs. set xs r q) (other-column last halted (omega arith))
 
-  -- nothing but a report and an arrival reads a mark
+  -- where no rule applies, nothing but a report reads a mark
   result-alike : (a : Act) → Alike p a (result S (remark ys N) a) (result S N a)
   unfolding remark change arrived readyWord isReady
   result-alike (arrive r h) =
-      let k : Packet = arriving S N r h in
-      (
+      let k : Packet = arriving S N r h in (
         λ n. refl,
         behind-change (behind-move b S (free r) (ingress r) k) arrival (λ xs. setCredit S xs r (k .queue) (arrivalOf S N r (k .queue) - k .price))
             (other-column arrival halted (omega arith)),
@@ -283,7 +278,7 @@ module _ (S : Settings) (p : ℕ) (ys : List ℕ) (N : Ledger) (b : Behind p N (
       subst (λ (rs : List Rule). Alike p a (guard rs no₁ (result S (remark ys N) a)) (step S N a)) (sym same)
       (guarded-both (Alike p a) (rules S N a) no₁ no₂ (result S (remark ys N) a) (result S N a) (λ n. (λ i. refl, left n)) (λ c. result-alike a))
 
-  -- an arrival at p that L takes in, N takes in: it is halted where L is, or not at all
+  -- an arrival at p that L takes in, N takes in: its mark is L's, or none
   taken-too : (h : List ℕ) → Admits S (remark ys N) p h → step S N (arrive p h) ≡ result S N (arrive p h)
   unfolding remark change
   taken-too h a =
@@ -350,7 +345,7 @@ module _ {X : Type 0} (call : X → Call → Reply × X) (shows : X → Desk) (l
       ∙ sym (act-answer call shows long faithful S x L e (arrive r h))
 
   module _ (p : ℕ) where
-    -- the calls cs on x, and those of them that are left on y
+    -- what two courses of calls show at their ends, and how the second answers what the first was asked too
     record Course (sent-desk unsent-desk : Desk) (left : List (Act × Reply)) (xs : List Reply) : Type 0 where
       sent : Ledger
       unsent : Ledger
@@ -359,10 +354,11 @@ module _ {X : Type 0} (call : X → Call → Reply × X) (shows : X → Desk) (l
       behind : Behind p unsent sent
       answers : AlikeBut p left xs
 
+    -- the calls cs on x, and on y those that are left of them
     abbrev Alongside : X → X → List Call → List (Act × Reply) → Type 0
     Alongside x y cs left = Course (shows (afterCalls call x cs)) (shows (afterCalls call y (asked left))) left (answersOf call y (asked left))
 
-    -- one act more, where whatever shows what y may show after it goes along with the calls after it
+    -- one act before calls that are known to go so from whatever shows a ledger behind
     first-act : (x y : X) (L N : Ledger) → shows x ≡ has S L → shows y ≡ has S N → Behind p N L → (a : Act) (cs : List Call) (left : List (Act × Reply))
         → ((z : X) (M : Ledger) → shows z ≡ has S M → Behind p M (step S L a .1) → Alongside (call x (act a) .1) z cs left)
         → Alongside x y (act a ∷ cs) (cond (refusedAt p a (call x (act a) .0)) left ((a, call x (act a) .0) ∷ left))
