@@ -27,6 +27,10 @@ column-at halted = (omega arith, refl)
 pub column-inj : (c d : Column) → column# c ≡ column# d → c ≡ d
 column-inj c d e = sym (column-at c .1) ∙ ap columnAt e ∙ column-at d .1
 
+-- columns with other numbers are other columns
+pub other-column : (c d : Column) → column# c ≢ column# d → c ≢ d
+other-column c d n e = n (ap column# e)
+
 -- ---- one column changed
 
 module _ (c : Column) (f : List ℕ → List ℕ) (L : Ledger) where

@@ -24,6 +24,7 @@ pub mod Door
 pub mod Order
 pub mod Records
 pub mod Night
+pub mod Halted
 pub mod WrongDesks
 pub mod Answers
 pub mod Cards

@@ -15,7 +15,7 @@ use Rattle.ledger.specs.Calls.{clear, report, stitched, idle, leaves, is
 use Rattle.ledger.specs.Desk.{Desk, none, has, Call, setup, act, desk, afterCalls, SetupsRefused}
 use Rattle.ledger.specs.Demand.{turnsIn, Stands, InHand, NobodyStarvesFrom}
 use Rattle.ledger.specs.Order.{idsAt, KeepsOrder, GoesAlong}
-use Rattle.ledger.specs.Night.{Arrival, turned-away, taken, PoolKept}
+use Rattle.ledger.specs.Night.{Arrival, turned-away, taken, PoolKept, OwnMarkAlone}
 use Rattle.ledger.specs.Rounds.{roundActs, Deed, round, Carried, wholeRound}
 use Rattle.ledger.specs.Door.{InIngress, CreditFor, roundsFor, callsOf, roundsIn, roundsBefore, doneFrom, StitchedAt, StitchedSoonFrom, LeavesSoonFrom}
 use Rattle.ledger.proofs.Tests.{true≢false, is-false, eqb-is, ltb-not}
@@ -158,6 +158,28 @@ pub pool-leaked : (n : ℕ) → PoolKept (leaks n) (λ D. D) two (start two) 0 (
 unfolding oldestFree start row place# pop onRefusal markedFor halts marks widthOf formOf frontBits frontBytes bodySize headerSize lib.Count.leadingZeros
 pool-leaked n k =
     let e : _≡_ {A = ℕ} 1 0 = ap oldestFree (k .shown) ∙ ap (λ (xs : List ℕ). getD xs 0 0) (k .in-order .stays-behind) in
+    omega arith
+
+-- and had port 0's refused arrival never been sent, it would have that node: more than its mark differs
+pub more-than-a-mark : (n : ℕ) → OwnMarkAlone (leaks n) (λ D. D) two 0 (has two (start two)) (act (arrive 0 []) ∷ []) → ⊥
+unfolding oldestFree start row place# pop onRefusal markedFor halts marks widthOf formOf frontBits frontBytes bodySize headerSize lib.Count.leadingZeros
+more-than-a-mark n k =
+    let e : _≡_ {A = ℕ} 1 0 =
+    ap oldestFree (k .shown)
+    ∙ ap (λ (ls : List (List Packet)). getD (map (λ (j : Packet). j .node) (getD ls 0 [])) 0 0) (k .only .same-lists)
+    ∙ ap oldestFree (sym (k .shown-without)) in
+    omega arith
+
+-- nor is it enough that the ledger is right: a desk that answers the call after a refusal idle
+abbrev pub sulks : ℕ → Desk × Bool → Call → Reply × (Desk × Bool)
+sulks n x c = (cond (x .1) idle (desk n (x .0) c .0), (desk n (x .0) c .1, isRefused (desk n (x .0) c .0)))
+
+pub another-answered-idle : (n : ℕ)
+    → OwnMarkAlone (sulks n) (λ x. x .0) two 0 (has two (start two), false) (act (arrive 0 []) ∷ act (ready 1) ∷ []) → ⊥
+unfolding widthOf formOf frontBits frontBytes bodySize headerSize lib.Count.leadingZeros
+another-answered-idle n k =
+    let e = k .answers .0 (λ i. let z : _≡_ {A = ℕ} 0 1 = cc in omega arith) in
+    let z : _≡_ {A = ℕ} 0 1 = cc in
     omega arith
 
 -- ---- an arrival: one that is refused and changes more than its port's mark, or a mark that stands, or the mark for nothing; one that takes
