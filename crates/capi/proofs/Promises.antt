@@ -91,7 +91,8 @@ numbered-reply (word w n) h = absurd (h refl)
 numbered-reply (found v i) h = absurd (h refl)
 numbered-reply (reported n) h = absurd (h refl)
 
-pub but-the-mark : (p : ℕ) (h m : List ℕ) (old : ℕ) → (numberIn (M (act (arrive p h)) m .0) ≡ 0 → ⊥) → let out = toldIn entryRoom old (M (act (arrive p h)) m) in
+pub but-the-mark : (p : ℕ) (h m : List ℕ) (old : ℕ) → (numberIn (M (act (arrive p h)) m .0) ≡ 0 → ⊥) →
+    let out = toldIn entryRoom old (M (act (arrive p h)) m) in
     ButTheMark (settingsIn m) p (out .0) m (out .1) × (out .2 ≡ old)
 but-the-mark p h m old k =
     let e = numbered-reply (M (act (arrive p h)) m .0) k in

@@ -46,7 +46,16 @@ cards-hold = (
                         refl,
                         (
                           refl,
-                          (refl, (refl, (refl, (refl, (refl, (refl, (refl, (refl, (refl, (refl, (refl, (refl, (refl, (refl, (refl, (refl, (refl, (refl, tt)))))))))))))))))),
+                          (
+                            refl,
+                            (
+                              refl,
+                              (
+                                refl,
+                                (refl, (refl, (refl, (refl, (refl, (refl, (refl, (refl, (refl, (refl, (refl, (refl, (refl, (refl, (refl, tt))))))))))))))),
+                              ),
+                            ),
+                          ),
                         ),
                       ),
                     ),

@@ -13,7 +13,8 @@ use Rattle.ledger.specs.Ledger.{owner, index, entryId, isNode, Packet, P
 use Rattle.ledger.specs.Ledger.{arrivalOf, markOf, Column, column#, tall, bound}
 use Rattle.ledger.specs.Ready.{bit}
 use Rattle.ledger.specs.Halt.{isMark}
-use Rattle.ledger.specs.Sound.{All, Everywhere, weigh, Shaped, InRange, one, Once, OwnPort, OwnQueue, Proper, WellRecorded, owed, Orderly, Marked, Sound, Roomy}
+use Rattle.ledger.specs.Sound.{All, Everywhere, weigh, Shaped, InRange, one, Once, OwnPort, OwnQueue, Proper, WellRecorded, owed}
+use Rattle.ledger.specs.Sound.{Orderly, Marked, Sound, Roomy}
 use Rattle.ledger.proofs.Lists.{everywhere-map, counted}
 use Rattle.ledger.proofs.Places.{node-of, node-is}
 use Rattle.ledger.proofs.Rows.{roomy}

@@ -1,8 +1,7 @@
 -- Laws of the halt: which marks there are, what marking a port leaves, and whom a halt turns away. Assumes nothing.
-use mathlib.Core.Path.{_≡_, refl, sym, ap, _∙_}
+use mathlib.Core.Path.{_≡_, refl, sym, _∙_}
 use mathlib.Core.Logic.{_≢_, _⊎_, inl, inr, ⊎-elim}
 use mathlib.Core.Bool.{Bool, true, false, cond, _&&_, _||_}
-use mathlib.Core.List.{List}
 use Prim.Native.Nat.{ℕ, _<_}
 use native.Mathlib.Omega.{arith}
 use native.Mathlib.Decide.{ℕ-discrete}
@@ -10,11 +9,11 @@ use lib.ListN.{length, getD, set}
 use lib.Seq.{getD-set-same, getD-set-other}
 use lib.Dec.{eqb, ltb}
 use Rattle.ledger.specs.Settings.{Settings}
-use Rattle.ledger.specs.Ledger.{Column, arrival, halted, Ledger, markOf, change, putIn}
+use Rattle.ledger.specs.Ledger.{Column, halted, Ledger, markOf, change, putIn}
 use Rattle.ledger.specs.Halt.{halts, isMark, marks, heldUp, TurnedAway}
 use Rattle.ledger.specs.Calls.{markedFor}
 use Rattle.ledger.specs.Sound.{Orderly, Marked, Roomy}
-use Rattle.ledger.proofs.Tests.{true≢false, is-false, eqb-yes, eqb-is, eqb-not, ltb-yes, ltb-no, ltb-is, ltb-not, and-left, and-right, and-no, or-is-right}
+use Rattle.ledger.proofs.Tests.{true≢false, is-false, eqb-yes, ltb-yes, ltb-is, and-left, and-right, or-is-right}
 use Rattle.ledger.proofs.Columns.{change-here, change-other}
 use Rattle.ledger.proofs.Keep.{keep-put}
 

@@ -480,7 +480,10 @@ module _ (S : Settings) (ok : Roomy S) (p q : ℕ) (hp : p < S .ports) (hq : q <
 
     aside-refused : (n : ℕ) (a : Act) → Aside L (onRefusal S n a L)
     aside-refused n a = record {
-      spared = record { lists = rw (refused-lists S n a L) (grown-refl (L .lists)); funded = rw (refused-numbers S n a L outward (λ e. let z : _≡_ {A = ℕ} 0 1 = cc in omega arith)) (omega arith) };
+      spared = record {
+        lists = rw (refused-lists S n a L) (grown-refl (L .lists));
+        funded = rw (refused-numbers S n a L outward (λ e. let z : _≡_ {A = ℕ} 0 1 = cc in omega arith)) (omega arith);
+      };
       mark = rw (refused-numbers S n a L last (λ e. let z : _≡_ {A = ℕ} 0 1 = cc in omega arith));
     }
 

@@ -74,7 +74,8 @@ module _ (S : Settings) (ok : Roomy S) (L : Ledger) (s : Orderly S L) (p : ℕ) 
   -- refused, and nothing differs but p's mark; or taken in, and nothing differs but at p
   pub hurts-only-itself : Arrival S L p h (step S L (arrive p h) .0) (step S L (arrive p h) .1)
   hurts-only-itself =
-      stepped S L (arrive p h) (λ out. Arrival S L p h (out .0) (out .1)) (λ n. unfold onRefusal in (turned-away n (markedFor S p n L) (halt.turned-away S p n L (s .shaped .numbers-long halted))))
+      stepped S L (arrive p h) (λ out. Arrival S L p h (out .0) (out .1)) (λ n.
+      unfold onRefusal in (turned-away n (markedFor S p n L) (halt.turned-away S p n L (s .shaped .numbers-long halted))))
       (λ c. taken (firstOf S L (free p) .node) (arrived S L p (arriving S L p h)) (taken-in (admits S L p h c)))
 
 -- no field of a header decides whose node is taken: any two headers that are taken in here take the same node

@@ -16,7 +16,8 @@ use Rattle.ledger.specs.Ledger.{owner, isNode, Packet, bare, recorded, P
 use Rattle.ledger.specs.Ledger.{lastOf, mapOf, pop, move, mapped, change, Place·In}
 use Rattle.ledger.specs.Ready.{bit, readyWord, pick}
 use Rattle.ledger.specs.Calls.{Act, arrive, stitch, prefetch, credit, mapTo, turn, ready, whereIs, Side, Reply, refused, idle, leaves}
-use Rattle.ledger.specs.Calls.{clear, report, stitched, isEmpty, firstOf, stitchRecord, arriving, arrived, served, serve, rules, result, step, run, onRefusal}
+use Rattle.ledger.specs.Calls.{clear, report, stitched, isEmpty, firstOf, stitchRecord, arriving, arrived, served, serve, rules, result, step}
+use Rattle.ledger.specs.Calls.{run, onRefusal}
 use Rattle.ledger.specs.Desk.{Desk, has, Call, setup, act, desk, afterCalls, answersOf, SetupsRefused}
 use Rattle.ledger.specs.Sound.{All, Everywhere, sum, weigh, one, Proper, Orderly, Roomy}
 use Rattle.ledger.specs.Order.{isFree, gathered, heldFrom, held, broughtBy, broughtIn, Latest, Tells, GoesAlong}

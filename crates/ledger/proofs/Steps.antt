@@ -16,7 +16,6 @@ use Rattle.ledger.specs.Ready.{covered, isReady, wordOf, readyWord, pick
 use Rattle.ledger.specs.Calls.{Act, arrive, stitch, prefetch, credit, mapTo, turn, ready, whereIs, refused, idle, isEmpty, firstOf, arriving}
 use Rattle.ledger.specs.Calls.{clear, report, isArrival}
 use Rattle.ledger.specs.Calls.{arrived, served, serve, turned, rules, result, step, run, markedFor, onRefusal, Reply}
-use Rattle.ledger.specs.Halt.{isMark}
 use Rattle.ledger.specs.Sound.{Proper, owes, Orderly, Marked, Roomy}
 use Rattle.ledger.proofs.Tests.{leb-no, ltb-no}
 use Rattle.ledger.proofs.Places.{credit-in}

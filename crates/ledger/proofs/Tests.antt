@@ -1,6 +1,6 @@
 -- From a Boolean test to the fact that it tests, and back. Assumes nothing.
 use mathlib.Core.Path.{_≡_, refl, sym, _∙_, subst}
-use mathlib.Core.Logic.{_≢_, _⊎_, inl, inr}
+use mathlib.Core.Logic.{_≢_}
 use mathlib.Core.Bool.{Bool, true, false, not, _&&_, _||_}
 use Prim.Native.Nat.{ℕ, suc, _≤_, _<_}
 use native.Mathlib.Nat.{le-of-suc-le-suc}
@@ -65,11 +65,6 @@ and-left false b e = e
 pub and-right : (a b : Bool) → (a && b) ≡ true → b ≡ true
 and-right true b e = e
 and-right false b e = absurd (true≢false (sym e))
-
--- a test that fails, by its first part or by its second
-pub and-no : (a b : Bool) → (a && b) ≡ false → (a ≡ false) ⊎ (b ≡ false)
-and-no true b e = inr e
-and-no false b e = inl refl
 
 pub or-left : (a b : Bool) → (a || b) ≡ false → a ≡ false
 or-left true b e = e

@@ -1,5 +1,6 @@
 -- What is proved of the desk holds of memory, by the square. Assumes nothing.
 use mathlib.Core.Path.{_≡_, refl, sym, ap, _∙_, subst}
+use mathlib.Core.Logic.{_≢_}
 use mathlib.Core.Bool.{Bool, true, false}
 use mathlib.Core.List.{List}
 use Prim.Native.Nat.{ℕ, _*_, _<_}
@@ -13,7 +14,7 @@ use Rattle.ledger.specs.Calls.{Act, arrive, turn, ready, whereIs, Side, inside,
 use Rattle.ledger.specs.Desk.{has, Call, act, SetupsRefused}
 use Rattle.ledger.specs.Sound.{Roomy, Sound}
 use Rattle.ledger.specs.Order.{KeepsOrder, GoesAlong}
-use Rattle.ledger.specs.Night.{Arrival, PoolKept}
+use Rattle.ledger.specs.Night.{Arrival, PoolKept, AgreeAt, OwnMarkAlone}
 use Rattle.ledger.proofs.Places.{place#-lt}
 use Rattle.ledger.proofs.Rows.{roomy}
 use Rattle.ledger.proofs.Find.{where-right}
@@ -24,6 +25,7 @@ use Rattle.ledger.proofs.Waits.{nobody-starves-from, ten-bytes-from}
 use Rattle.ledger.proofs.Order.{keeps-order}
 use Rattle.ledger.proofs.Records.{goes-along}
 use Rattle.ledger.proofs.Night.{whose-node, arrival-shows, pool-kept}
+use Rattle.ledger.proofs.Halted.{refused-agree, arrival-alike, own-mark-alone}
 use Rattle.layout.specs.declared.Shape.{Shape}
 use Rattle.layout.specs.Tables.{lists, settingsOf}
 use Rattle.layout.specs.Picture.{settingsIn, ledgerIn, StateOf, State}
@@ -101,6 +103,24 @@ module _ (m : List ℕ) (S : Settings) (L : Ledger) (e : picture m ≡ has S L) 
 
   pub memory-whose-node : (p : ℕ) (h h′ : List ℕ) (x y : ℕ) → M (act (arrive p h)) m .0 ≡ entry x → M (act (arrive p h′)) m .0 ≡ entry y → x ≡ y
   memory-whose-node p h h′ x y d i = whose-node S L p h h′ x y (sym (on-state (arrive p h)) ∙ d) (sym (on-state (arrive p h′)) ∙ i)
+
+  -- what a port's refused arrivals change, over any calls, is its own mark
+  pub memory-own-mark-alone : (p : ℕ) (cs : List Call) → SetupsRefused onMemory m cs → OwnMarkAlone onMemory picture S p m cs
+  memory-own-mark-alone p cs f = own-mark-alone onMemory picture length memory-faithful S m L e p cs f
+
+  -- an arrival at port r is answered alike on any memory of the same settings that agrees at r
+  pub memory-arrival-alike : (m′ : List ℕ) (N : Ledger) → picture m′ ≡ has S N → (r : ℕ) → AgreeAt S r L N → (h : List ℕ)
+      → M (act (arrive r h)) m′ .0 ≡ M (act (arrive r h)) m .0
+  memory-arrival-alike m′ N i r g h = arrival-alike onMemory picture length memory-faithful S m m′ L N e i r g h
+
+  -- as the one that a refused arrival at another port leaves does
+  pub memory-refused-agree : (p : ℕ) (h : List ℕ) (n : ℕ) → M (act (arrive p h)) m .0 ≡ refused n → (r : ℕ) → r ≢ p
+      → (N : Ledger) × (picture (M (act (arrive p h)) m .1) ≡ has S N) × AgreeAt S r L N
+  memory-refused-agree p h n i r d = (
+    step S L (arrive p h) .1,
+    then-pictures (arrive p h),
+    refused-agree S L (s .orderly) p h n (sym (on-state (arrive p h)) ∙ i) r d,
+  )
 
   -- ready's count is the number of ready queues
   pub memory-ready-counts : (p : ℕ) → p < S .ports

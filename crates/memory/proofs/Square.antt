@@ -13,8 +13,8 @@ use Rattle.ledger.specs.Settings.{Settings, settings, inRows, ids, row, size}
 use Rattle.ledger.specs.Rules.{Rule, refuse, guard, Clear}
 use Rattle.ledger.specs.Header.{form, fieldsOf, price}
 use Rattle.ledger.specs.Ledger.{owner, isNode, Packet, bare, recorded, Place, free, ingress, egress, prefetched, place#, column, portOf, Ledger}
-use Rattle.ledger.specs.Ledger.{listAt, arrivalOf, outwardOf, lastOf, mapOf, markOf, push, move, putCredit, putIn, start, arrival, outward, last, mapped, halted}
-use Rattle.ledger.specs.Ledger.{change}
+use Rattle.ledger.specs.Ledger.{listAt, arrivalOf, outwardOf, lastOf, mapOf, markOf, push, move, putCredit, putIn, start, arrival, outward, last, mapped}
+use Rattle.ledger.specs.Ledger.{halted, change}
 use Rattle.ledger.specs.Halt.{halts, marks}
 use Rattle.ledger.specs.Ready.{readyWord, pick}
 use Rattle.ledger.specs.Calls.{Act, arrive, stitch, prefetch, credit, mapTo, turn, ready, whereIs, Reply, refused, done, idle, isRefused, isEmpty}

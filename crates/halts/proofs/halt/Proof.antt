@@ -33,7 +33,7 @@ returns-2 : tie.Need-returns-2
 returns-2 c = unmarked _ _ _ _ (sym (says (c .before)) ∙ c .if1 .left)
 
 pub halt-spec : {M : Type 1} → statement M
-halt-spec = 
+halt-spec =
     tie.close
     (tie.spec
     (λ c κs. search needs)

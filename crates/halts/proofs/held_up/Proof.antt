@@ -1,5 +1,5 @@
 -- `halts::held_up` meets its contract: queue 0 goes on, and any other where there is no mark. Assumes nothing.
-use mathlib.Core.Path.{sym, ap, _∙_}
+use mathlib.Core.Path.{ap, _∙_}
 use Prim.Native.Nat.{ℕ}
 use borrow.Author.Needs.{needs}
 use lib.Dec.{ltb}

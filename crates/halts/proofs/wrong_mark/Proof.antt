@@ -45,7 +45,7 @@ unfolding marksFound
 returns-2 c = sym (search-none _ _ _ (c .before .loop .inv) (c .loop-test .left))
 
 pub wrong-mark-spec : {M : Type 1} → statement M
-wrong-mark-spec = 
+wrong-mark-spec =
     tie.close
     (tie.spec
     Inv-loop

@@ -41,7 +41,9 @@ returns : tie.Need-returns
 returns c =
     let j = c .before .before .before in
     let a = start j .args in
-    sym (acted-bad (settingsOf (a .s)) (a .m .now) (mapTo (a .id) (a .port)) refl _ (sym (j .judge-map .ensures) ∙ ap judgementOf (c .before .verdict .given .1)))
+    sym
+    (acted-bad (settingsOf (a .s)) (a .m .now) (mapTo (a .id) (a .port)) refl _
+    (sym (j .judge-map .ensures) ∙ ap judgementOf (c .before .verdict .given .1)))
 
 same-length-2 : tie.Need-same-length-2
 same-length-2 c = search needs
