@@ -69,7 +69,7 @@ fn put_settings(m: &mut [u8], s: Shape)
     }
 }
 
-// Each port's mark: as if its last queue had been served last.
+// Each port's last served queue: as if its last queue had been served last.
 fn put_marks(m: &mut [u8], s: Shape)
     requires { ⌜ Room s (now m) ⌝ }
     ensures { λ _. ⌜ now (m .exit) ≡ fill (settingsOf s) Last (λ p. p) (λ p. s .queues - 1) (s .ports) (now (m .entry)) ⌝ }

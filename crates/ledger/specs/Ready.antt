@@ -36,7 +36,7 @@ readyWord S L p = wordOf (isReady S L p) (S .queues)
 abbrev pub wordBits : ℕ
 wordBits = 64
 
--- the word with its bits up to the mark cleared
+-- the word with its bits up to the last served queue cleared
 unfoldable pub maskedAbove : ℕ → ℕ → ℕ
 maskedAbove m w = w / 2 ^ suc m * 2 ^ suc m
 

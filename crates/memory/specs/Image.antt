@@ -32,7 +32,7 @@ unfoldable pub allLinked : Settings → ℕ → List ℕ → List ℕ
 allLinked S zero m = m
 allLinked S (suc n) m = linked S n (allLinked S n m)
 
--- over zero bytes: the settings, the marks, the arrival credits, and of each port the free list with all its nodes
+-- over zero bytes: the settings, the last served queues, the arrival credits, and of each port the free list with all its nodes
 unfoldable pub written : Settings → List ℕ → List ℕ
 written S m =
     allLinked S (S .ports)

@@ -1,4 +1,4 @@
-// Rules (a) and (b) of a switch state, on any bytes: the settings are in their rows and the memory holds a state of them; marks, map
+// Rules (a) and (b) of a switch state, on any bytes: the settings are in their rows and the memory holds a state of them; last served queues, map
 // entries and prefetch lists are in range.
 use layout::Shape;
 use layout::Table;
@@ -70,7 +70,7 @@ fn prefetch_list(s: Shape, j: usize) -> usize
     geometry::prefetch_list(s, j / queues, j % queues)
 }
 
-// How many items are numbers: the ports' marks, and the map's entries.
+// How many items are numbers: the ports' last served queues, and the map's entries.
 fn number_items(s: Shape) -> usize
     requires { ⌜ Laid s ⌝ }
     ensures { λ r. ⌜ r ≡ low (settingsOf s) ⌝ }
@@ -125,7 +125,7 @@ pub fn few_enough(s: Shape, column: usize, count: u32) -> bool
     held <= s.slots
 }
 
-// The first of the first n items that is out of range, where those before `from` are known to be in range: the marks and the map come
+// The first of the first n items that is out of range, where those before `from` are known to be in range: the last served queues and the map come
 // first, so they can be tested by themselves.
 fn first_outside(m: &[u8], s: Shape, from: usize, n: usize) -> Finding
     requires { ⌜ Sought s (now m) from n ⌝ }
@@ -162,7 +162,7 @@ fn highest_entry(m: &[u8], s: Shape) -> u8
     top
 }
 
-// The first number that is out of range. The map is mostly right, and then the marks decide.
+// The first number that is out of range. The map is mostly right, and then the last served queues decide.
 pub fn number_outside(m: &[u8], s: Shape) -> Finding
     requires { ⌜ Held s (now m) ⌝ }
     ensures { λ r. ⌜ r ≡ first (fitsAt (settingsOf s) (now (m .entry))) (low (settingsOf s)) ⌝ }

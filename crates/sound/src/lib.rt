@@ -118,7 +118,7 @@ fn number_outside(m: &[u8], s: Shape) -> Finding
     ranges::number_outside(m, s)
 }
 
-// Whether rules (b) to (i) are kept: of (b) the numbers first, and the prefetch lists where the lists are walked; and the marks.
+// Whether rules (b) to (i) are kept: of (b) the numbers first, and the prefetch lists where the lists are walked; and each port's mark.
 fn whole_in(m: &[u8], s: Shape) -> bool
     requires { ⌜ Open (now m) s ⌝ }
     ensures { λ r. ⌜ Says (Clean (settingsOf s) (now (m .entry))) r ⌝ }

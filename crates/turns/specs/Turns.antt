@@ -25,7 +25,7 @@ pub record AtQueue (s : Shape) (p q : ℕ) (m : List ℕ) : Type 0 where
   pub port : p < s .ports
   pub queue : q < s .queues
 
--- the credits and the mark that a departure changes stand in the memory m of a state of shape s
+-- the credits and the last served queue that a departure changes stand in the memory m of a state of shape s
 pub record CanSettle (s : Shape) (p q home : ℕ) (m : List ℕ) : Type 0 where
   pub laid : Laid s
   pub long : size (settingsOf s) ≤ length m

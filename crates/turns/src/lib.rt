@@ -76,7 +76,7 @@ fn exit_of(q: u32) -> Exit
     Exit::Outside
 }
 
-// The credits and the mark after a packet of queue q left port p for home.
+// The credits and the last served queue after a packet of queue q left port p for home.
 fn settle(m: &mut [u8], s: Shape, p: usize, q: usize, home: usize, given: u16, left: u16)
     requires { ⌜ CanSettle s p q home (now m) ⌝ }
     ensures { λ _. ⌜ now (m .exit)
