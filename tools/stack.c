@@ -67,6 +67,7 @@ int main(void) {
         lent = calloc(lent_len, 1);
         if (!memory || !lent || vr_write_header(settings.edition, settings.ports, settings.queues, &h, header, &header_len)) abort();
         printf("%u ports, %u queues, %u nodes a port\n", settings.ports, settings.queues, settings.nodes);
+        taken(nothing); /* the first thread may bring in more */
         size_t bare = taken(nothing);
         setup();
         printf("  setup %zu, arrive %zu, turn %zu, round %zu, audit %zu", taken(setup) - bare, taken(arrive) - bare, taken(turn) - bare,
