@@ -21,14 +21,14 @@ use Rattle.ledger.specs.Halt.{marks, heldUp, OnlyMark}
 use Rattle.ledger.specs.Calls.{Act, arrive, stitch, prefetch, credit, mapTo, turn, ready, whereIs, clear, report, isArrival}
 use Rattle.ledger.specs.Calls.{Reply, refused, entry, idle, reported, noPort, firstOf, arriving, lastRules, arrived, served, serve}
 use Rattle.ledger.specs.Calls.{rules, result, markedFor, onRefusal, step}
-use Rattle.ledger.specs.Sound.{Orderly}
+use Rattle.ledger.specs.Sound.{All, Orderly}
 use Rattle.ledger.specs.Desk.{Desk, has, Call, setup, act, desk, afterCalls, answersOf, SetupsRefused}
-use Rattle.ledger.specs.Night.{AgreeAt, refusedAt, others, asked, AlikeBut, OwnMarkAlone}
+use Rattle.ledger.specs.Night.{AgreeAt, refusedAt, others, asked, AlikeBut, OwnMarkAlone, HaltLasts}
 use Rattle.ledger.proofs.Tests.{true≢false, eqb-is, eqb-not, ltb-not, and-left, and-right}
 use Rattle.ledger.proofs.Columns.{column-inj, other-column, change-here, change-other}
 use Rattle.ledger.proofs.Halt.{marks-first, marked-by, not-held}
 use Rattle.ledger.proofs.Passes.{guard-after, passes, Admits, admits}
-use Rattle.ledger.proofs.Steps.{cleared, stepped, refused-else}
+use Rattle.ledger.proofs.Steps.{cleared, stepped, refused-by, refused-else}
 use Rattle.ledger.proofs.Promises.{refusal-marks, means-sound}
 use Rattle.ledger.proofs.Courses.{Faithful, act-answer, act-shows, refused-shows, desk-faithful}
 
@@ -413,3 +413,48 @@ module _ {X : Type 0} (call : X → Call → Reply × X) (shows : X → Desk) (l
 pub desk-own-mark-alone : (n : ℕ) (S : Settings) (L : Ledger) (p : ℕ) (cs : List Call) → SetupsRefused (desk n) (has S L) cs
     → OwnMarkAlone (desk n) (λ D. D) S p (has S L) cs
 desk-own-mark-alone n S L = own-mark-alone (desk n) (λ D. D) (λ D. n) (desk-faithful n) S (has S L) L refl
+
+-- ---- a halt lasts until it is cleared
+
+module _ (S : Settings) (p : ℕ) (L : Ledger) (some : 0 < markOf L p) where
+  -- no refusal changes a mark that stands
+  refused-lasts : (a : Act) (n : ℕ) → markOf (onRefusal S n a L) p ≡ markOf L p
+  refused-lasts a n = refused-by S n a L (λ N. markOf N p ≡ markOf L p) refl (λ r. marked-by S r n L (λ N. markOf N p ≡ markOf L p) (set-at r) (λ e. refl))
+    where
+      set-at : (r : ℕ) → marks S r (markOf L r) n ≡ true → markOf (putIn halted r n L) p ≡ markOf L p
+      set-at r e =
+          rw (change-here halted (λ xs. set xs r n) L)
+          (getD-set-other (L .numbers halted) r p n 0 (λ i. omega (arith, some, marks-first S r (markOf L r) n e, ap (markOf L) i)))
+
+  -- nor does anything but a clear of this port
+  result-lasts : (a : Act) → a ≢ clear p → markOf (result S L a .1) p ≡ markOf L p
+  result-lasts (arrive r h) d = unfold arrived change move in refl
+  result-lasts (stitch r) d = unfold move in refl
+  result-lasts (prefetch r q) d = unfold move in refl
+  result-lasts (credit r q n) d = unfold change in refl
+  result-lasts (mapTo i r) d = unfold change in refl
+  result-lasts (turn r) d = go (eqb (readyWord S L r) 0)
+    where
+      go : (b : Bool) → markOf ((cond b (idle, L) (serve S L r (pick (lastOf L r) (readyWord S L r)))) .1) p ≡ markOf L p
+      go true = refl
+      go false = unfold served change move in refl
+  result-lasts (ready r) d = refl
+  result-lasts (whereIs y) d = refl
+  result-lasts (clear r) d =
+      rw (change-here halted (λ xs. set xs r 0) L) (getD-set-other (L .numbers halted) r p 0 0 (λ i. d (ap clear (sym i))))
+  result-lasts (report r) d = refl
+
+  pub step-lasts : (a : Act) → a ≢ clear p → markOf (step S L a .1) p ≡ markOf L p
+  step-lasts a d = stepped S L a (λ out. markOf (out .1) p ≡ markOf L p) (refused-lasts a) (λ c. result-lasts a d)
+
+module _ {X : Type 0} (call : X → Call → Reply × X) (shows : X → Desk) (long : X → ℕ) (faithful : Faithful call shows long) (S : Settings) (p : ℕ) where
+  pub halt-lasts : (x : X) (L : Ledger) → shows x ≡ has S L → 0 < markOf L p → (cs : List Call) → SetupsRefused call x cs
+      → All (λ c. c ≢ act (clear p)) cs → HaltLasts call shows S p (markOf L p) x cs
+  halt-lasts x L e some [] f u = record { ledger = L; shown = e; stays = refl }
+  halt-lasts x L e some (setup T ∷ cs) f u =
+      let o = halt-lasts (call x (setup T) .1) L (refused-shows call shows long faithful S x (setup T) refl (f .0 refl) ∙ e) some cs (f .1) (u .1) in
+      record { ledger = o .ledger; shown = o .shown; stays = o .stays }
+  halt-lasts x L e some (act a ∷ cs) f u =
+      let same = step-lasts S p L some a (λ i. u .0 (ap act i)) in
+      let o = halt-lasts (call x (act a) .1) (step S L a .1) (act-shows call shows long faithful S x L e a) (rw same some) cs (f .1) (u .1) in
+      record { ledger = o .ledger; shown = o .shown; stays = o .stays ∙ same }

@@ -41,7 +41,7 @@ cleared (refuse n false ∷ rs) no′ out c = cleared rs no′ out (c .1)
 -- what a refusal leaves, a law each: nothing but these may be used of it
 module _ (S : Settings) (n : ℕ) (a : Act) (L : Ledger) where
   -- it leaves the ledger as it was, or with the arriving port marked
-  refused-by : (P : Ledger → Type 0) → P L → ((p : ℕ) → P (markedFor S p n L)) → P (onRefusal S n a L)
+  pub refused-by : (P : Ledger → Type 0) → P L → ((p : ℕ) → P (markedFor S p n L)) → P (onRefusal S n a L)
   unfolding onRefusal
   refused-by P f g = go a
     where

@@ -8,14 +8,14 @@ use native.Mathlib.Omega.{arith}
 use lib.ListN.{length, getD, replicate}
 use Rattle.ledger.specs.Settings.{Settings, settings, row}
 use Rattle.ledger.specs.Header.{widthOf, formOf, frontBits, frontBytes, bodySize, headerSize}
-use Rattle.ledger.specs.Ledger.{owner, Packet, free, place#, placeOf, Ledger, arrival, markOf, pop, start}
+use Rattle.ledger.specs.Ledger.{owner, Packet, free, place#, placeOf, Ledger, arrival, halted, markOf, change, putIn, pop, start}
 use Rattle.ledger.specs.Halt.{halts, marks}
 use Rattle.ledger.specs.Calls.{Act, arrive, stitch, prefetch, credit, mapTo, turn, ready, whereIs, Side, outside, Reply, refused, entry}
 use Rattle.ledger.specs.Calls.{clear, report, stitched, idle, leaves, isRefused, sideOf, markedFor, onRefusal}
 use Rattle.ledger.specs.Desk.{Desk, none, has, Call, setup, act, desk, afterCalls, SetupsRefused}
 use Rattle.ledger.specs.Demand.{turnsIn, Stands, InHand, NobodyStarvesFrom}
 use Rattle.ledger.specs.Order.{idsAt, KeepsOrder, GoesAlong}
-use Rattle.ledger.specs.Night.{Arrival, turned-away, taken, PoolKept, OwnMarkAlone}
+use Rattle.ledger.specs.Night.{Arrival, turned-away, taken, PoolKept, OwnMarkAlone, HaltLasts}
 use Rattle.ledger.specs.Rounds.{roundActs, Deed, round, Carried, wholeRound}
 use Rattle.ledger.specs.Door.{InIngress, CreditFor, roundsFor, callsOf, roundsIn, roundsBefore, doneFrom, StitchedAt, StitchedSoonFrom, LeavesSoonFrom}
 use Rattle.ledger.proofs.Tests.{true≢false, is-false, eqb-is, ltb-not}
@@ -213,3 +213,22 @@ module _ (S : Settings) (L : Ledger) (p : ℕ) (h : List ℕ) where
 
   pub strangers-node : (x : ℕ) (N : Ledger) → (owner x ≡ p → ⊥) → Arrival S L p h (entry x) N → ⊥
   strangers-node x N other (taken y M t) = other (t .own)
+
+-- ---- a halt lasts: a desk that answers right and lifts port 0's mark at each call
+
+abbrev pub lifted : Desk → Desk
+lifted none = none
+lifted (has S L) = has S (putIn halted 0 0 L)
+
+abbrev pub forgets : ℕ → Desk → Call → Reply × Desk
+forgets n D c = (desk n D c .0, lifted (desk n D c .1))
+
+firstMark : Desk → ℕ
+firstMark none = 0
+firstMark (has S L) = markOf L 0
+
+pub halt-forgotten : (n : ℕ) → HaltLasts (forgets n) (λ D. D) two 0 7 (has two (putIn halted 0 7 (start two))) (act (ready 0) ∷ []) → ⊥
+unfolding firstMark change start
+halt-forgotten n k =
+    let e : _≡_ {A = ℕ} 0 7 = ap firstMark (k .shown) ∙ k .stays in
+    omega arith

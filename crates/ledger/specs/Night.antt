@@ -110,3 +110,11 @@ pub record OwnMarkAlone {X : Type 0} (call : X → Call → Reply × X) (shows :
   pub shown-without : shows (afterCalls call x (asked (others p cs (answersOf call x cs)))) ≡ has S unsent
   pub only : OnlyMark p unsent sent
   pub answers : AlikeBut p (others p cs (answersOf call x cs)) (answersOf call x (asked (others p cs (answersOf call x cs))))
+
+-- ---- "the first if several": a halt lasts
+
+-- After calls in which every setup is refused, and none of which clears port p: the mark v that it had is the one that it has.
+pub record HaltLasts {X : Type 0} (call : X → Call → Reply × X) (shows : X → Desk) (S : Settings) (p v : ℕ) (x : X) (cs : List Call) : Type 0 where
+  pub ledger : Ledger
+  pub shown : shows (afterCalls call x cs) ≡ has S ledger
+  pub stays : markOf ledger p ≡ v

@@ -8,13 +8,13 @@ use native.Mathlib.Omega.{arith}
 use lib.ListN.{length}
 use Rattle.ledger.specs.Settings.{Settings}
 use Rattle.ledger.specs.Header.{form}
-use Rattle.ledger.specs.Ledger.{isNode, Packet, Place, place#, Ledger, Place·In}
+use Rattle.ledger.specs.Ledger.{isNode, Packet, Place, place#, Ledger, markOf, Place·In}
 use Rattle.ledger.specs.Ready.{isReady, wordOf, countOf}
-use Rattle.ledger.specs.Calls.{Act, arrive, turn, ready, whereIs, Side, inside, outside, Reply, refused, entry, leaves, word, found, step}
+use Rattle.ledger.specs.Calls.{Act, arrive, turn, ready, whereIs, clear, Side, inside, outside, Reply, refused, entry, leaves, word, found, step}
 use Rattle.ledger.specs.Desk.{has, Call, act, SetupsRefused}
-use Rattle.ledger.specs.Sound.{Roomy, Sound}
+use Rattle.ledger.specs.Sound.{All, Roomy, Sound}
 use Rattle.ledger.specs.Order.{KeepsOrder, GoesAlong}
-use Rattle.ledger.specs.Night.{Arrival, PoolKept, AgreeAt, OwnMarkAlone}
+use Rattle.ledger.specs.Night.{Arrival, PoolKept, AgreeAt, OwnMarkAlone, HaltLasts}
 use Rattle.ledger.proofs.Places.{place#-lt}
 use Rattle.ledger.proofs.Rows.{roomy}
 use Rattle.ledger.proofs.Find.{where-right}
@@ -25,7 +25,7 @@ use Rattle.ledger.proofs.Waits.{nobody-starves-from, ten-bytes-from}
 use Rattle.ledger.proofs.Order.{keeps-order}
 use Rattle.ledger.proofs.Records.{goes-along}
 use Rattle.ledger.proofs.Night.{whose-node, arrival-shows, pool-kept}
-use Rattle.ledger.proofs.Halted.{refused-agree, arrival-alike, own-mark-alone}
+use Rattle.ledger.proofs.Halted.{refused-agree, arrival-alike, own-mark-alone, halt-lasts}
 use Rattle.layout.specs.declared.Shape.{Shape}
 use Rattle.layout.specs.Tables.{lists, settingsOf}
 use Rattle.layout.specs.Picture.{settingsIn, ledgerIn, StateOf, State}
@@ -107,6 +107,11 @@ module _ (m : List ℕ) (S : Settings) (L : Ledger) (e : picture m ≡ has S L) 
   -- what a port's refused arrivals change, over any calls, is its own mark
   pub memory-own-mark-alone : (p : ℕ) (cs : List Call) → SetupsRefused onMemory m cs → OwnMarkAlone onMemory picture S p m cs
   memory-own-mark-alone p cs f = own-mark-alone onMemory picture length memory-faithful S m L e p cs f
+
+  -- and the mark that a port has stays until it is cleared
+  pub memory-halt-lasts : (p : ℕ) → 0 < markOf L p → (cs : List Call) → SetupsRefused onMemory m cs → All (λ c. c ≢ act (clear p)) cs
+      → HaltLasts onMemory picture S p (markOf L p) m cs
+  memory-halt-lasts p some cs f u = halt-lasts onMemory picture length memory-faithful S p m L e some cs f u
 
   -- an arrival at port r is answered alike on any memory of the same settings that agrees at r
   pub memory-arrival-alike : (m′ : List ℕ) (N : Ledger) → picture m′ ≡ has S N → (r : ℕ) → AgreeAt S r L N → (h : List ℕ)
