@@ -171,8 +171,8 @@ uint32_t vr_where(const uint8_t *mem, size_t len, uint32_t entry, uint8_t place[
 /* Lifts the port's mark, so that it takes in queues above 0 again; of a port that has none it is done too. Refused 3, then 4. */
 uint32_t vr_clear(uint8_t *mem, size_t len, uint32_t port);
 
-/* Writes the port's mark: 0 if it isn't halted, else the number of the refusal that halted it, 7 or 8, or 18, which no call gives yet.
- * Refused 3, then 4. */
+/* Writes the port's mark: 0 if it isn't halted, else the first refusal that halted it since setup, repair or clear: VR_CHECKSUM or VR_SOURCE,
+ * or 18, which no call gives yet. Refused 3, then 4. */
 uint32_t vr_report(const uint8_t *mem, size_t len, uint32_t port, uint32_t *mark);
 
 /* Writes where every node stands, port by port and index by index, eight bytes each as vr_where's: 8 * ports * nodes in all, so 524,288 are
@@ -188,7 +188,7 @@ void vr_find(const uint8_t *mem, size_t len, uint32_t *rule, uint64_t *item);
 /* Writes the starting ledger for the settings that the memory has, and keeps its map, but for entries above the last port, which become 0:
  * also over a sound ledger, whose packets and marks are lost. Refused 3 exactly where rule (a) is broken: a setting not in its row, or
  * memory too short for its settings. Not for an image of before the wide headers: set that up afresh, since its older tables could pass for
- * a map. One of before the marks is no state either; it has settings and map where they are now. */
+ * a map. One of before the marks is no state either; in a memory long enough a repair keeps its settings and map. */
 uint32_t vr_repair(uint8_t *mem, size_t len);
 
 /* Reads a header of a switch of this edition and so many ports and queues, and writes what it says. Source and destination are judged by

@@ -69,8 +69,8 @@ fn put_settings(m: &mut [u8], s: Shape)
     }
 }
 
-// Each port's last served queue: as if its last queue had been served last.
-fn put_marks(m: &mut [u8], s: Shape)
+// Each port's last served queue: as if its last queue had been served last. (No port is halted: those bytes stay 0.)
+fn put_last(m: &mut [u8], s: Shape)
     requires { ⌜ Room s (now m) ⌝ }
     ensures { λ _. ⌜ now (m .exit) ≡ fill (settingsOf s) Last (λ p. p) (λ p. s .queues - 1) (s .ports) (now (m .entry)) ⌝ }
 {
@@ -176,7 +176,7 @@ pub fn put_state(m: &mut [u8], s: Shape)
     };
     clear(m, layout::size_of(s));
     put_settings(m, s);
-    put_marks(m, s);
+    put_last(m, s);
     put_line(m, s, Table::Arrival, each, credit, cells);
     put_free_lists(m, s);
 }

@@ -28,7 +28,7 @@ use Rattle.ranges.specs.First.{first}
 use Rattle.ranges.specs.Opening.{outAt}
 use Rattle.ranges.specs.Ranges.{items, fitsAt, rangesFound}
 use Rattle.ranges.proofs.First.{first-all}
-use Rattle.ranges.proofs.FirstItem.{first-wrong, foundOr, first-out, mark-means, entry-means, slots-mean}
+use Rattle.ranges.proofs.FirstItem.{first-wrong, foundOr, first-out, last-means, entry-means, slots-mean}
 use Rattle.once.specs.Once.{onceFound}
 use Rattle.once.proofs.FirstItem.{once-first}
 use Rattle.fits.specs.declared.NodeRule.{NodeRule}
@@ -105,7 +105,7 @@ module _ (S : Settings) (m : List ℕ) where
   range-means : 0 < S .queues → (k : ℕ) → k < items S → (fitsAt S m k ≡ true) ↔ RangeRight S (ledgerIn S m) k
   range-means some k h = (
     λ t. record {
-      mark = λ l. mark-means S m k l .0 t;
+      last-served = λ l. last-means S m k l .0 t;
       entry = λ d l e. entry-means S m d l .0 (ap (fitsAt S m) (sym e) ∙ t);
       slots = λ j e. slots-mean S m j some (omega arith) .0 (ap (fitsAt S m) (sym e) ∙ t);
     },
@@ -113,7 +113,7 @@ module _ (S : Settings) (m : List ℕ) where
   )
     where
       by : RangeRight S (ledgerIn S m) k → Dec (k < S .ports) → Dec (k < S .ports + ids) → fitsAt S m k ≡ true
-      by r (yes l) d = mark-means S m k l .1 (r .mark l)
+      by r (yes l) d = last-means S m k l .1 (r .last-served l)
       by r (no n) (yes l) =
           let d : ℕ = k - S .ports in
           let low : d < ids = omega arith in

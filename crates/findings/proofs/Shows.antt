@@ -59,7 +59,7 @@ no-node {P} f e = f .wrong (All-middle (P (f .list)) (f .front) (f .packet) (f .
 module _ (S : Settings) (R : Roomy S) where
   range-right : (L : Ledger) → InRange S L → (i : ℕ) → i < S .ports + ids + S .ports * S .queues → RangeRight S L i
   range-right L I i h = record {
-    mark = λ l. I .numbers-in last i l;
+    last-served = λ l. I .numbers-in last i l;
     entry = λ d l e. I .numbers-in mapped d l;
     slots = λ j e.
         let some : 0 < S .queues = omega (arith, R .some-queues) in

@@ -63,9 +63,9 @@ pub record SettingRight (m : List ℕ) (i : ℕ) : Type 0 where
   pub long : i ≡ settingCount → size (settingsIn m) ≤ length m
 
 -- (b) the last served queues, the map's entries, then the prefetch lists, port by port and queue by queue; no credit is out of range in the
--- two bytes that hold it
+-- two bytes that hold it, and no mark in its byte
 pub record RangeRight (S : Settings) (L : Ledger) (i : ℕ) : Type 0 where
-  pub mark : i < S .ports → lastOf L i < S .queues
+  pub last-served : i < S .ports → lastOf L i < S .queues
   pub entry : (d : ℕ) → d < ids → i ≡ S .ports + d → mapOf L d < S .ports
   pub slots : (j : ℕ) → i ≡ S .ports + ids + j → length (listAt S L (prefetched (j / S .queues) (j % S .queues))) ≤ S .slots
 

@@ -53,7 +53,7 @@ fn marking(m: &[u8], s: Shape, p: usize, n: u8) -> bool
     halting(n)
 }
 
-// The port at which an arrival was refused, marked for it.
+// The port at which an arrival was refused, marked for it if the refusal halts and no mark stands.
 pub fn halt(m: &mut [u8], s: Shape, port: u32, no: Refusal)
     requires { ⌜ Held s (now m) ⌝ }
     ensures { λ _. ⌜ now (m .exit) ≡ markMem (settingsOf s) port (numberOf no) (now (m .entry)) ⌝ }

@@ -4,7 +4,7 @@ use mathlib.Core.Path.{_≡_, refl, sym, ap, _∙_, subst}
 use mathlib.Core.Logic.{_≢_, _⊎_, inl, inr}
 use mathlib.Core.Bool.{Bool, true, false, cond, _||_}
 use mathlib.Core.List.{List, [], _∷_, _++_}
-use Prim.Native.Nat.{ℕ, zero, suc, _+_, _<_}
+use Prim.Native.Nat.{ℕ, zero, suc, _+_, _≤_, _<_}
 use native.Mathlib.Omega.{arith}
 use lib.ListN.{length, getD}
 use lib.Dec.{eqb, ltb}
@@ -20,7 +20,7 @@ use Rattle.ledger.specs.Calls.{clear, report, isArrival, serve, rules, r
 use Rattle.ledger.specs.Halt.{halts, heldUp, TurnedAway}
 use Rattle.ledger.specs.Desk.{Desk, none, has, Call, setup, act, isArrivalCall, setupRules, desk, after}
 use Rattle.ledger.specs.Sound.{All, OwnPort, Proper, Orderly, Roomy, Sound}
-use Rattle.ledger.proofs.Tests.{true≢false, leb-no, leb-not, ltb-yes, eqb-yes, eqb-no, not-yes}
+use Rattle.ledger.proofs.Tests.{true≢false, leb-no, leb-not, ltb-yes, ltb-no, eqb-yes, eqb-no, not-yes}
 use Rattle.ledger.proofs.Header.{least-some, price-pays}
 use Rattle.ledger.proofs.Places.{place-number}
 use Rattle.ledger.proofs.Keep.{some-queue, len, first-fits, first-node, to-moved}
@@ -147,12 +147,15 @@ sound-means S p h c = (leb-no (S .ports) p (c .0), passes (form S) (S .queues) p
 pub means-sound : (S : Settings) (p : ℕ) (h : List ℕ) → p < S .ports → Passes (form S) (S .queues) p h → SoundArrival S p h
 means-sound S p h hp f = (leb-not (S .ports) p hp, passes-clear (form S) (S .queues) p h f)
 
--- why it may be turned away all the same, with nothing changed; else it is taken in, by the oldest free node and as the ledger says
+-- why it may be turned away all the same, with nothing changed; else, with neither of these, it is taken in, by the oldest free node and as
+-- the ledger says
 pub data Wanting (S : Settings) (L : Ledger) (p : ℕ) (h : List ℕ) : Reply × Ledger → Type 0 where
   port-halted : 0 < arriving S L p h .queue → 0 < markOf L p → Wanting S L p h (refused 10, L)
   no-credit : arrivalOf S L p (arriving S L p h .queue) < arriving S L p h .price → Wanting S L p h (refused 10, L)
-  no-node : listAt S L (free p) ≡ [] → Wanting S L p h (refused 11, L)
-  taken-in : Wanting S L p h (entry (firstOf S L (free p) .node), arrived S L p (arriving S L p h))
+  no-node : heldUp (arriving S L p h .queue) (markOf L p) ≡ false → arriving S L p h .price ≤ arrivalOf S L p (arriving S L p h .queue)
+      → listAt S L (free p) ≡ [] → Wanting S L p h (refused 11, L)
+  taken-in : heldUp (arriving S L p h .queue) (markOf L p) ≡ false → arriving S L p h .price ≤ arrivalOf S L p (arriving S L p h .queue)
+      → isEmpty (listAt S L (free p)) ≡ false → Wanting S L p h (entry (firstOf S L (free p) .node), arrived S L p (arriving S L p h))
 
 empty-is : (ks : List Packet) → isEmpty ks ≡ true → ks ≡ []
 empty-is [] e = refl
@@ -176,8 +179,9 @@ sound-arrival S L p h c =
         → Wanting S L p h (guard (refuse 10 (u || a) ∷ refuse 11 b ∷ []) (λ n. (refused n, onRefusal S n (arrive p h) L)) (result S L (arrive p h)))
     go true f a d b e = let t = held-up (k .queue) (markOf L p) f in stays 10 (unfold halts in refl) (port-halted (t .0) (t .1))
     go false f true d b e = stays 10 (unfold halts in refl) (no-credit (ltb-yes (arrivalOf S L p (k .queue)) (k .price) d))
-    go false f false d true e = stays 11 (unfold halts in refl) (no-node (empty-is (listAt S L (free p)) e))
-    go false f false d false e = taken-in
+    go false f false d true e =
+        stays 11 (unfold halts in refl) (no-node f (ltb-no (arrivalOf S L p (k .queue)) (k .price) d) (empty-is (listAt S L (free p)) e))
+    go false f false d false e = taken-in f (ltb-no (arrivalOf S L p (k .queue)) (k .price) d) e
 
 -- ---- none but queue 0 goes for nothing: rule (f) makes every recorded packet proper, and such a one pays
 

@@ -12,7 +12,8 @@ use lib.Seq.{getD-append-add}
 use lib.Dec.{eqb}
 use Rattle.ledger.specs.Settings.{Settings, inRows, row}
 use Rattle.ledger.specs.Ledger.{owner, index, entryId, isNode, Packet, bare, Place, free, ingress, egress, prefetched, column, place#, placeOf}
-use Rattle.ledger.specs.Ledger.{cell, creditAt, listAt, bares, startLists, start, arrival, outward, last, mapped, halted, Column, tall, bound, starting}
+use Rattle.ledger.specs.Ledger.{cell, creditAt, listAt, bares, startLists, start, arrival, outward, last, mapped, halted, markOf, Column, tall, bound}
+use Rattle.ledger.specs.Ledger.{starting}
 use Rattle.ledger.specs.Ready.{bit}
 use Rattle.ledger.specs.Halt.{halts, isMark}
 use Rattle.ledger.specs.Sound.{All, Everywhere, sum, weigh, one, Once, OwnPort, OwnQueue, WellRecorded, due, owed, Orderly, Marked, Sound, Roomy}
@@ -192,10 +193,14 @@ module _ (S : Settings) where
         paid-start p zero h l k = absurd (omega arith)
         paid-start p (suc q) h l k = omega (arith, credit-all (S .credit) p q h k, start-due p (suc q))
 
--- no port is halted
+-- no port is halted, so (i) holds
+pub start-unhalted : (S : Settings) (p : ℕ) → p < S .ports → markOf (start S) p ≡ 0
+unfolding start
+start-unhalted S p h = getD-replicate {A = ℕ} (S .ports) p 0 0 h
+
 pub start-marked : (S : Settings) → Marked S (start S)
-unfolding start isMark halts
-start-marked S p h = rw (getD-replicate {A = ℕ} (S .ports) p 0 0 h)
+unfolding isMark halts
+start-marked S p h = rw (start-unhalted S p h)
 
 pub start-sound : (S : Settings) → inRows S ≡ true → Sound S (start S)
 start-sound S e = record { rows = e; orderly = start-orderly S (roomy S e); marked = start-marked S }

@@ -11,7 +11,7 @@ use Rattle.ledger.specs.Header.{widthOf, formOf, frontBits, frontBytes, 
 use Rattle.ledger.specs.Ledger.{owner, Packet, free, place#, placeOf, Ledger, arrival, halted, markOf, change, putIn, pop, start}
 use Rattle.ledger.specs.Halt.{halts, marks}
 use Rattle.ledger.specs.Calls.{Act, arrive, stitch, prefetch, credit, mapTo, turn, ready, whereIs, Side, outside, Reply, refused, entry}
-use Rattle.ledger.specs.Calls.{clear, report, stitched, idle, leaves, isRefused, sideOf, markedFor, onRefusal}
+use Rattle.ledger.specs.Calls.{clear, report, stitched, idle, leaves, isRefused, sideOf, arriving, markedFor, onRefusal}
 use Rattle.ledger.specs.Desk.{Desk, none, has, Call, setup, act, desk, afterCalls, SetupsRefused}
 use Rattle.ledger.specs.Demand.{turnsIn, Stands, InHand, NobodyStarvesFrom}
 use Rattle.ledger.specs.Order.{idsAt, KeepsOrder, GoesAlong}
@@ -19,7 +19,8 @@ use Rattle.ledger.specs.Night.{Arrival, turned-away, taken, PoolKept, Ow
 use Rattle.ledger.specs.Rounds.{roundActs, Deed, round, Carried, wholeRound}
 use Rattle.ledger.specs.Door.{InIngress, CreditFor, roundsFor, callsOf, roundsIn, roundsBefore, doneFrom, StitchedAt, StitchedSoonFrom, LeavesSoonFrom}
 use Rattle.ledger.proofs.Tests.{true≢false, is-false, eqb-is, ltb-not}
-use Rattle.ledger.proofs.Halt.{marks-is, marks-first, marks-not}
+use Rattle.ledger.proofs.Halt.{marks-is, marks-first, marks-not, held-is}
+use Rattle.ledger.proofs.Promises.{Wanting, no-node, taken-in}
 
 -- ---- demand 3: a desk that answers every call alike and changes nothing, be the answer idle or a refusal
 
@@ -182,7 +183,7 @@ another-answered-idle n k =
     let z : _≡_ {A = ℕ} 0 1 = cc in
     omega arith
 
--- ---- an arrival: one that is refused and changes more than its port's mark, or a mark that stands, or the mark for nothing; one that takes
+-- ---- an arrival that is refused and changes more than its port's mark, overwrites a mark, marks for nothing or doesn't mark; one that takes
 -- another port's node
 
 module _ (S : Settings) (L : Ledger) (p : ℕ) (h : List ℕ) where
@@ -232,3 +233,12 @@ unfolding firstMark change start
 halt-forgotten n k =
     let e : _≡_ {A = ℕ} 0 7 = ap firstMark (k .shown) ∙ k .stays in
     omega arith
+
+-- ---- a sound arrival: a desk that takes it in at a halted port for a queue above 0, or says there that no node is free
+
+module _ (S : Settings) (L : Ledger) (p : ℕ) (h : List ℕ) (above : 0 < arriving S L p h .queue) (held : 0 < markOf L p) where
+  pub halted-yet-taken : (x : ℕ) (N : Ledger) → Wanting S L p h (entry x, N) → ⊥
+  halted-yet-taken x N (taken-in f d e) = true≢false (sym (held-is (arriving S L p h .queue) (markOf L p) above held) ∙ f)
+
+  pub halted-yet-no-node : (N : Ledger) → Wanting S L p h (refused 11, N) → ⊥
+  halted-yet-no-node N (no-node f d e) = true≢false (sym (held-is (arriving S L p h .queue) (markOf L p) above held) ∙ f)

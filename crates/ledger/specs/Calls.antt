@@ -81,7 +81,7 @@ firstOf S L v = oldest (listAt S L v)
 abbrev pub arriving : Settings → Ledger → ℕ → List ℕ → Packet
 arriving S L p h = recorded S (firstOf S L (free p) .node) (fieldsOf (form S) h)
 
--- port p lacks the credit for price n in queue q: "as if credit were 0" where it is halted
+-- port p lacks the credit for price n in queue q: "as if credit were 0" where it is halted and q is above 0
 abbrev pub lacks : Settings → Ledger → ℕ → ℕ → ℕ → Bool
 lacks S L p q n = heldUp q (markOf L p) || ltb (arrivalOf S L p q) n
 

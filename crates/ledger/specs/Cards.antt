@@ -115,7 +115,7 @@ costs len n =
     ∷ done ∷ idle ∷ done ∷ leaves (plain 1 len n) outside ∷ [])
 
 -- Every fault at once, then one less each time: the first that is left decides. Queue q is one that the switch doesn't have, the only
--- node is taken, and K is 0.
+-- node is taken, and K is 0. (From the 7 on port 0 is halted, so 10 has two reasons; 10 by credit alone is among `unhalting`.)
 abbrev pub one-by-one : ℕ → Card
 one-by-one q =
     says (setUp 1 64 1 0 ∷ act (arrive 0 twelve)

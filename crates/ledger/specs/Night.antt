@@ -101,8 +101,9 @@ AlikeBut p [] (x ∷ xs) = ⊥
 AlikeBut p (y ∷ ys) [] = ⊥
 AlikeBut p (y ∷ ys) (x ∷ xs) = (y .0 ≢ report p → x ≡ y .1) × AlikeBut p ys xs
 
--- After calls in which every setup is refused: had port p's refused arrivals, whatever their bytes, never been sent, every other call would
--- have been answered as it was, but p's reports, and the ledger would be as it is, but p's mark.
+-- After calls in which every setup is refused: had port p's refused arrivals, whatever their bytes, and right ones that its halt turned away
+-- among them, never been sent, every other act would have been answered as it was, but p's reports, and the ledger would be as it is, but
+-- p's mark.
 pub record OwnMarkAlone {X : Type 0} (call : X → Call → Reply × X) (shows : X → Desk) (S : Settings) (p : ℕ) (x : X) (cs : List Call) : Type 0 where
   pub sent : Ledger
   pub unsent : Ledger

@@ -1,4 +1,4 @@
--- Demand 3, the order of queues, the pools and what is recorded, over all that is done on a memory, setting up anew and repairs excepted.
+-- Demand 3, the order of queues, the pools, the marks and what is recorded, over all that is done on a memory, setting up anew and repairs excepted.
 -- Assumes nothing.
 use mathlib.Core.Path.{_≡_, refl, sym, ap, _∙_, subst}
 use mathlib.Core.Bool.{Bool, true, false}
@@ -29,7 +29,7 @@ use Rattle.memory.specs.Deeds.{HoldsInDeeds, AfreshAfterSetup}
 use Rattle.memory.specs.Deeds.{LentDeed, lent-call, lent-round, lent-audit, lent-find, lent-repair, deedOf, leftBy, afterDeeds}
 use Rattle.memory.specs.Deeds.{callsBy, callsIn, isRepair, RepairsRefused, DeedsAreCalls}
 use Rattle.memory.proofs.Picture.{opens-means}
-use Rattle.memory.proofs.Demands.{pictured-state, memory-faithful, memory-keeps-order, memory-goes-along, memory-pool-kept}
+use Rattle.memory.proofs.Demands.{pictured-state, memory-faithful, memory-keeps-order, memory-goes-along, memory-pool-kept, memory-own-mark-alone}
 use Rattle.memory.proofs.Rounds.{room-tells}
 use Rattle.memory.proofs.Door.{deed-is-calls, deeds-are-calls, nobody-starves-in-rounds-in-memory}
 
@@ -233,6 +233,7 @@ module _ (m : List ℕ) (S : Settings) (L : Ledger) (e : picture m ≡ has S L) 
     nobody-starves = nobody-starves-in-deeds;
     order = λ u hu ds f. let o = memory-keeps-order m S L e u hu (callsIn m ds) (f .setups) in (o, shown-by-deeds m S ds f (o .ledger) (o .shown));
     pools = λ p hp ds f. let o = memory-pool-kept m S L e p hp (callsIn m ds) (f .setups) in (o, shown-by-deeds m S ds f (o .ledger) (o .shown));
+    marks = λ p ds f. let o = memory-own-mark-alone m S L e p (callsIn m ds) (f .setups) in (o, shown-by-deeds m S ds f (o .sent) (o .shown));
     records = λ ds f. let o = memory-goes-along m S L e (callsIn m ds) (f .setups) in (o, shown-by-deeds m S ds f (o .ledger) (o .shown));
   }
 

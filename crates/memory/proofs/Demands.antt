@@ -137,7 +137,7 @@ module _ (m : List ℕ) (S : Settings) (L : Ledger) (e : picture m ≡ has S L) 
       → M (act (turn p)) m .0 ≡ leaves k t → (k .queue ≡ 0 → t ≡ inside) × (0 < k .queue → t ≡ outside)
   memory-inside-outside p k t i = inside-outside S ok L (s .orderly) p k t (sym (on-state (turn p)) ∙ i)
 
-  -- a header with no fault, at a port of the switch: turned away only for want of credit or of a node
+  -- a header with no fault, at a port of the switch: turned away only for want of credit, which a halt is taken for, or of a node
   pub memory-arrival : (p : ℕ) (h : List ℕ) → p < S .ports → Passes (form S) (S .queues) p h
       → (N : Ledger) × (picture (M (act (arrive p h)) m .1) ≡ has S N) × Wanting S L p h (M (act (arrive p h)) m .0, N)
   memory-arrival p h hp f = (

@@ -1,4 +1,4 @@
--- Paper 02, Q-11: demand 3, the order of queues, the pools and what is recorded, said of all that is done on a memory: calls, rounds,
+-- Paper 02, Q-11: demand 3, the order of queues, the pools, the marks and what is recorded, said of all that is done on a memory: calls, rounds,
 -- audits and findings, setting up anew and repairs excepted. And "After repair demand 3 counts afresh, as after setup". Assumes nothing.
 use mathlib.Core.Path.{_≡_}
 use mathlib.Core.Bool.{Bool, true, false}
@@ -11,7 +11,7 @@ use Rattle.ledger.specs.Calls.{turn, done, leaves, isRefused, sideOf}
 use Rattle.ledger.specs.Desk.{has, Call, setup, act, afterCalls, SetupsRefused}
 use Rattle.ledger.specs.Demand.{Stands, InHand, turnsIn, ShowsWaiting, LeavesAmong}
 use Rattle.ledger.specs.Order.{KeepsOrder, GoesAlong}
-use Rattle.ledger.specs.Night.{PoolKept}
+use Rattle.ledger.specs.Night.{PoolKept, OwnMarkAlone}
 use Rattle.ledger.specs.Rounds.{answerBytes, Deed, one, round, look, doneBy}
 use Rattle.ledger.specs.Door.{atCall, callsOf, doneFrom}
 use Rattle.ledger.specs.Repair.{restart}
@@ -125,13 +125,16 @@ NobodyStarvesInDeeds S L m =
     → S .queues * (length ahead + 1) ≤ turnsIn p (callsIn m ds)
     → LeavesInDeeds S p q k (S .queues * (length ahead + 1)) m ds
 
--- ---- the order of queues, the pools, and what is recorded: the ledger after the calls is the one that the memory after the deeds shows
+-- ---- the order of queues, the pools, the marks, and what is recorded: the ledger after the calls is the one that the memory after the deeds shows
 
 abbrev pub KeepsOrderInDeeds : Settings → Ledger → Place → List ℕ → List LentDeed → Type 0
 KeepsOrderInDeeds S L u m ds = (o : KeepsOrder onMemory picture S L u m (callsIn m ds)) × (picture (afterDeeds m ds) ≡ has S (o .ledger))
 
 abbrev pub PoolKeptInDeeds : Settings → Ledger → ℕ → List ℕ → List LentDeed → Type 0
 PoolKeptInDeeds S L p m ds = (o : PoolKept onMemory picture S L p m (callsIn m ds)) × (picture (afterDeeds m ds) ≡ has S (o .ledger))
+
+abbrev pub OwnMarkAloneInDeeds : Settings → ℕ → List ℕ → List LentDeed → Type 0
+OwnMarkAloneInDeeds S p m ds = (o : OwnMarkAlone onMemory picture S p m (callsIn m ds)) × (picture (afterDeeds m ds) ≡ has S (o .sent))
 
 abbrev pub GoesAlongInDeeds : Settings → Ledger → List ℕ → List LentDeed → Type 0
 GoesAlongInDeeds S L m ds = (o : GoesAlong onMemory picture S L m (callsIn m ds)) × (picture (afterDeeds m ds) ≡ has S (o .ledger))
@@ -144,6 +147,7 @@ pub record FromHereOn (S : Settings) (L : Ledger) (m : List ℕ) : Type 0 where
   pub nobody-starves : NobodyStarvesInDeeds S L m
   pub order : (u : Place) → Place·In S u → (ds : List LentDeed) → Undisturbed m ds → KeepsOrderInDeeds S L u m ds
   pub pools : (p : ℕ) → p < S .ports → (ds : List LentDeed) → Undisturbed m ds → PoolKeptInDeeds S L p m ds
+  pub marks : (p : ℕ) (ds : List LentDeed) → Undisturbed m ds → OwnMarkAloneInDeeds S p m ds
   pub records : (ds : List LentDeed) → Undisturbed m ds → GoesAlongInDeeds S L m ds
 
 -- and from every later moment on

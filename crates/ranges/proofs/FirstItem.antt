@@ -87,8 +87,8 @@ module _ (S : Settings) (m : List ℕ) where
       → (fitsAt S m k ≡ true) ↔ (getD (ledgerIn S m .numbers c) i 0 < bound S c)
   number c i k h e = (λ t. rw (shown S m c i h) (ltb-yes _ _ (sym e ∙ t)), λ l. e ∙ ltb-is _ _ (rw (shown S m c i h) at l))
 
-  pub mark-means : (p : ℕ) → p < S .ports → (fitsAt S m p ≡ true) ↔ (lastOf (ledgerIn S m) p < S .queues)
-  mark-means p h = number last p p h (fits-number S m [] (mapped ∷ []) last refl p p (omega arith) h)
+  pub last-means : (p : ℕ) → p < S .ports → (fitsAt S m p ≡ true) ↔ (lastOf (ledgerIn S m) p < S .queues)
+  last-means p h = number last p p h (fits-number S m [] (mapped ∷ []) last refl p p (omega arith) h)
 
   pub entry-means : (d : ℕ) → d < ids → (fitsAt S m (S .ports + d) ≡ true) ↔ (mapOf (ledgerIn S m) d < S .ports)
   entry-means d h = number mapped d (S .ports + d) h (fits-number S m (last ∷ []) [] mapped refl (S .ports + d) d (omega arith) h)

@@ -40,9 +40,9 @@ pub highest-none : (f : ℕ → ℕ) → 0 ≡ highest f 0
 unfolding highest
 highest-none f = refl
 
--- where the highest entry of the map is a port, the marks decide
-pub marks-decide : (S : Settings) (m : List ℕ) → highest (get S m Mapped) ids < S .ports → first (fitsAt S m) (S .ports) ≡ first (fitsAt S m) (low S)
-marks-decide S m h =
+-- where the highest entry of the map is a port, the last served queues decide
+pub last-decide : (S : Settings) (m : List ℕ) → highest (get S m Mapped) ids < S .ports → first (fitsAt S m) (S .ports) ≡ first (fitsAt S m) (low S)
+last-decide S m h =
     sym (first-enough (fitsAt S m) (S .ports) (low S) (omega arith) (λ i past below.
     let d : i - S .ports < ids = omega arith in
     fits-number S m (last ∷ []) [] mapped refl i (i - S .ports) (omega arith) d

@@ -21,7 +21,7 @@ use Rattle.ranges.proofs.First.{first-all, first-more}
 use Rattle.ranges.proofs.Items.{fits-list, prefetch-lt, prefetch-is}
 
 module _ (S : Settings) (m : List ℕ) (R : Roomy S) where
-  -- the marks and the map are in range
+  -- the last served queues and the map are in range
   abbrev pub Low : Type 0
   Low = first (fitsAt S m) (low S) ≡ Whole
 
@@ -49,7 +49,7 @@ module _ (S : Settings) (m : List ℕ) (R : Roomy S) where
       go k h (yes a) = first-all (fitsAt S m) (low S) .0 e k a
       go k h (no a) = fits-list S m k (k - low S) (omega arith) ∙ few-item f (k - low S) (omega arith)
 
-  -- what is found of the marks and the map is found of all
+  -- what is found of the last served queues and the map is found of all
   pub low-found : (i : ℕ) → first (fitsAt S m) (low S) ≡ At i → rangesFound S m ≡ At i
   unfolding rangesFound
   low-found i e = first-more (fitsAt S m) (low S) (items S) i (omega arith) e

@@ -1,4 +1,4 @@
-// Is a memory of any bytes a switch state? For a call, all rules by one walk of the lists; for whoever asks what is wrong, that walk
+// Is a memory of any bytes a switch state? For a call, numbers and marks, then all else by one walk of the lists; for whoever asks what is wrong, that walk
 // first, and where it doesn't tell, the rules in the paper's order, a walk each, up to the first that is broken.
 use fits::NodeRule;
 use layout::Shape;
@@ -23,7 +23,8 @@ pub enum Tested {
     NoState,
 }
 
-// Marks are cleared whole, so a switch of few nodes lends few: of 1,024 nodes, or of as many as a state may have. Sums likewise.
+// Marks of nodes met (a port's mark is rule (i)'s) are cleared whole, so a switch of few nodes lends few: of 1,024 nodes, or of as many as
+// a state may have. Sums likewise.
 
 // Rule (c) where there are few nodes.
 fn once_among_few(m: &[u8], s: Shape) -> Finding

@@ -66,7 +66,8 @@ impl<'m> View<'m> {
         older.then(|| {
             format!(
                 "it is as long as an image of {ports} ports, {queues} queues and {a_port} \
-                 by the build before the marks of halted ports, which is to be set up afresh"
+                 by the build before the marks of halted ports, which is to be set up \
+                 afresh, or repaired once it is a byte a port longer (docs/DECISIONS.md, 89)"
             )
         })
     }

@@ -434,7 +434,8 @@ fn an_image_of_an_older_build() {
 fn hint_of_marks(shape: &str) -> String {
     format!(
         "\nhint: it is as long as an image of {shape} by the build before the marks of halted ports, \
-         which is to be set up afresh\n"
+         which is to be set up afresh, or repaired once it is a byte a port longer \
+         (docs/DECISIONS.md, 89)\n"
     )
 }
 

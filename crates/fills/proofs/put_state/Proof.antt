@@ -15,8 +15,8 @@ clear-requires c κs = search needs
 put-settings-requires : tie.Need-put-settings-requires
 put-settings-requires c κs = search needs
 
-put-marks-requires : tie.Need-put-marks-requires
-put-marks-requires c κs = search needs
+put-last-requires : tie.Need-put-last-requires
+put-last-requires c κs = search needs
 
 put-line-requires : tie.Need-put-line-requires
 put-line-requires c κs = search needs
@@ -39,7 +39,7 @@ returns c =
     rw (
       freed .put-free-lists .ensures,
       credited .put-line .ensures,
-      marked .put-marks .ensures,
+      marked .put-last .ensures,
       set .put-settings .ensures,
       cleared .clear .ensures,
       sized .size-of .ensures,
@@ -54,7 +54,7 @@ put-state-spec =
     size-of-requires
     clear-requires
     put-settings-requires
-    put-marks-requires
+    put-last-requires
     put-line-requires
     put-free-lists-requires
     same-length

@@ -7,7 +7,7 @@ use Rattle.layout.specs.Tables.{settingsOf}
 use Rattle.ranges.specs.First.{first}
 use Rattle.ranges.specs.Ranges.{fitsAt}
 use Rattle.ranges.proofs.First.{first-none}
-use Rattle.ranges.proofs.Highest.{marks-decide}
+use Rattle.ranges.proofs.Highest.{last-decide}
 use Rattle.ranges.proofs.number_outside.Statement.{statement}
 use Rattle.ranges.proofs.number_outside.Tie as tie
 
@@ -18,7 +18,7 @@ returns : tie.Need-returns
 returns c =
     let top = c .before .before in
     let a = top .before .before .args in
-    c .first-outside .ensures ∙ marks-decide (settingsOf (a .s)) (a .m .now) (omega (arith, top .highest-entry .ensures))
+    c .first-outside .ensures ∙ last-decide (settingsOf (a .s)) (a .m .now) (omega (arith, top .highest-entry .ensures))
 
 first-outside-requires-2 : tie.Need-first-outside-requires-2
 first-outside-requires-2 c κs = record {

@@ -1,4 +1,4 @@
--- `fills::put_marks` meets its contract. The loop's invariant: the ports passed have their marks. The measure is how many are left. Assumes nothing.
+-- `fills::put_last` meets its contract. The loop's invariant: the ports passed have their marks. The measure is how many are left. Assumes nothing.
 use Prim.Native.Nat.{_-_}
 use native.Mathlib.Omega.{arith}
 use borrow.Author.Needs.{needs}
@@ -6,8 +6,8 @@ use Rattle.layout.specs.Tables.{settingsOf}
 use Rattle.layout.specs.declared.Table.the-variants.{Last}
 use Rattle.memory.specs.Image.{fill}
 use Rattle.fills.proofs.Fills.{Partly, partly-all, fill-none, fill-next}
-use Rattle.fills.proofs.put_marks.Statement.{statement}
-use Rattle.fills.proofs.put_marks.Tie as tie
+use Rattle.fills.proofs.put_last.Statement.{statement}
+use Rattle.fills.proofs.put_last.Tie as tie
 
 abbrev Inv-loop : tie.InvT-loop
 Inv-loop m₀ s ports last p₀ m p = Partly (λ k. fill (settingsOf s) Last (λ i. i) (λ i. s .queues - 1) k m₀) ports m₀ p m
@@ -46,8 +46,8 @@ same-length c = c .before .loop .inv .same-length
 returns : tie.Need-returns Inv-loop μ-loop
 returns c = partly-all (c .before .loop .inv) (c .loop-test .left)
 
-pub put-marks-spec : {M : Type 1} → statement M
-put-marks-spec =
+pub put-last-spec : {M : Type 1} → statement M
+put-last-spec =
     tie.close
     (tie.spec
     Inv-loop
