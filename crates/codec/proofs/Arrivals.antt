@@ -1,5 +1,6 @@
--- Reader, writer and arrival agree: an arrival has no fault of its own exactly if the reader takes its header, told the switch's counts, and reads
--- the port as its source; so a header that the writer wrote so is turned away there only for want of credit, which a halt is taken for, or of a node. Assumes nothing.
+-- Reader, writer and arrival agree: an arrival has no fault of its own exactly if the reader takes its header, told the switch's counts, and
+-- reads the port as its source; so a header that the writer wrote so is turned away there only for want of credit, which a halt is taken for,
+-- or of a node. Assumes nothing.
 use mathlib.Core.Path.{_≡_, refl, sym, ap, _∙_}
 use mathlib.Core.Logic.{_↔_}
 use mathlib.Core.Bool.{true}
