@@ -29,7 +29,8 @@ use Rattle.memory.specs.Deeds.{HoldsInDeeds, AfreshAfterSetup}
 use Rattle.memory.specs.Deeds.{LentDeed, lent-call, lent-round, lent-audit, lent-find, lent-repair, deedOf, leftBy, afterDeeds}
 use Rattle.memory.specs.Deeds.{callsBy, callsIn, isRepair, RepairsRefused, DeedsAreCalls}
 use Rattle.memory.proofs.Picture.{opens-means}
-use Rattle.memory.proofs.Demands.{pictured-state, memory-faithful, memory-keeps-order, memory-goes-along, memory-pool-kept, memory-own-mark-alone}
+use Rattle.memory.proofs.Demands.{pictured-state, memory-faithful, memory-keeps-order, memory-goes-along, memory-pool-kept}
+use Rattle.memory.proofs.Demands.{memory-own-mark-alone, memory-halt-lasts}
 use Rattle.memory.proofs.Rounds.{room-tells}
 use Rattle.memory.proofs.Door.{deed-is-calls, deeds-are-calls, nobody-starves-in-rounds-in-memory}
 
@@ -234,6 +235,8 @@ module _ (m : List ℕ) (S : Settings) (L : Ledger) (e : picture m ≡ has S L) 
     order = λ u hu ds f. let o = memory-keeps-order m S L e u hu (callsIn m ds) (f .setups) in (o, shown-by-deeds m S ds f (o .ledger) (o .shown));
     pools = λ p hp ds f. let o = memory-pool-kept m S L e p hp (callsIn m ds) (f .setups) in (o, shown-by-deeds m S ds f (o .ledger) (o .shown));
     marks = λ p ds f. let o = memory-own-mark-alone m S L e p (callsIn m ds) (f .setups) in (o, shown-by-deeds m S ds f (o .sent) (o .shown));
+    halts = λ p some ds f unlifted.
+        let o = memory-halt-lasts m S L e p some (callsIn m ds) (f .setups) unlifted in (o, shown-by-deeds m S ds f (o .ledger) (o .shown));
     records = λ ds f. let o = memory-goes-along m S L e (callsIn m ds) (f .setups) in (o, shown-by-deeds m S ds f (o .ledger) (o .shown));
   }
 

@@ -1,17 +1,19 @@
 -- Paper 02, Q-11: demand 3, the order of queues, the pools, the marks and what is recorded, said of all that is done on a memory: calls, rounds,
 -- audits and findings, setting up anew and repairs excepted. And "After repair demand 3 counts afresh, as after setup". Assumes nothing.
 use mathlib.Core.Path.{_≡_}
+use mathlib.Core.Logic.{_≢_}
 use mathlib.Core.Bool.{Bool, true, false}
 use mathlib.Core.List.{List, [], _∷_, _++_, map}
 use Prim.Native.Nat.{ℕ, _+_, _-_, _*_, _≤_, _<_}
 use lib.ListN.{length, getD, take, drop}
 use Rattle.ledger.specs.Settings.{Settings}
-use Rattle.ledger.specs.Ledger.{Packet, Place, mapped, Ledger, start, Place·In}
-use Rattle.ledger.specs.Calls.{turn, done, leaves, isRefused, sideOf}
+use Rattle.ledger.specs.Ledger.{Packet, Place, mapped, markOf, Ledger, start, Place·In}
+use Rattle.ledger.specs.Calls.{turn, clear, done, leaves, isRefused, sideOf}
 use Rattle.ledger.specs.Desk.{has, Call, setup, act, afterCalls, SetupsRefused}
+use Rattle.ledger.specs.Sound.{All}
 use Rattle.ledger.specs.Demand.{Stands, InHand, turnsIn, ShowsWaiting, LeavesAmong}
 use Rattle.ledger.specs.Order.{KeepsOrder, GoesAlong}
-use Rattle.ledger.specs.Night.{PoolKept, OwnMarkAlone}
+use Rattle.ledger.specs.Night.{PoolKept, OwnMarkAlone, HaltLasts}
 use Rattle.ledger.specs.Rounds.{answerBytes, Deed, one, round, look, doneBy}
 use Rattle.ledger.specs.Door.{atCall, callsOf, doneFrom}
 use Rattle.ledger.specs.Repair.{restart}
@@ -136,6 +138,9 @@ PoolKeptInDeeds S L p m ds = (o : PoolKept onMemory picture S L p m (callsIn m d
 abbrev pub OwnMarkAloneInDeeds : Settings → ℕ → List ℕ → List LentDeed → Type 0
 OwnMarkAloneInDeeds S p m ds = (o : OwnMarkAlone onMemory picture S p m (callsIn m ds)) × (picture (afterDeeds m ds) ≡ has S (o .sent))
 
+abbrev pub HaltLastsInDeeds : Settings → ℕ → ℕ → List ℕ → List LentDeed → Type 0
+HaltLastsInDeeds S p v m ds = (o : HaltLasts onMemory picture S p v m (callsIn m ds)) × (picture (afterDeeds m ds) ≡ has S (o .ledger))
+
 abbrev pub GoesAlongInDeeds : Settings → Ledger → List ℕ → List LentDeed → Type 0
 GoesAlongInDeeds S L m ds = (o : GoesAlong onMemory picture S L m (callsIn m ds)) × (picture (afterDeeds m ds) ≡ has S (o .ledger))
 
@@ -148,6 +153,8 @@ pub record FromHereOn (S : Settings) (L : Ledger) (m : List ℕ) : Type 0 where
   pub order : (u : Place) → Place·In S u → (ds : List LentDeed) → Undisturbed m ds → KeepsOrderInDeeds S L u m ds
   pub pools : (p : ℕ) → p < S .ports → (ds : List LentDeed) → Undisturbed m ds → PoolKeptInDeeds S L p m ds
   pub marks : (p : ℕ) (ds : List LentDeed) → Undisturbed m ds → OwnMarkAloneInDeeds S p m ds
+  pub halts : (p : ℕ) → 0 < markOf L p → (ds : List LentDeed) → Undisturbed m ds → All (λ c. c ≢ act (clear p)) (callsIn m ds)
+      → HaltLastsInDeeds S p (markOf L p) m ds
   pub records : (ds : List LentDeed) → Undisturbed m ds → GoesAlongInDeeds S L m ds
 
 -- and from every later moment on
