@@ -6,6 +6,7 @@ use Prim.Native.Nat.{ℕ}
 use native.Mathlib.Omega.{arith}
 use lib.ListN.{getD}
 use Rattle.ledger.specs.Answers.{numberOf, kindOf, exitOf, sentOf, plainReply, stitchReply, entryReply, turnReply, readyReply, whereReply, reportReply}
+use Rattle.ledger.specs.Answers.{bucketReply}
 use Rattle.ledger.specs.declared.Refusal.{Refusal}
 use Rattle.ledger.specs.declared.Refusal.the-variants.{ShortMemory, BadSetting, NoState, NoPort, NoQueue, HeaderSize, Checksum, Source}
 use Rattle.ledger.specs.declared.Refusal.the-variants.{TooShort, NoCredit, NoFreeNode, NothingThere, SlotsInUse, TooMuchCredit, NoSuchId}
@@ -27,6 +28,8 @@ use Rattle.ledger.specs.declared.Whereabouts.{Whereabouts}
 use Rattle.ledger.specs.declared.Whereabouts.the-variants as places
 use Rattle.ledger.specs.declared.Reported.{Reported}
 use Rattle.ledger.specs.declared.Reported.the-variants as reports
+use Rattle.ledger.specs.declared.Bucketed.{Bucketed}
+use Rattle.ledger.specs.declared.Bucketed.the-variants as counts
 use Rattle.ledger.specs.Calls.{refused, entry, leaves, found, Side}
 use Rattle.ledger.specs.Ledger.{Packet, Place}
 
@@ -179,3 +182,9 @@ report-inj (reports.Mark v) (reports.Mark w) e = cc
 report-inj (reports.Mark v) (reports.No s) e = cc
 report-inj (reports.No r) (reports.Mark w) e = cc
 report-inj (reports.No r) (reports.No s) e = ap reports.No (same-refusal r s e)
+
+pub bucket-inj : (a b : Bucketed) → bucketReply a ≡ bucketReply b → a ≡ b
+bucket-inj (counts.Count v) (counts.Count w) e = cc
+bucket-inj (counts.Count v) (counts.No s) e = cc
+bucket-inj (counts.No r) (counts.Count w) e = cc
+bucket-inj (counts.No r) (counts.No s) e = ap counts.No (same-refusal r s e)

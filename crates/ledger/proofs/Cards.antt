@@ -9,7 +9,8 @@ use Rattle.ledger.specs.Ledger.{isNode, recorded, place#, placeOf, cell,
 use Rattle.ledger.specs.Ledger.{start, change}
 use Rattle.ledger.specs.Ready.{isReady, wordOf, readyWord, maskedAbove, pick}
 use Rattle.ledger.specs.Halt.{halts, marks, heldUp}
-use Rattle.ledger.specs.Calls.{markedFor, onRefusal, arrived, stitchRecord, served}
+use Rattle.ledger.specs.Buckets.{waitOf, bucketOf, oneMore, bucket#}
+use Rattle.ledger.specs.Calls.{markedFor, onRefusal, arrived, stitchRecord, served, ticked}
 use Rattle.ledger.specs.Sound.{All}
 use Rattle.ledger.specs.Rounds.{roundActs, answerBytes, bytesOf, answersIn}
 use Rattle.ledger.specs.Cards.{Holds, cards}
@@ -19,7 +20,7 @@ unfolding number bits crcBit crcBits crcByte crcFrom crc8 isBeat portsIn queuesI
     frontBytes spare bodySize headerSize leastLength fieldsOf price isNode recorded place# placeOf cell creditAt
     setCredit pop push move change start isReady wordOf readyWord maskedAbove pick arrived stitchRecord served roundActs answerBytes
     bytesOf answersIn lib.Count.ones lib.Count.leadingZeros lib.Count.trailingZeros onRefusal markedFor
-    halts marks heldUp
+    halts marks heldUp waitOf bucketOf oneMore bucket# ticked
 cards-hold = (
   refl,
   (
@@ -52,7 +53,7 @@ cards-hold = (
                               refl,
                               (
                                 refl,
-                                (refl, (refl, (refl, (refl, (refl, (refl, (refl, (refl, (refl, (refl, (refl, (refl, (refl, (refl, (refl, tt))))))))))))))),
+                                (refl, (refl, (refl, (refl, (refl, (refl, (refl, (refl, (refl, (refl, (refl, (refl, (refl, (refl, (refl, (refl, (refl, (refl, tt)))))))))))))))))),
                               ),
                             ),
                           ),

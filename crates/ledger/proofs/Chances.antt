@@ -11,6 +11,7 @@ use lib.ListN.{length}
 use lib.Dec.{ltb}
 use Rattle.ledger.specs.Settings.{Settings}
 use Rattle.ledger.specs.Ledger.{Packet, egress, prefetched, Ledger, listAt}
+use Rattle.ledger.specs.Buckets.{untimed}
 use Rattle.ledger.specs.Ready.{bit}
 use Rattle.ledger.specs.Calls.{Act, stitch, prefetch, turn, isEmpty, firstOf, step, run}
 use Rattle.ledger.specs.Desk.{act}
@@ -110,16 +111,16 @@ module _ (S : Settings) (ok : Roomy S) (p q : ℕ) (hp : p < S .ports) (hq : q <
   filled (a ∷ acts) h (inr o) L s e =
       filled acts (h .1) o (step S L a .1) (keep-step S ok L s a) (some-line-step S ok p q hp hq L s a (h .0) e)
 
-  -- with the slots not empty, the next turn of port p is a chance
-  next-turn : (acts : List Act) → Among (turn p) acts → (L : Ledger) → Orderly S L → Slots·some L → 1 ≤ chancesOf S p q L acts
+  -- with the slots not empty, the next turn of port p, not timed as a round's, is a chance
+  next-turn : (acts : List Act) → Among (turn untimed p) acts → (L : Ledger) → Orderly S L → Slots·some L → 1 ≤ chancesOf S p q L acts
   next-turn [] o L s e = absurd o
   next-turn (a ∷ acts) o L s e = go (isTurn p a) refl o (λ h. next-turn acts h (step S L a .1) (keep-step S ok L s a))
     where
       next : Ledger
       next = step S L a .1
 
-      go : (b : Bool) → isTurn p a ≡ b → (a ≡ turn p) ⊎ Among (turn p) acts
-          → (Among (turn p) acts → Slots·some next → 1 ≤ chancesOf S p q next acts)
+      go : (b : Bool) → isTurn p a ≡ b → (a ≡ turn untimed p) ⊎ Among (turn untimed p) acts
+          → (Among (turn untimed p) acts → Slots·some next → 1 ≤ chancesOf S p q next acts)
           → 1 ≤ bit (b && not (isEmpty (listAt S L (prefetched p q)))) + chancesOf S p q next acts
       go true i h rec = rw e (omega arith)
       go false i (inl j) rec = absurd (true≢false (sym (ap (isTurn p) j ∙ eqb-is p p refl) ∙ i))
@@ -136,7 +137,7 @@ module _ (S : Settings) (ok : Roomy S) (p q : ℕ) (hp : p < S .ports) (hq : q <
       (among-each (prefetch p q) (λ r. each (λ t. prefetch r t ∷ []) (S .queues)) (S .ports) p hp
       (among-each (prefetch p q) (λ t. prefetch p t ∷ []) (S .queues) q hq (inl refl)))
       M u (kept Line·some (λ N. some-line-step S ok p q hp hq N) acts h L s e) in
-      let our-turn = among-each (turn p) (λ r. turn r ∷ []) (S .ports) p hp (inl refl) in
+      let our-turn = among-each (turn untimed p) (λ r. turn untimed r ∷ []) (S .ports) p hp (inl refl) in
       omega (
         arith,
         count-append S (isChance S p q) L acts (prefetches S ++ turns S),
@@ -167,14 +168,14 @@ module _ (p : ℕ) where
   quiet-none [] h = refl
   quiet-none (a ∷ acts) h = let z : bit (isTurn p a) ≡ 0 = rw (h .0) in omega (arith, quiet-none acts (h .1))
 
-  one-each : (n : ℕ) → turnsIn p (map act (each (λ r. turn r ∷ []) n)) ≡ bit (ltb p n)
+  one-each : (n : ℕ) → turnsIn p (map act (each (λ r. turn untimed r ∷ []) n)) ≡ bit (ltb p n)
   one-each zero = rw (ltb-not p 0 (omega arith))
-  one-each (suc n) = turns-append (each (λ r. turn r ∷ []) n) (turn n ∷ []) ∙ go (ℕ-discrete n p) (one-each n)
+  one-each (suc n) = turns-append (each (λ r. turn untimed r ∷ []) n) (turn untimed n ∷ []) ∙ go (ℕ-discrete n p) (one-each n)
     where
       before : ℕ
-      before = turnsIn p (map act (each (λ r. turn r ∷ []) n))
+      before = turnsIn p (map act (each (λ r. turn untimed r ∷ []) n))
 
-      go : Dec (n ≡ p) → before ≡ bit (ltb p n) → before + turnsIn p (map act (turn n ∷ [])) ≡ bit (ltb p (suc n))
+      go : Dec (n ≡ p) → before ≡ bit (ltb p n) → before + turnsIn p (map act (turn untimed n ∷ [])) ≡ bit (ltb p (suc n))
       go (yes e) rec = rw (rec, eqb-is n p e, ltb-not p n (omega arith), ltb-is p (suc n) (omega arith)) (omega arith)
       go (no e) rec = rw (rec, eqb-not n p e) (omega (arith, same (decLe (suc p) n)))
         where

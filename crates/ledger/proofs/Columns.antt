@@ -6,13 +6,13 @@ use Prim.Native.Nat.{ℕ, _<_}
 use native.Mathlib.Omega.{arith}
 use native.Mathlib.Decide.{ℕ-discrete}
 use lib.ListN.{length, getD}
-use Rattle.ledger.specs.Ledger.{Column, arrival, outward, last, mapped, halted, column#, Ledger, change}
+use Rattle.ledger.specs.Ledger.{Column, arrival, outward, last, mapped, halted, buckets, column#, Ledger, change}
 use Rattle.ledger.proofs.Tests.{eqb-is, eqb-not}
 
 -- ---- the columns by their numbers
 
 abbrev pub columns : List Column
-columns = arrival ∷ outward ∷ last ∷ mapped ∷ halted ∷ []
+columns = arrival ∷ outward ∷ last ∷ mapped ∷ halted ∷ buckets ∷ []
 
 abbrev pub columnAt : ℕ → Column
 columnAt n = getD columns n arrival
@@ -23,6 +23,7 @@ column-at outward = (omega arith, refl)
 column-at last = (omega arith, refl)
 column-at mapped = (omega arith, refl)
 column-at halted = (omega arith, refl)
+column-at buckets = (omega arith, refl)
 
 pub column-inj : (c d : Column) → column# c ≡ column# d → c ≡ d
 column-inj c d e = sym (column-at c .1) ∙ ap columnAt e ∙ column-at d .1

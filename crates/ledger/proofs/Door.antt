@@ -289,12 +289,13 @@ module _ {X : Type 0} (call : X → Call → Reply × X) (shows : X → Desk) (l
       goes-out : LeavesAt call shows p q k x all (suc t + o .moment)
       goes-out = record {
         among = omega (arith, o .among, ap length (rest-calls t ds), length-drop (suc t) all, short);
+        clock = o .event .clock;
         a-turn = sym (getD-drop (suc t) all (o .moment) (act (ready 0)))
             ∙ ap (λ (l : List Call). getD l (o .moment) (act (ready 0))) (sym (rest-calls t ds))
             ∙ o .is-that
             ∙ ap act (o .event .a-turn);
-        it-leaves = ap (λ (z : X). call z (act (turn p)) .0) (later (o .moment))
-            ∙ act-answer call shows long faithful S (afterCalls call then (take (o .moment) left)) (o .found) (o .shown) (turn p)
+        it-leaves = ap (λ (z : X). call z (act (turn (o .event .clock) p)) .0) (later (o .moment))
+            ∙ act-answer call shows long faithful S (afterCalls call then (take (o .moment) left)) (o .found) (o .shown) (turn (o .event .clock) p)
             ∙ ap (λ (a : Act). step S (o .found) a .0) (sym (o .event .a-turn))
             ∙ o .event .it-leaves;
       }

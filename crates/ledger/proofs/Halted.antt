@@ -14,18 +14,20 @@ use Rattle.ledger.specs.Settings.{Settings}
 use Rattle.ledger.specs.Rules.{Rule, refuse, guard, Clear}
 use Rattle.ledger.specs.Header.{form, fieldsOf, arrivalRules}
 use Rattle.ledger.specs.Ledger.{owner, Packet, bare, recorded, Place, free, ingress, egress, prefetched, place#, creditAt, setCredit, Column, column#}
-use Rattle.ledger.specs.Ledger.{arrival, outward, last, mapped, halted, Ledger, arrivalOf, outwardOf, lastOf, mapOf, markOf}
+use Rattle.ledger.specs.Buckets.{Clock, untimed, at, waitOf, bucketOf, oneMore, bucket#}
+use Rattle.ledger.specs.Ledger.{arrival, outward, last, mapped, halted, buckets, Ledger, arrivalOf, outwardOf, lastOf, mapOf, markOf}
 use Rattle.ledger.specs.Ledger.{oldest, pop, push, move, change, putIn}
 use Rattle.ledger.specs.Ready.{isReady, readyWord, pick}
 use Rattle.ledger.specs.Halt.{marks, heldUp, OnlyMark}
-use Rattle.ledger.specs.Calls.{Act, arrive, stitch, prefetch, credit, mapTo, turn, ready, whereIs, clear, report, isArrival}
-use Rattle.ledger.specs.Calls.{Reply, refused, entry, idle, reported, noPort, firstOf, arriving, lastRules, arrived, served, serve}
+use Rattle.ledger.specs.Calls.{Act, arrive, stitch, prefetch, credit, mapTo, turn, ready, whereIs, clear, report, bucket, isArrival}
+use Rattle.ledger.specs.Calls.{Reply, refused, entry, idle, reported, noPort, firstOf, arriving, lastRules, arrived, served, ticked, serve}
 use Rattle.ledger.specs.Calls.{rules, result, markedFor, onRefusal, step}
 use Rattle.ledger.specs.Sound.{All, Orderly}
 use Rattle.ledger.specs.Desk.{Desk, has, Call, setup, act, desk, afterCalls, answersOf, SetupsRefused}
 use Rattle.ledger.specs.Night.{AgreeAt, refusedAt, others, asked, AlikeBut, OwnMarkAlone, HaltLasts}
 use Rattle.ledger.proofs.Tests.{true≢false, eqb-is, eqb-not, ltb-not, and-left, and-right}
 use Rattle.ledger.proofs.Columns.{column-inj, other-column, change-here, change-other}
+use Rattle.ledger.proofs.Buckets.{ticked-numbers}
 use Rattle.ledger.proofs.Halt.{marks-first, marked-by, not-held}
 use Rattle.ledger.proofs.Passes.{guard-after, passes, Admits, admits}
 use Rattle.ledger.proofs.Steps.{cleared, stepped, refused-by, refused-else}
@@ -221,6 +223,16 @@ module _ (S : Settings) (p : ℕ) (ys : List ℕ) (N : Ledger) (b : Behind p N (
       outward (λ xs. setCredit S xs r q (outwardOf S N r q - k .price)) (other-column outward halted (omega arith)))
       last (λ xs. set xs r q) (other-column last halted (omega arith))
 
+  -- a tick reads and changes buckets alone
+  ticked-alike : (c : Clock) (r : ℕ) (k : Packet) (A B : Ledger) → Behind p A B → Behind p (ticked c r k A) (ticked c r k B)
+  unfolding ticked
+  ticked-alike untimed r k A B o = o
+  ticked-alike (at time) r k A B o =
+      let i : ℕ = bucket# r (bucketOf (waitOf time (k .stamp))) in
+      let same = ap (λ (xs : List ℕ). oneMore (getD xs i 0)) (o .only .same-numbers buckets (other-column buckets halted (omega arith))) in
+      subst (λ (v : ℕ). Behind p (putIn buckets i (oneMore (getD (A .numbers buckets) i 0)) A) (putIn buckets i v B)) (sym same)
+      (behind-change o buckets (λ xs. set xs i (oneMore (getD (A .numbers buckets) i 0))) (other-column buckets halted (omega arith)))
+
   -- where no rule applies, nothing but a report reads a mark
   result-alike : (a : Act) → Alike p a (result S (remark ys N) a) (result S N a)
   unfolding remark change arrived readyWord isReady
@@ -237,18 +249,21 @@ module _ (S : Settings) (p : ℕ) (ys : List ℕ) (N : Ledger) (b : Behind p N (
   result-alike (credit r q n) =
       (λ n. refl, behind-change b outward (λ xs. setCredit S xs r q (outwardOf S N r q + n)) (other-column outward halted (omega arith)))
   result-alike (mapTo d r) = (λ n. refl, behind-change b mapped (λ xs. set xs d r) (other-column mapped halted (omega arith)))
-  result-alike (turn r) = go (eqb (readyWord S N r) 0)
+  result-alike (turn c r) = go (eqb (readyWord S N r) 0)
     where
       q : ℕ
       q = pick (lastOf N r) (readyWord S N r)
 
-      go : (m : Bool) → Alike p (turn r) (cond m (idle, remark ys N) (serve S (remark ys N) r q)) (cond m (idle, N) (serve S N r q))
+      go : (m : Bool) → Alike p (turn c r) (cond m (idle, remark ys N) (serve S (remark ys N) c r q)) (cond m (idle, N) (serve S N c r q))
       go true = (λ n. refl, b)
-      go false = (λ n. refl, served-alike r q (firstOf S N (prefetched r q)))
+      go false =
+          let k : Packet = firstOf S N (prefetched r q) in
+          (λ n. refl, ticked-alike c r k (served S N r q k) (served S (remark ys N) r q k) (served-alike r q k))
   result-alike (ready r) = (λ n. refl, b)
   result-alike (whereIs y) = (λ n. refl, b)
   result-alike (clear r) = (λ n. refl, behind-put b r 0)
   result-alike (report r) = (λ n. ap reported (sym (b .only .other-marks r (λ e. n (ap report e)))), b)
+  result-alike (bucket r d) = (λ n. refl, b)
 
   -- nor do the rules, but an arrival's
   else-rules : (a : Act) → isArrival a ≡ false → rules S (remark ys N) a ≡ rules S N a
@@ -258,11 +273,12 @@ module _ (S : Settings) (p : ℕ) (ys : List ℕ) (N : Ledger) (b : Behind p N (
   else-rules (prefetch r q) i = refl
   else-rules (credit r q n) i = refl
   else-rules (mapTo d r) i = refl
-  else-rules (turn r) i = refl
+  else-rules (turn c r) i = refl
   else-rules (ready r) i = refl
   else-rules (whereIs y) i = refl
   else-rules (clear r) i = refl
   else-rules (report r) i = refl
+  else-rules (bucket r d) i = refl
 
   -- and those read their own port's
   elsewhere-rules : (r : ℕ) (h : List ℕ) → r ≢ p → rules S (remark ys N) (arrive r h) ≡ rules S N (arrive r h)
@@ -322,11 +338,12 @@ module _ (S : Settings) (p : ℕ) (ys : List ℕ) (N : Ledger) (b : Behind p N (
   one-act (prefetch r q) = else-act (prefetch r q) refl refl
   one-act (credit r q n) = else-act (credit r q n) refl refl
   one-act (mapTo d r) = else-act (mapTo d r) refl refl
-  one-act (turn r) = else-act (turn r) refl refl
+  one-act (turn c r) = else-act (turn c r) refl refl
   one-act (ready r) = else-act (ready r) refl refl
   one-act (whereIs y) = else-act (whereIs y) refl refl
   one-act (clear r) = else-act (clear r) refl refl
   one-act (report r) = else-act (report r) refl refl
+  one-act (bucket r d) = else-act (bucket r d) refl refl
 
 any-act : (S : Settings) (p : ℕ) (N L : Ledger) → Behind p N L → (a : Act) → Kept p a N (step S L a) (step S N a)
 any-act S p N L b a =
@@ -433,16 +450,22 @@ module _ (S : Settings) (p : ℕ) (L : Ledger) (some : 0 < markOf L p) where
   result-lasts (prefetch r q) d = unfold move in refl
   result-lasts (credit r q n) d = unfold change in refl
   result-lasts (mapTo i r) d = unfold change in refl
-  result-lasts (turn r) d = go (eqb (readyWord S L r) 0)
+  result-lasts (turn c r) d = go (eqb (readyWord S L r) 0)
     where
-      go : (b : Bool) → markOf ((cond b (idle, L) (serve S L r (pick (lastOf L r) (readyWord S L r)))) .1) p ≡ markOf L p
+      q : ℕ
+      q = pick (lastOf L r) (readyWord S L r)
+
+      go : (b : Bool) → markOf ((cond b (idle, L) (serve S L c r q)) .1) p ≡ markOf L p
       go true = refl
-      go false = unfold served change move in refl
+      go false =
+          let k : Packet = firstOf S L (prefetched r q) in
+          rw (ticked-numbers c r k (served S L r q k) halted (other-column halted buckets (omega arith))) (unfold served change move in refl)
   result-lasts (ready r) d = refl
   result-lasts (whereIs y) d = refl
   result-lasts (clear r) d =
       rw (change-here halted (λ xs. set xs r 0) L) (getD-set-other (L .numbers halted) r p 0 0 (λ i. d (ap clear (sym i))))
   result-lasts (report r) d = refl
+  result-lasts (bucket r b) d = refl
 
   pub step-lasts : (a : Act) → a ≢ clear p → markOf (step S L a .1) p ≡ markOf L p
   step-lasts a d = stepped S L a (λ out. markOf (out .1) p ≡ markOf L p) (refused-lasts a) (λ c. result-lasts a d)

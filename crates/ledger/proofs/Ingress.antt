@@ -16,7 +16,8 @@ use Rattle.ledger.specs.Ledger.{owner, Packet, bare, recorded, Place, fr
 use Rattle.ledger.specs.Ledger.{change, Place·In}
 use Rattle.ledger.specs.Ready.{bit, readyWord, pick}
 use Rattle.ledger.specs.Calls.{Act, arrive, stitch, prefetch, credit, mapTo, turn, ready, whereIs, Reply, stitched, idle, isEmpty}
-use Rattle.ledger.specs.Calls.{clear, report, firstOf, stitchRecord, arriving, arrived, served, serve, turned, rules, result, step}
+use Rattle.ledger.specs.Buckets.{Clock, untimed}
+use Rattle.ledger.specs.Calls.{clear, report, bucket, firstOf, stitchRecord, arriving, arrived, served, serve, turned, rules, result, step}
 use Rattle.ledger.specs.Sound.{All, Orderly, Roomy}
 use Rattle.ledger.specs.Demand.{isTurn, InHand}
 use Rattle.ledger.specs.Rounds.{each, stitches, prefetches, turns, roundActs}
@@ -26,6 +27,7 @@ use Rattle.ledger.proofs.Lists.{All-append, All-at}
 use Rattle.ledger.proofs.Keep.{some-queue, first-node, from-moved, to-moved, else-moved}
 use Rattle.ledger.proofs.Passes.{Admits, admits}
 use Rattle.ledger.proofs.Steps.{picked-some, stepped, step-clear, refused-lists}
+use Rattle.ledger.proofs.Buckets.{ticked-lists}
 use Rattle.ledger.proofs.Walk.{countIn, Does, ends, nears, Course}
 use Rattle.ledger.proofs.Line.{grown-moved, stitch-in, Waits, waits-from}
 use Rattle.ledger.proofs.Chances.{Among, among-left, among-each, all-each, Quiet, quiet-stitches, chancesOf, chance-after}
@@ -36,11 +38,12 @@ isStitch r (stitch p) = eqb p r
 isStitch r (prefetch p q) = false
 isStitch r (credit p q n) = false
 isStitch r (mapTo d p) = false
-isStitch r (turn p) = false
+isStitch r (turn c p) = false
 isStitch r (ready p) = false
 isStitch r (whereIs y) = false
 isStitch r (clear p) = false
 isStitch r (report p) = false
+isStitch r (bucket p b) = false
 
 -- the act is a stitch that takes packet k, the oldest in ingress at port r, to the port that its destination is mapped to at that moment
 pub record Stitching (S : Settings) (r : ℕ) (k : Packet) (L : Ledger) (a : Act) : Type 0 where
@@ -83,18 +86,20 @@ module _ (S : Settings) (ok : Roomy S) (r : ℕ) (hr : r < S .ports) where
         longer-moved (prefetched p q) (free (owner (k .node))) (hp, hq) w-in e
         (λ i. let z : _≡_ {A = ℕ} 0 1 = cc in omega arith) (bare (k .node)) refl (λ i. let z : _≡_ {A = ℕ} 0 1 = cc in omega arith)
 
-    longer-turned : (p u : ℕ) → p < S .ports
+    longer-turned : (c : Clock) (p u : ℕ) → p < S .ports
         → (eqb u 0 ≡ false → (pick (lastOf L p) u < S .queues) × (isEmpty (listAt S L (prefetched p (pick (lastOf L p) u))) ≡ false))
-        → Longer (turned S L p u .1)
-    longer-turned p u hp some = go (eqb u 0) some
+        → Longer (turned S L c p u .1)
+    longer-turned c p u hp some = go (eqb u 0) some
       where
         q : ℕ
         q = pick (lastOf L p) u
 
         go : (b : Bool) → (b ≡ false → (q < S .queues) × (isEmpty (listAt S L (prefetched p q)) ≡ false))
-            → Longer ((cond b (idle, L) (serve S L p q)) .1)
+            → Longer ((cond b (idle, L) (serve S L c p q)) .1)
         go true f = longer-refl
-        go false f = longer-served p q hp (f refl .0) (f refl .1)
+        go false f =
+            let k : Packet = firstOf S L (prefetched p q) in
+            rw (ticked-lists c p k (served S L p q k)) (longer-served p q hp (f refl .0) (f refl .1))
 
     longer-result : (a : Act) → isStitch r a ≡ false → Clear (rules S L a) → Longer (result S L a .1)
     longer-result (arrive p h) i c = longer-arrived p h (admits S L p h c)
@@ -112,13 +117,14 @@ module _ (S : Settings) (ok : Roomy S) (r : ℕ) (hr : r < S .ports) where
         (λ j. let z : _≡_ {A = ℕ} 0 1 = cc in omega arith)
     longer-result (credit p q n) i c = unfold change in longer-refl
     longer-result (mapTo d p) i c = unfold change in longer-refl
-    longer-result (turn p) i c =
+    longer-result (turn t p) i c =
         let hp : p < S .ports = leb-no (S .ports) p (c .0) in
-        longer-turned p (readyWord S L p) hp (picked-some S ok L s p hp)
+        longer-turned t p (readyWord S L p) hp (picked-some S ok L s p hp)
     longer-result (ready p) i c = longer-refl
     longer-result (whereIs y) i c = longer-refl
     longer-result (clear p) i c = unfold change in longer-refl
     longer-result (report p) i c = longer-refl
+    longer-result (bucket p b) i c = longer-refl
 
     longer-step : (a : Act) → isStitch r a ≡ false → Longer (step S L a .1)
     longer-step a i =
@@ -161,11 +167,12 @@ module _ (S : Settings) (ok : Roomy S) (r : ℕ) (hr : r < S .ports) where
   stitch-is (prefetch p q) i = absurd (true≢false (sym i))
   stitch-is (credit p q m) i = absurd (true≢false (sym i))
   stitch-is (mapTo d p) i = absurd (true≢false (sym i))
-  stitch-is (turn p) i = absurd (true≢false (sym i))
+  stitch-is (turn c p) i = absurd (true≢false (sym i))
   stitch-is (ready p) i = absurd (true≢false (sym i))
   stitch-is (whereIs y) i = absurd (true≢false (sym i))
   stitch-is (clear p) i = absurd (true≢false (sym i))
   stitch-is (report p) i = absurd (true≢false (sym i))
+  stitch-is (bucket p b) i = absurd (true≢false (sym i))
 
   module _ (k : Packet) (n : ℕ) (L : Ledger) (s : Orderly S L) (w : Heads k n L) where
     abbrev After : Act → Type 0
@@ -275,7 +282,7 @@ module _ (S : Settings) where
       All-append (λ a. isStitch r a ≡ false) (prefetches S) (turns S)
       (all-each (λ a. isStitch r a ≡ false) (λ p. each (λ q. prefetch p q ∷ []) (S .queues)) (S .ports)
       (λ p. all-each (λ a. isStitch r a ≡ false) (λ q. prefetch p q ∷ []) (S .queues) (λ q. (refl, tt))))
-      (all-each (λ a. isStitch r a ≡ false) (λ p. turn p ∷ []) (S .ports) (λ p. (refl, tt)))
+      (all-each (λ a. isStitch r a ≡ false) (λ p. turn untimed p ∷ []) (S .ports) (λ p. (refl, tt)))
 
   stitch-early : (r j : ℕ) → j < length (roundActs S) → getD (roundActs S) j (ready 0) ≡ stitch r → suc j ≤ length (stitches S)
   unfolding roundActs

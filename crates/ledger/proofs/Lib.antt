@@ -7,6 +7,7 @@ pub mod Ready
 pub mod Rows
 pub mod Keep
 pub mod Halt
+pub mod Buckets
 pub mod Passes
 pub mod Steps
 pub mod Find

@@ -15,7 +15,8 @@ use Rattle.ledger.specs.Ledger.{owner, Packet, bare, recorded, Place, fr
 use Rattle.ledger.specs.Ledger.{lastOf, mapOf, creditAt, setCredit, cell, move, outward, last, mapped, change, Place·In}
 use Rattle.ledger.specs.Ready.{bit, covered, isReady, readyWord, pick}
 use Rattle.ledger.specs.Calls.{Act, arrive, stitch, prefetch, credit, mapTo, turn, ready, whereIs, Reply, idle, leaves, sideOf}
-use Rattle.ledger.specs.Calls.{clear, report, isEmpty, firstOf, arriving, arrived, served, serve, turned, rules, result, step, onRefusal}
+use Rattle.ledger.specs.Calls.{clear, report, bucket, isEmpty, firstOf, arriving, arrived, served, ticked, serve, turned, rules, result, step, onRefusal}
+use Rattle.ledger.specs.Buckets.{Clock}
 use Rattle.ledger.specs.Sound.{sum, Orderly, Roomy}
 use Rattle.ledger.specs.Demand.{isTurn, InHand}
 use Rattle.ledger.specs.Door.{lineOf}
@@ -26,6 +27,7 @@ use Rattle.ledger.proofs.Places.{credit-same, credit-other}
 use Rattle.ledger.proofs.Keep.{some-queue, first-fits, first-node, from-moved, to-moved, else-moved}
 use Rattle.ledger.proofs.Ready.{gap, gap-pos, gap-le, word-some, picked-nearer}
 use Rattle.ledger.proofs.Passes.{Admits, admits}
+use Rattle.ledger.proofs.Buckets.{ticked-lists, ticked-numbers}
 use Rattle.ledger.proofs.Steps.{picked-some, stepped, refused-lists, refused-numbers}
 use Rattle.ledger.proofs.Walk.{Does, ends, nears, Course}
 
@@ -33,9 +35,10 @@ use Rattle.ledger.proofs.Walk.{Does, ends, nears, Course}
 abbrev pub isChance : Settings → ℕ → ℕ → Ledger → Act → Bool
 isChance S p q L a = isTurn p a && not (isEmpty (listAt S L (prefetched p q)))
 
--- the act is a turn of port p at which packet k leaves by queue q
+-- the act is a turn of port p, timed or not, at which packet k leaves by queue q
 pub record Leaving (S : Settings) (p q : ℕ) (k : Packet) (L : Ledger) (a : Act) : Type 0 where
-  pub a-turn : a ≡ turn p
+  pub clock : Clock
+  pub a-turn : a ≡ turn clock p
   pub it-leaves : step S L a .0 ≡ leaves k (sideOf q)
 
 -- adding to one credit lowers none
@@ -194,6 +197,16 @@ module _ (S : Settings) (ok : Roomy S) (p q : ℕ) (hp : p < S .ports) (hq : q <
             omega (arith, credit-other S (L .numbers outward) r t (outwardOf S L r t - k .price) (s .shaped .numbers-long outward) hr ht p q hq n);
       }
 
+  -- buckets are neither lists nor credits
+  spared-ticked : (L M : Ledger) → Spared L M → (c : Clock) (r : ℕ) (j : Packet) → Spared L (ticked c r j M)
+  spared-ticked L M g c r j = record {
+    lists = rw (ticked-lists c r j M) (g .lists);
+    funded = rw (ticked-numbers c r j M outward (λ e. let z : _≡_ {A = ℕ} 0 1 = cc in omega arith)) (g .funded);
+  }
+
+  mark-ticked : (M : Ledger) (c : Clock) (r : ℕ) (j : Packet) → lastOf (ticked c r j M) p ≡ lastOf M p
+  mark-ticked M c r j = rw (ticked-numbers c r j M last (λ e. let z : _≡_ {A = ℕ} 0 1 = cc in omega arith))
+
   -- ---- waiting: packet k leaves within n chances
 
   -- how many chances the first of the line has before it, that at which it leaves among them: a whole round of the mark, until it is in
@@ -245,6 +258,11 @@ module _ (S : Settings) (ok : Roomy S) (p q : ℕ) (hp : p < S .ports) (hq : q <
       afford (inl e) = inl e
       afford (inr i) = inr (omega (arith, g .funded, i))
 
+  waits-ticked : (d : ℕ) (k : Packet) (m : ℕ) (M : Ledger) (c : Clock) (r : ℕ) (j : Packet) → Waits d k m M → Waits d k m (ticked c r j M)
+  waits-ticked d k m M c r j w =
+      let same : wait (ticked c r j M) ≡ wait M = rw (ticked-lists c r j M, mark-ticked M c r j) in
+      go-on d k m m M (ticked c r j M) (spared-ticked M M (spared-refl M) c r j) w (omega arith)
+
   -- slots that are not empty stay so
   some-spared : (L M : Ledger) → Spared L M → isEmpty (listAt S L ours) ≡ false → isEmpty (listAt S M ours) ≡ false
   some-spared L M g e = ap isEmpty (g .lists .slots-are) ∙ still-some (listAt S L ours) (g .lists .fetched) e
@@ -280,6 +298,15 @@ module _ (S : Settings) (ok : Roomy S) (p q : ℕ) (hp : p < S .ports) (hq : q <
     data After (r : Reply × Ledger) : Type 0 where
       left : r .0 ≡ leaves k (sideOf q) → After r
       nearer : (m : ℕ) → bit (not (isEmpty (listAt S L ours))) + m ≤ n → Waits d k m (r .1) → After r
+
+    -- be it timed or not
+    after-ticked : (c : Clock) (j : Packet) (r : Reply) (M : Ledger) → After (r, M) → After (r, ticked c p j M)
+    after-ticked c j r M (left e) = left e
+    after-ticked c j r M (nearer m h v) = nearer m h (waits-ticked d k m M c p j v)
+
+    -- the oldest of queue t's slots leaves
+    abbrev sent : ℕ → Reply × Ledger
+    sent t = (leaves (firstOf S L (prefetched p t)) (sideOf t), served S L p t (firstOf S L (prefetched p t)))
 
     -- nothing in the slots: whatever the turn does, the first of the line still has a whole round before it
     no-chance : isEmpty (listAt S L ours) ≡ true → (M : Ledger) → Spared L M → (r : Reply) → After (r, M)
@@ -343,7 +370,7 @@ module _ (S : Settings) (ok : Roomy S) (p q : ℕ) (hp : p < S .ports) (hq : q <
               let o = credit-same S (L .numbers outward) p q left-over (s .shaped .numbers-long outward) hp hq (omega arith) in
               inr (omega (arith, o, ap (λ (j : Packet). j .price) zy, a))
 
-      ours-served : After (serve S L p q)
+      ours-served : After (sent q)
       ours-served = go (w .ahead) (w .stands) (w .within) (w .affords) (w .soon)
         where
           front : firstOf S L ours ∷ (drop 1 (listAt S L ours) ++ listAt S L back) ≡ lineOf S L p q
@@ -351,7 +378,7 @@ module _ (S : Settings) (ok : Roomy S) (p q : ℕ) (hp : p < S .ports) (hq : q <
 
           go : (ys : List Packet) → lineOf S L p q ≡ ys ++ (k ∷ w .behind) → length ys < length (listAt S L ours) + d
               → Afford (ys ++ (k ∷ [])) L
-              → length ys * S .queues + wait L ≤ n → After (serve S L p q)
+              → length ys * S .queues + wait L ≤ n → After (sent q)
           go [] e i c h =
               left (ap (λ (j : Packet). leaves j (sideOf q)) (ap (λ (l : List Packet). getD l 0 (bare 0)) (front ∙ e)))
           go (y ∷ ys) e i c h =
@@ -359,7 +386,7 @@ module _ (S : Settings) (ok : Roomy S) (p q : ℕ) (hp : p < S .ports) (hq : q <
 
       -- another queue of our port is served
       other-served : (t : ℕ) → t < S .queues → isEmpty (listAt S L (prefetched p t)) ≡ false → t ≢ q
-          → gap t q (S .queues) < gap (lastOf L p) q (S .queues) → After (serve S L p t)
+          → gap t q (S .queues) < gap (lastOf L p) q (S .queues) → After (sent t)
       unfolding served change move
       other-served t ht e j h =
           let M : Ledger = served S L p t (firstOf S L (prefetched p t)) in
@@ -369,30 +396,31 @@ module _ (S : Settings) (ok : Roomy S) (p q : ℕ) (hp : p < S .ports) (hq : q <
           let nn : wait L ≤ n = omega (arith, w .soon) in
           nearer (n - 1) (omega (arith, one-chance, wait-is)) (go-on d k n (n - 1) L M g w (omega (arith, v, wait-is)))
 
-      turn-some : After (turned S L p (readyWord S L p))
+      turn-some : (c : Clock) → After (turned S L c p (readyWord S L p))
       unfolding readyWord
-      turn-some =
+      turn-some c =
           let r = isReady S L p in
           let e = ready-now some in
           let busy : eqb (readyWord S L p) 0 ≡ false = word-some r (S .queues) q hq e in
           rw busy
-          (go (ℕ-discrete (pick (lastOf L p) (readyWord S L p)) q) (picked-some S ok L s p hp busy)
-          (picked-nearer r (lastOf L p) q (S .queues) hq last-lt (ok .few-queues) e))
+          (after-ticked c (firstOf S L (prefetched p j)) (leaves (firstOf S L (prefetched p j)) (sideOf j)) (sent j .1)
+          (go (ℕ-discrete j q) (picked-some S ok L s p hp busy)
+          (picked-nearer r (lastOf L p) q (S .queues) hq last-lt (ok .few-queues) e)))
         where
           j : ℕ
           j = pick (lastOf L p) (readyWord S L p)
 
           go : Dec (j ≡ q) → (j < S .queues) × (isEmpty (listAt S L (prefetched p j)) ≡ false)
-              → (j ≡ q) ⊎ (gap j q (S .queues) < gap (lastOf L p) q (S .queues)) → After (serve S L p j)
+              → (j ≡ q) ⊎ (gap j q (S .queues) < gap (lastOf L p) q (S .queues)) → After (sent j)
           go (yes e) hj c = rw e ours-served
           go (no i) hj (inl e) = absurd (i e)
           go (no i) hj (inr h) = other-served j (hj .0) (hj .1) i h
 
     -- with empty slots another queue is served, or none
-    turn-none : isEmpty (listAt S L ours) ≡ true → (u : ℕ)
+    turn-none : (c : Clock) → isEmpty (listAt S L ours) ≡ true → (u : ℕ)
         → (eqb u 0 ≡ false → (pick (lastOf L p) u < S .queues) × (isEmpty (listAt S L (prefetched p (pick (lastOf L p) u))) ≡ false))
-        → After (turned S L p u)
-    turn-none none u some = go (eqb u 0) some
+        → After (turned S L c p u)
+    turn-none c none u some = go (eqb u 0) some
       where
         j : ℕ
         j = pick (lastOf L p) u
@@ -401,20 +429,21 @@ module _ (S : Settings) (ok : Roomy S) (p q : ℕ) (hp : p < S .ports) (hq : q <
         empty t = isEmpty (listAt S L (prefetched p t))
 
         go : (b : Bool) → (b ≡ false → (j < S .queues) × (isEmpty (listAt S L (prefetched p j)) ≡ false))
-            → After (cond b (idle, L) (serve S L p j))
+            → After (cond b (idle, L) (serve S L c p j))
         go true f = no-chance none L (spared-refl L) idle
         go false f =
-            no-chance none (served S L p j (firstOf S L (prefetched p j)))
+            after-ticked c (firstOf S L (prefetched p j)) (leaves (firstOf S L (prefetched p j)) (sideOf j)) (sent j .1)
+            (no-chance none (sent j .1)
             (spared-served L s p j hp (f refl .0) (f refl .1) (λ a b. true≢false (sym none ∙ ap empty (sym b) ∙ f refl .1)))
-            (leaves (firstOf S L (prefetched p j)) (sideOf j))
+            (leaves (firstOf S L (prefetched p j)) (sideOf j)))
 
     -- our port's turn is never refused
-    our-turn : After (step S L (turn p))
-    our-turn = rw (leb-not (S .ports) p hp) (go (isEmpty (listAt S L ours)) refl)
+    our-turn : (c : Clock) → After (step S L (turn c p))
+    our-turn c = rw (leb-not (S .ports) p hp) (go (isEmpty (listAt S L ours)) refl)
       where
-        go : (b : Bool) → isEmpty (listAt S L ours) ≡ b → After (turned S L p (readyWord S L p))
-        go true e = turn-none e (readyWord S L p) (picked-some S ok L s p hp)
-        go false e = turn-some e
+        go : (b : Bool) → isEmpty (listAt S L ours) ≡ b → After (turned S L c p (readyWord S L p))
+        go true e = turn-none c e (readyWord S L p) (picked-some S ok L s p hp)
+        go false e = turn-some e c
 
   -- ---- any other act
 
@@ -426,22 +455,25 @@ module _ (S : Settings) (ok : Roomy S) (p q : ℕ) (hp : p < S .ports) (hq : q <
   aside-refl L = record { spared = spared-refl L; mark = refl }
 
   module _ (L : Ledger) (s : Orderly S L) where
-    aside-turned : (r u : ℕ) → r < S .ports → r ≢ p
+    aside-turned : (c : Clock) (r u : ℕ) → r < S .ports → r ≢ p
         → (eqb u 0 ≡ false → (pick (lastOf L r) u < S .queues) × (isEmpty (listAt S L (prefetched r (pick (lastOf L r) u))) ≡ false))
-        → Aside L (turned S L r u .1)
+        → Aside L (turned S L c r u .1)
     unfolding served change
-    aside-turned r u hr n some = go (eqb u 0) some
+    aside-turned c r u hr n some = go (eqb u 0) some
       where
         t : ℕ
         t = pick (lastOf L r) u
 
         go : (b : Bool) → (b ≡ false → (t < S .queues) × (isEmpty (listAt S L (prefetched r t)) ≡ false))
-            → Aside L ((cond b (idle, L) (serve S L r t)) .1)
+            → Aside L ((cond b (idle, L) (serve S L c r t)) .1)
         go true f = aside-refl L
-        go false f = record {
-          spared = spared-served L s r t hr (f refl .0) (f refl .1) (λ a b. n a);
-          mark = unfold move change in (getD-set-other (L .numbers last) r p t 0 (λ i. n (sym i)));
-        }
+        go false f =
+            let k : Packet = firstOf S L (prefetched r t) in
+            record {
+              spared = spared-ticked L (served S L r t k) (spared-served L s r t hr (f refl .0) (f refl .1) (λ a b. n a)) c r k;
+              mark = mark-ticked (served S L r t k) c r k
+                  ∙ unfold move change in (getD-set-other (L .numbers last) r p t 0 (λ i. n (sym i)));
+            }
 
     aside-result : (a : Act) → isTurn p a ≡ false → Clear (rules S L a) → Aside L (result S L a .1)
     aside-result (arrive r h) i c = record {
@@ -467,9 +499,9 @@ module _ (S : Settings) (ok : Roomy S) (p q : ℕ) (hp : p < S .ports) (hq : q <
       spared = record { lists = unfold change in (grown-refl (L .lists)); funded = unfold change in omega arith };
       mark = unfold change in refl;
     }
-    aside-result (turn r) i c =
+    aside-result (turn t r) i c =
         let hr : r < S .ports = leb-no (S .ports) r (c .0) in
-        aside-turned r (readyWord S L r) hr (eqb-no r p i) (picked-some S ok L s r hr)
+        aside-turned t r (readyWord S L r) hr (eqb-no r p i) (picked-some S ok L s r hr)
     aside-result (ready r) i c = aside-refl L
     aside-result (whereIs y) i c = aside-refl L
     aside-result (clear r) i c = record {
@@ -477,6 +509,7 @@ module _ (S : Settings) (ok : Roomy S) (p q : ℕ) (hp : p < S .ports) (hq : q <
       mark = unfold change in refl;
     }
     aside-result (report r) i c = aside-refl L
+    aside-result (bucket r b) i c = aside-refl L
 
     aside-refused : (n : ℕ) (a : Act) → Aside L (onRefusal S n a L)
     aside-refused n a = record {
@@ -509,17 +542,18 @@ module _ (S : Settings) (ok : Roomy S) (p q : ℕ) (hp : p < S .ports) (hq : q <
       go true e = wait-le M
       go false e = let v : wait M ≡ gap (lastOf L p) q (S .queues) = rw (some-spared L M (a .spared) e, a .mark) in omega arith
 
-  turn-is : (a : Act) → isTurn p a ≡ true → a ≡ turn p
+  turn-is : (a : Act) → isTurn p a ≡ true → (c : Clock) × (a ≡ turn c p)
   turn-is (arrive r h) i = absurd (true≢false (sym i))
   turn-is (stitch r) i = absurd (true≢false (sym i))
   turn-is (prefetch r t) i = absurd (true≢false (sym i))
   turn-is (credit r t m) i = absurd (true≢false (sym i))
   turn-is (mapTo d r) i = absurd (true≢false (sym i))
-  turn-is (turn r) i = ap turn (eqb-yes r p i)
+  turn-is (turn c r) i = (c, ap (turn c) (eqb-yes r p i))
   turn-is (ready r) i = absurd (true≢false (sym i))
   turn-is (whereIs y) i = absurd (true≢false (sym i))
   turn-is (clear r) i = absurd (true≢false (sym i))
   turn-is (report r) i = absurd (true≢false (sym i))
+  turn-is (bucket r b) i = absurd (true≢false (sym i))
 
   -- ---- the course of the wait
 
@@ -531,11 +565,11 @@ module _ (S : Settings) (ok : Roomy S) (p q : ℕ) (hp : p < S .ports) (hq : q <
   waits-move d k n L s w a = go (isTurn p a) refl
     where
       at-turn : isTurn p a ≡ true → After d k n L s w (step S L a) → Does S (Waits d k) (isChance S p q) (Leaving S p q k) n L a
-      at-turn i (left e) = ends (record { a-turn = turn-is a i; it-leaves = e })
+      at-turn i (left e) = ends (record { clock = turn-is a i .0; a-turn = turn-is a i .1; it-leaves = e })
       at-turn i (nearer m h v) = nears m (rw i h) v
 
       go : (b : Bool) → isTurn p a ≡ b → Does S (Waits d k) (isChance S p q) (Leaving S p q k) n L a
-      go true i = at-turn i (subst (λ (b : Act). After d k n L s w (step S L b)) (sym (turn-is a i)) (our-turn d k n L s w))
+      go true i = at-turn i (subst (λ (b : Act). After d k n L s w (step S L b)) (sym (turn-is a i .1)) (our-turn d k n L s w (turn-is a i .0)))
       go false i =
           let o = aside-step L s a i in
           nears n (rw i (omega arith)) (go-on d k n n L (step S L a .1) (o .spared) w (omega (arith, wait-aside L (step S L a .1) o)))

@@ -15,7 +15,8 @@ use Rattle.ledger.specs.Ledger.{owner, Packet, bare, recorded, Place, fr
 use Rattle.ledger.specs.Ledger.{move, mapped, change, Place·In, kindIn, queueIn}
 use Rattle.ledger.specs.Ready.{readyWord, pick}
 use Rattle.ledger.specs.Calls.{Act, arrive, stitch, prefetch, credit, mapTo, turn, ready, whereIs, Reply, refused, idle, isEmpty, firstOf}
-use Rattle.ledger.specs.Calls.{clear, report, stitchRecord, arriving, arrived, served, serve, rules, result, step, run, onRefusal}
+use Rattle.ledger.specs.Buckets.{Clock}
+use Rattle.ledger.specs.Calls.{clear, report, bucket, stitchRecord, arriving, arrived, served, serve, rules, result, step, run, onRefusal}
 use Rattle.ledger.specs.Desk.{Desk, has, Call, setup, act, desk, answersOf, SetupsRefused}
 use Rattle.ledger.specs.Sound.{Orderly, Roomy}
 use Rattle.ledger.specs.Order.{samePlace, Movement, stays, moves, movement, cameBy, leftBy, cameTo, leftFrom, idsAt}
@@ -24,6 +25,7 @@ use Rattle.ledger.proofs.Header.{dest-mapped}
 use Rattle.ledger.proofs.Tests.{true≢false, leb-no, eqb-yes, eqb-is, and-left, and-right}
 use Rattle.ledger.proofs.Lists.{cons-form}
 use Rattle.ledger.proofs.Places.{Node}
+use Rattle.ledger.proofs.Buckets.{ticked-lists}
 use Rattle.ledger.proofs.Keep.{some-queue, first-fits, first-node, from-moved, to-moved, else-moved}
 use Rattle.ledger.proofs.Passes.{admits}
 use Rattle.ledger.proofs.Steps.{picked-some, keep-step, stepped, refused-lists}
@@ -122,15 +124,16 @@ module _ (S : Settings) (ok : Roomy S) (L : Ledger) (s : Orderly S L) where
   unmoved : Moved stays L
   unmoved u hu = line-same (idsAt S L u)
 
-  served-moved : (p q : ℕ) → p < S .ports → q < S .queues → isEmpty (listAt S L (prefetched p q)) ≡ false
-      → Moved (movement (turn p) (serve S L p q .0)) (serve S L p q .1)
+  served-moved : (c : Clock) (p q : ℕ) → p < S .ports → q < S .queues → isEmpty (listAt S L (prefetched p q)) ≡ false
+      → Moved (movement (turn c p) (serve S L c p q .0)) (serve S L c p q .1)
   unfolding served change
-  served-moved p q hp hq e =
+  served-moved c p q hp hq e =
       let v : Place = prefetched p q in
       let k : Packet = firstOf S L v in
       let n = first-node S ok L s v (hp, hq) e in
-      subst (λ (t : ℕ). Moved (moves (k .node) (prefetched p t) (free (owner (k .node)))) (served S L p q k)) (sym (first-fits S ok L s v (hp, hq) e .1))
-      (moved v (free (owner (k .node))) (hp, hq) (n .home, some-queue S ok L s) e (λ i. let z : _≡_ {A = ℕ} 0 1 = cc in omega arith) (bare (k .node)) refl)
+      rw (ticked-lists c p k (served S L p q k))
+      (subst (λ (t : ℕ). Moved (moves (k .node) (prefetched p t) (free (owner (k .node)))) (served S L p q k)) (sym (first-fits S ok L s v (hp, hq) e .1))
+      (moved v (free (owner (k .node))) (hp, hq) (n .home, some-queue S ok L s) e (λ i. let z : _≡_ {A = ℕ} 0 1 = cc in omega arith) (bare (k .node)) refl))
 
   result-moved : (a : Act) → Clear (rules S L a) → Moved (movement a (result S L a .0)) (result S L a .1)
   result-moved (arrive p h) c =
@@ -158,19 +161,20 @@ module _ (S : Settings) (ok : Roomy S) (L : Ledger) (s : Orderly S L) where
       moved (egress p q) (prefetched p q) (hp, hq) (hp, hq) (c .1 .1 .0) (λ i. let z : _≡_ {A = ℕ} 0 1 = cc in omega arith) (firstOf S L (egress p q)) refl
   result-moved (credit p q n) c = unfold change in unmoved
   result-moved (mapTo d p) c = unfold change in unmoved
-  result-moved (turn p) c = go (eqb (readyWord S L p) 0) (picked-some S ok L s p (leb-no (S .ports) p (c .0)))
+  result-moved (turn c′ p) c = go (eqb (readyWord S L p) 0) (picked-some S ok L s p (leb-no (S .ports) p (c .0)))
     where
       t : ℕ
       t = pick (lastOf L p) (readyWord S L p)
 
       go : (b : Bool) → (b ≡ false → (t < S .queues) × (isEmpty (listAt S L (prefetched p t)) ≡ false))
-          → Moved (movement (turn p) ((cond b (idle, L) (serve S L p t)) .0)) ((cond b (idle, L) (serve S L p t)) .1)
+          → Moved (movement (turn c′ p) ((cond b (idle, L) (serve S L c′ p t)) .0)) ((cond b (idle, L) (serve S L c′ p t)) .1)
       go true f = unmoved
-      go false f = served-moved p t (leb-no (S .ports) p (c .0)) (f refl .0) (f refl .1)
+      go false f = served-moved c′ p t (leb-no (S .ports) p (c .0)) (f refl .0) (f refl .1)
   result-moved (ready p) c = unmoved
   result-moved (whereIs y) c = unmoved
   result-moved (clear p) c = unfold change in unmoved
   result-moved (report p) c = unmoved
+  result-moved (bucket p b) c = unmoved
 
   -- a refusal names no node
   refused-stays : (a : Act) (n : ℕ) → movement a (refused n) ≡ stays
@@ -179,11 +183,12 @@ module _ (S : Settings) (ok : Roomy S) (L : Ledger) (s : Orderly S L) where
   refused-stays (prefetch p q) n = refl
   refused-stays (credit p q m) n = refl
   refused-stays (mapTo d p) n = refl
-  refused-stays (turn p) n = refl
+  refused-stays (turn c p) n = refl
   refused-stays (ready p) n = refl
   refused-stays (whereIs y) n = refl
   refused-stays (clear p) n = refl
   refused-stays (report p) n = refl
+  refused-stays (bucket p b) n = refl
 
   refused-moved : (a : Act) (n : ℕ) → Moved (movement a (refused n)) (onRefusal S n a L)
   refused-moved a n = rw (refused-stays a n, refused-lists S n a L) unmoved

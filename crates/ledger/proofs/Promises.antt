@@ -16,7 +16,8 @@ use Rattle.ledger.specs.Ledger.{halted, markOf, start, change, Place·In
 use Rattle.ledger.specs.Ready.{isReady, wordOf, countOf, readyWord, pick}
 use Rattle.ledger.specs.Calls.{Act, arrive, stitch, prefetch, credit, mapTo, turn, ready, whereIs, Side, inside, outside, Reply, refused, done}
 use Rattle.ledger.specs.Calls.{entry, idle, leaves, word, isRefused, sideOf, noPort, isEmpty, firstOf, arriving, lastRules, arrived, served}
-use Rattle.ledger.specs.Calls.{clear, report, isArrival, serve, rules, result, step, onRefusal}
+use Rattle.ledger.specs.Buckets.{Clock}
+use Rattle.ledger.specs.Calls.{clear, report, bucket, isArrival, serve, rules, result, step, onRefusal}
 use Rattle.ledger.specs.Halt.{halts, heldUp, TurnedAway}
 use Rattle.ledger.specs.Desk.{Desk, none, has, Call, setup, act, isArrivalCall, setupRules, desk, after}
 use Rattle.ledger.specs.Sound.{All, OwnPort, Proper, Orderly, Roomy, Sound}
@@ -40,15 +41,16 @@ result-given S L (stitch p) = refl
 result-given S L (prefetch p q) = refl
 result-given S L (credit p q n) = refl
 result-given S L (mapTo d p) = refl
-result-given S L (turn p) = go (eqb (readyWord S L p) 0)
+result-given S L (turn c p) = go (eqb (readyWord S L p) 0)
   where
-    go : (b : Bool) → isRefused ((cond b (idle, L) (serve S L p (pick (lastOf L p) (readyWord S L p)))) .0) ≡ false
+    go : (b : Bool) → isRefused ((cond b (idle, L) (serve S L c p (pick (lastOf L p) (readyWord S L p)))) .0) ≡ false
     go true = refl
     go false = refl
 result-given S L (ready p) = refl
 result-given S L (whereIs y) = refl
 result-given S L (clear p) = refl
 result-given S L (report p) = refl
+result-given S L (bucket p b) = refl
 
 pub refusal-leaves : (S : Settings) (L : Ledger) (a : Act) (n : ℕ) → step S L a .0 ≡ refused n → step S L a .1 ≡ onRefusal S n a L
 refusal-leaves S L a n =
@@ -79,14 +81,15 @@ refusal-keeps-desk n (has S L) (act a) other = λ e. ap (has S) (refusal-keeps S
 
 -- ---- with nothing ready a turn is idle and nothing changes; else it isn't idle
 
-pub idle-keeps : (S : Settings) (L : Ledger) (p : ℕ) → p < S .ports
-    → ((readyWord S L p ≡ 0) × (step S L (turn p) ≡ (idle, L)))
-    ⊎ ((readyWord S L p ≢ 0) × (step S L (turn p) ≡ serve S L p (pick (lastOf L p) (readyWord S L p))))
-idle-keeps S L p hp = rw (leb-not (S .ports) p hp) (go (eqb (readyWord S L p) 0) refl)
+pub idle-keeps : (S : Settings) (L : Ledger) (c : Clock) (p : ℕ) → p < S .ports
+    → ((readyWord S L p ≡ 0) × (step S L (turn c p) ≡ (idle, L)))
+    ⊎ ((readyWord S L p ≢ 0) × (step S L (turn c p) ≡ serve S L c p (pick (lastOf L p) (readyWord S L p))))
+idle-keeps S L c p hp = rw (leb-not (S .ports) p hp) (go (eqb (readyWord S L p) 0) refl)
   where
     go : (b : Bool) → eqb (readyWord S L p) 0 ≡ b
-        → ((readyWord S L p ≡ 0) × (cond b (idle, L) (serve S L p (pick (lastOf L p) (readyWord S L p))) ≡ (idle, L)))
-        ⊎ ((readyWord S L p ≢ 0) × (cond b (idle, L) (serve S L p (pick (lastOf L p) (readyWord S L p))) ≡ serve S L p (pick (lastOf L p) (readyWord S L p))))
+        → ((readyWord S L p ≡ 0) × (cond b (idle, L) (serve S L c p (pick (lastOf L p) (readyWord S L p))) ≡ (idle, L)))
+        ⊎ ((readyWord S L p ≢ 0)
+        × (cond b (idle, L) (serve S L c p (pick (lastOf L p) (readyWord S L p))) ≡ serve S L c p (pick (lastOf L p) (readyWord S L p))))
     go true e = inl (eqb-yes (readyWord S L p) 0 e, refl)
     go false e = inr (eqb-no (readyWord S L p) 0 e, refl)
 
@@ -99,10 +102,10 @@ pub record Sends (S : Settings) (L : Ledger) (p : ℕ) (k : Packet) (t : Side) :
   pub oldest : firstOf S L (prefetched p queue) ≡ k
   pub side : sideOf queue ≡ t
 
-pub turn-sends : (S : Settings) → Roomy S → (L : Ledger) → Orderly S L → (p : ℕ) (k : Packet) (t : Side)
-    → step S L (turn p) .0 ≡ leaves k t → Sends S L p k t
-turn-sends S ok L s p k t =
-    stepped S L (turn p) (λ out. out .0 ≡ leaves k t → Sends S L p k t)
+pub turn-sends : (S : Settings) → Roomy S → (L : Ledger) → Orderly S L → (c : Clock) (p : ℕ) (k : Packet) (t : Side)
+    → step S L (turn c p) .0 ≡ leaves k t → Sends S L p k t
+turn-sends S ok L s c p k t =
+    stepped S L (turn c p) (λ out. out .0 ≡ leaves k t → Sends S L p k t)
     (λ n i. absurd (let z : _≡_ {A = ℕ} 0 1 = cc in omega arith))
     (λ c. let hp = leb-no (S .ports) p (c .0) in go hp (eqb (readyWord S L p) 0) (picked-some S ok L s p hp))
   where
@@ -110,15 +113,15 @@ turn-sends S ok L s p k t =
     q = pick (lastOf L p) (readyWord S L p)
 
     go : p < S .ports → (b : Bool) → (b ≡ false → (q < S .queues) × (isEmpty (listAt S L (prefetched p q)) ≡ false))
-        → cond b (idle, L) (serve S L p q) .0 ≡ leaves k t → Sends S L p k t
+        → cond b (idle, L) (serve S L c p q) .0 ≡ leaves k t → Sends S L p k t
     go hp true f i = absurd (let z : _≡_ {A = ℕ} 0 1 = cc in omega arith)
     go hp false f i = record { queue = q; slots = (hp, f refl .0); some = f refl .1; oldest = cc; side = cc }
 
 -- a packet of queue 0 leaves inside, any other outside
-pub inside-outside : (S : Settings) → Roomy S → (L : Ledger) → Orderly S L → (p : ℕ) (k : Packet) (t : Side)
-    → step S L (turn p) .0 ≡ leaves k t → (k .queue ≡ 0 → t ≡ inside) × (0 < k .queue → t ≡ outside)
-inside-outside S ok L s p k t i =
-    let o = turn-sends S ok L s p k t i in
+pub inside-outside : (S : Settings) → Roomy S → (L : Ledger) → Orderly S L → (c : Clock) (p : ℕ) (k : Packet) (t : Side)
+    → step S L (turn c p) .0 ≡ leaves k t → (k .queue ≡ 0 → t ≡ inside) × (0 < k .queue → t ≡ outside)
+inside-outside S ok L s c p k t i =
+    let o = turn-sends S ok L s c p k t i in
     let own : k .queue ≡ o .queue = ap (λ (j : Packet). j .queue) (sym (o .oldest)) ∙ first-fits S ok L s (prefetched p (o .queue)) (o .slots) (o .some) .1 in
     subst (λ (u : Side). (k .queue ≡ 0 → u ≡ inside) × (0 < k .queue → u ≡ outside)) (o .side)
     (subst (λ (n : ℕ). (n ≡ 0 → sideOf (o .queue) ≡ inside) × (0 < n → sideOf (o .queue) ≡ outside)) (sym own) (sides (o .queue)))

@@ -16,7 +16,8 @@ use Rattle.ledger.specs.Ledger.{owner, isNode, Packet, bare, recorded, P
 use Rattle.ledger.specs.Ledger.{lastOf, mapOf, pop, move, mapped, change, Place·In}
 use Rattle.ledger.specs.Ready.{bit, readyWord, pick}
 use Rattle.ledger.specs.Calls.{Act, arrive, stitch, prefetch, credit, mapTo, turn, ready, whereIs, Side, Reply, refused, idle, leaves}
-use Rattle.ledger.specs.Calls.{clear, report, stitched, isEmpty, firstOf, stitchRecord, arriving, arrived, served, serve, rules, result, step}
+use Rattle.ledger.specs.Buckets.{Clock}
+use Rattle.ledger.specs.Calls.{clear, report, bucket, stitched, isEmpty, firstOf, stitchRecord, arriving, arrived, served, serve, rules, result, step}
 use Rattle.ledger.specs.Calls.{run, onRefusal}
 use Rattle.ledger.specs.Desk.{Desk, has, Call, setup, act, desk, afterCalls, answersOf, SetupsRefused}
 use Rattle.ledger.specs.Sound.{All, Everywhere, sum, weigh, one, Proper, Orderly, Roomy}
@@ -28,6 +29,7 @@ use Rattle.ledger.proofs.Lists.{everywhere-pop, everywhere-push}
 use Rattle.ledger.proofs.Places.{place-number, bit-le}
 use Rattle.ledger.proofs.Keep.{some-queue, len, first-fits, first-node}
 use Rattle.ledger.proofs.Passes.{admits}
+use Rattle.ledger.proofs.Buckets.{ticked-lists}
 use Rattle.ledger.proofs.Steps.{picked-some, keep-step, keep-run, stepped, refused-lists}
 use Rattle.ledger.proofs.Order.{node-small}
 use Rattle.ledger.proofs.Promises.{turn-sends}
@@ -178,12 +180,13 @@ module _ (S : Settings) (ok : Roomy S) where
     nothing-in : (N : Ledger) → Holds known N → Holds (known ++ []) N
     nothing-in N h = rw (append-nil known) h
 
-    served-holds : (p q : ℕ) → p < S .ports → q < S .queues → isEmpty (listAt S L (prefetched p q)) ≡ false → Holds known (serve S L p q .1)
+    served-holds : (c : Clock) (p q : ℕ) → p < S .ports → q < S .queues → isEmpty (listAt S L (prefetched p q)) ≡ false → Holds known (serve S L c p q .1)
     unfolding served change
-    served-holds p q hp hq some =
+    served-holds c p q hp hq some =
         let k : Packet = firstOf S L (prefetched p q) in
-        moved (prefetched p q) (free (owner (k .node))) (hp, hq) (first-node S ok L s (prefetched p q) (hp, hq) some .home, some-queue S ok L s)
-        (bare (k .node)) (λ b. absurd (true≢false b))
+        rw (ticked-lists c p k (served S L p q k))
+        (moved (prefetched p q) (free (owner (k .node))) (hp, hq) (first-node S ok L s (prefetched p q) (hp, hq) some .home, some-queue S ok L s)
+        (bare (k .node)) (λ b. absurd (true≢false b)))
 
     result-holds : (a : Act) → Clear (rules S L a) → Holds (known ++ broughtBy S a (result S L a .0)) (result S L a .1)
     result-holds (arrive p h) c =
@@ -207,19 +210,20 @@ module _ (S : Settings) (ok : Roomy S) where
         (moved (egress p q) (prefetched p q) v-in v-in (firstOf S L (egress p q)) (λ z. first-latest (egress p q) v-in (c .1 .1 .0) refl))
     result-holds (credit p q n) c = nothing-in (result S L (credit p q n) .1) (unfold change in e)
     result-holds (mapTo d p) c = nothing-in (result S L (mapTo d p) .1) (unfold change in e)
-    result-holds (turn p) c = go (eqb (readyWord S L p) 0) (picked-some S ok L s p (leb-no (S .ports) p (c .0)))
+    result-holds (turn c′ p) c = go (eqb (readyWord S L p) 0) (picked-some S ok L s p (leb-no (S .ports) p (c .0)))
       where
         t : ℕ
         t = pick (lastOf L p) (readyWord S L p)
 
         go : (z : Bool) → (z ≡ false → (t < S .queues) × (isEmpty (listAt S L (prefetched p t)) ≡ false))
-            → Holds (known ++ []) (cond z (idle, L) (serve S L p t) .1)
+            → Holds (known ++ []) (cond z (idle, L) (serve S L c′ p t) .1)
         go true f = nothing-in L e
-        go false f = nothing-in (serve S L p t .1) (served-holds p t (leb-no (S .ports) p (c .0)) (f refl .0) (f refl .1))
+        go false f = nothing-in (serve S L c′ p t .1) (served-holds c′ p t (leb-no (S .ports) p (c .0)) (f refl .0) (f refl .1))
     result-holds (ready p) c = nothing-in L e
     result-holds (whereIs y) c = nothing-in L e
     result-holds (clear p) c = nothing-in (result S L (clear p) .1) (unfold change in e)
     result-holds (report p) c = nothing-in L e
+    result-holds (bucket p b) c = nothing-in L e
 
     -- a refusal brings nothing in
     refused-none : (a : Act) (n : ℕ) → broughtBy S a (refused n) ≡ []
@@ -228,11 +232,12 @@ module _ (S : Settings) (ok : Roomy S) where
     refused-none (prefetch p q) n = refl
     refused-none (credit p q m) n = refl
     refused-none (mapTo d p) n = refl
-    refused-none (turn p) n = refl
+    refused-none (turn c p) n = refl
     refused-none (ready p) n = refl
     refused-none (whereIs y) n = refl
     refused-none (clear p) n = refl
     refused-none (report p) n = refl
+    refused-none (bucket p b) n = refl
 
     refused-holds : (a : Act) (n : ℕ) → Holds (known ++ broughtBy S a (refused n)) (onRefusal S n a L)
     refused-holds a n = rw (refused-none a n, append-nil known, refused-lists S n a L) e
@@ -242,9 +247,9 @@ module _ (S : Settings) (ok : Roomy S) where
         stepped S L a (λ out. Holds (known ++ broughtBy S a (out .0)) (out .1)) (refused-holds a) (result-holds a)
 
     -- what a turn sends is the oldest of some slots, so the latest of its node
-    sends-latest : (p : ℕ) (k : Packet) (t : Side) → step S L (turn p) .0 ≡ leaves k t → Latest k known
-    sends-latest p k t i =
-        let o = turn-sends S ok L s p k t i in
+    sends-latest : (c : Clock) (p : ℕ) (k : Packet) (t : Side) → step S L (turn c p) .0 ≡ leaves k t → Latest k known
+    sends-latest c p k t i =
+        let o = turn-sends S ok L s c p k t i in
         subst (λ (j : Packet). Latest j known) (o .oldest) (first-latest (prefetched p (o .queue)) (o .slots) (o .some) refl)
 
     -- what a stitch tells of is the oldest in ingress
@@ -294,9 +299,9 @@ module _ {X : Type 0} (call : X → Call → Reply × X) (shows : X → Desk) (l
         ledger = N;
         shown = shown;
         holds = held-all S (λ k. Latest k known) 0 (N .lists) (λ i h. rw (zero-add i) (later .holds i h));
-        sends = λ p k t i.
-            sends-latest S ok known N (keep-run S ok L s (actsIn cs)) later p k t
-            (sym (act-answer call shows long faithful S (afterCalls call x cs) N shown (turn p)) ∙ i);
+        sends = λ c p k t i.
+            sends-latest S ok known N (keep-run S ok L s (actsIn cs)) later c p k t
+            (sym (act-answer call shows long faithful S (afterCalls call x cs) N shown (turn c p)) ∙ i);
         tells = λ p b i.
             stitch-tells S ok known N (keep-run S ok L s (actsIn cs)) later p b
             (sym (act-answer call shows long faithful S (afterCalls call x cs) N shown (stitch p)) ∙ i);

@@ -201,8 +201,8 @@ module _ (S : Settings) (h : inRows S ≡ true) where
 -- ---- the bytes of a state
 
 -- four ports of 24 queues, in either edition: sixteen bytes of settings, 4,096 of the map, four last served queues, four marks,
--- 92 cells of 4, 200 lists of 8, and 52 for each node index
-pub size-ten : (S : Settings) → S .ports ≡ 4 → S .queues ≡ 24 → size S ≡ 6088 + 52 * S .nodes
+-- 92 cells of 4, 132 buckets of 4, 200 lists of 8, and 52 for each node index
+pub size-ten : (S : Settings) → S .ports ≡ 4 → S .queues ≡ 24 → size S ≡ 6616 + 52 * S .nodes
 unfolding size row
 size-ten S p q = rw (p, q) (omega arith)
 
@@ -212,7 +212,7 @@ size-ten-bound S p q = omega (arith, size-ten S p q)
 
 -- what a port takes of them, for so many queues and nodes
 abbrev pub portSize : ℕ → ℕ → ℕ
-portSize q n = 14 + (20 * q + 13 * n)
+portSize q n = 146 + (20 * q + 13 * n)
 
 pub size-is : (S : Settings) → 1 ≤ S .queues → size S ≡ 4112 + S .ports * portSize (S .queues) (S .nodes)
 unfolding size row
@@ -221,7 +221,7 @@ size-is S some =
     ap (λ (q : ℕ). S .ports * q) (let e : S .queues ≡ suc (S .queues - 1) = omega arith in e) ∙ mul-suc (S .ports) (S .queues - 1) in
     omega (
       arith,
-      mul-add (S .ports) 14 (20 * S .queues + 13 * S .nodes),
+      mul-add (S .ports) 146 (20 * S .queues + 13 * S .nodes),
       mul-add (S .ports) (20 * S .queues) (13 * S .nodes),
       mul-add (S .ports) 2 (2 * S .queues),
       mul-left-comm (S .ports) 20 (S .queues),
@@ -243,7 +243,7 @@ size-bound S some =
     omega (
       arith,
       size-is S some,
-      mul-add (S .ports) 14 (20 * S .queues + 13 * S .nodes),
+      mul-add (S .ports) 146 (20 * S .queues + 13 * S .nodes),
       mul-add (S .ports) (20 * S .queues) (13 * S .nodes),
       mul-left-comm (S .ports) 20 (S .queues),
       mul-left-comm (S .ports) 13 (S .nodes),

@@ -12,7 +12,7 @@ use lib.Seq.{getD-append-add}
 use lib.Dec.{eqb}
 use Rattle.ledger.specs.Settings.{Settings, inRows, row}
 use Rattle.ledger.specs.Ledger.{owner, index, entryId, isNode, Packet, bare, Place, free, ingress, egress, prefetched, column, place#, placeOf}
-use Rattle.ledger.specs.Ledger.{cell, creditAt, listAt, bares, startLists, start, arrival, outward, last, mapped, halted, markOf, Column, tall, bound}
+use Rattle.ledger.specs.Ledger.{cell, creditAt, listAt, bares, startLists, start, arrival, outward, last, mapped, halted, buckets, markOf, Column, tall, bound}
 use Rattle.ledger.specs.Ledger.{starting}
 use Rattle.ledger.specs.Ready.{bit}
 use Rattle.ledger.specs.Halt.{halts, isMark}
@@ -140,6 +140,7 @@ module _ (S : Settings) where
   starts-in r last = omega (arith, r .some-queues)
   starts-in r mapped = omega (arith, r .some-ports)
   starts-in r halted = omega arith
+  starts-in r buckets = omega arith
 
   -- ---- what holds of the free nodes is all that is to be shown
 

@@ -11,16 +11,18 @@ use Rattle.ledger.specs.Settings.{Settings}
 use Rattle.ledger.specs.Rules.{Rule, refuse, guard, Clear}
 use Rattle.ledger.specs.Header.{form, fieldsOf}
 use Rattle.ledger.specs.Ledger.{owner, Packet, bare, recorded, free, ingress, egress, prefetched, Ledger, listAt, arrivalOf, outwardOf, lastOf}
-use Rattle.ledger.specs.Ledger.{mapOf, markOf, move, change, putCredit, arrival, outward, last, mapped, halted, Column, Place·In}
+use Rattle.ledger.specs.Ledger.{mapOf, markOf, move, change, putCredit, arrival, outward, last, mapped, halted, buckets, Column, Place·In}
+use Rattle.ledger.specs.Buckets.{Clock}
 use Rattle.ledger.specs.Ready.{covered, isReady, wordOf, readyWord, pick}
 use Rattle.ledger.specs.Calls.{Act, arrive, stitch, prefetch, credit, mapTo, turn, ready, whereIs, refused, idle, isEmpty, firstOf, arriving}
-use Rattle.ledger.specs.Calls.{clear, report, isArrival}
+use Rattle.ledger.specs.Calls.{clear, report, bucket, isArrival}
 use Rattle.ledger.specs.Calls.{arrived, served, serve, turned, rules, result, step, run, markedFor, onRefusal, Reply}
 use Rattle.ledger.specs.Sound.{Proper, owes, Orderly, Marked, Roomy}
 use Rattle.ledger.proofs.Tests.{leb-no, ltb-no}
 use Rattle.ledger.proofs.Places.{credit-in}
 use Rattle.ledger.proofs.Keep.{some-queue, first-fits, first-node, keep-moved, keep-traded, keep-outward, lowered, raised, keep-put}
 use Rattle.ledger.proofs.Halt.{halts-mark, no-mark, marks-halts, marked-by, marked-lists, marked-numbers, marked-orderly, put-marked}
+use Rattle.ledger.proofs.Buckets.{ticked-by, ticked-orderly}
 use Rattle.ledger.proofs.Header.{fields-in, dest-mapped}
 use Rattle.ledger.proofs.Passes.{Passes, Admits, admits}
 use Rattle.ledger.proofs.Ready.{picked-ready}
@@ -51,11 +53,12 @@ module _ (S : Settings) (n : ℕ) (a : Act) (L : Ledger) where
       go (prefetch p q) = f
       go (credit p q v) = f
       go (mapTo d p) = f
-      go (turn p) = f
+      go (turn c p) = f
       go (ready p) = f
       go (whereIs y) = f
       go (clear p) = f
       go (report p) = f
+      go (bucket p b) = f
 
   pub refused-lists : onRefusal S n a L .lists ≡ L .lists
   refused-lists = refused-by (λ N. N .lists ≡ L .lists) refl (λ p. marked-lists S p n L)
@@ -77,11 +80,12 @@ module _ (S : Settings) (n : ℕ) (a : Act) (L : Ledger) where
       go (prefetch p q) i = refl
       go (credit p q v) i = refl
       go (mapTo d p) i = refl
-      go (turn p) i = refl
+      go (turn c p) i = refl
       go (ready p) i = refl
       go (whereIs y) i = refl
       go (clear p) i = refl
       go (report p) i = refl
+      go (bucket p b) i = refl
 
   refused-marked : Orderly S L → Marked S L → Marked S (onRefusal S n a L)
   refused-marked s f =
@@ -203,15 +207,18 @@ module _ (S : Settings) (roomy : Roomy S) where
         (omega (arith, credit-in S (L .numbers outward) 65535 (s .ranges .numbers-in outward) p q hp hq)) in
         keep-put S roomy _ u last (λ i. let z : _≡_ {A = ℕ} 0 1 = cc in omega arith) p q hq
 
-    keep-turned : (p w : ℕ) → p < S .ports
+    keep-turned : (t : Clock) (p w : ℕ) → p < S .ports
         → (eqb w 0 ≡ false → (pick (lastOf L p) w < S .queues) × (isEmpty (listAt S L (prefetched p (pick (lastOf L p) w))) ≡ false))
-        → Orderly S (turned S L p w .1)
-    keep-turned p w hp some = go (eqb w 0) some
+        → Orderly S (turned S L t p w .1)
+    keep-turned t p w hp some = go (eqb w 0) some
       where
         go : (b : Bool) → (b ≡ false → (pick (lastOf L p) w < S .queues) × (isEmpty (listAt S L (prefetched p (pick (lastOf L p) w))) ≡ false))
-            → Orderly S ((cond b (idle, L) (serve S L p (pick (lastOf L p) w))) .1)
+            → Orderly S ((cond b (idle, L) (serve S L t p (pick (lastOf L p) w))) .1)
         go true f = s
-        go false f = keep-served p (pick (lastOf L p) w) hp (f refl .0) (f refl .1)
+        go false f =
+            let q = pick (lastOf L p) w in
+            ticked-orderly t p (firstOf S L (prefetched p q)) (served S L p q (firstOf S L (prefetched p q))) S roomy
+            (keep-served p q hp (f refl .0) (f refl .1)) hp
 
     keep-result : (a : Act) → Clear (rules S L a) → Orderly S (result S L a .1)
     keep-result (arrive p h) c = keep-arrived p h (admits S L p h c)
@@ -221,13 +228,14 @@ module _ (S : Settings) (roomy : Roomy S) where
         (leb-no (S .slots) (length (listAt S L (prefetched p q))) (c .1 .1 .1 .0))
     keep-result (credit p q n) c = keep-outward S roomy L s p q (outwardOf S L p q + n) (ltb-no 65535 (outwardOf S L p q + n) (c .1 .1 .0))
     keep-result (mapTo d p) c = keep-put S roomy L s mapped (λ i. let z : _≡_ {A = ℕ} 0 1 = cc in omega arith) d p (leb-no (S .ports) p (c .1 .0))
-    keep-result (turn p) c =
+    keep-result (turn t p) c =
         let hp : p < S .ports = leb-no (S .ports) p (c .0) in
-        keep-turned p (readyWord S L p) hp (picked-some p hp)
+        keep-turned t p (readyWord S L p) hp (picked-some p hp)
     keep-result (ready p) c = s
     keep-result (whereIs y) c = s
     keep-result (clear p) c = keep-put S roomy L s halted (λ i. let z : _≡_ {A = ℕ} 0 1 = cc in omega arith) p 0 (omega arith)
     keep-result (report p) c = s
+    keep-result (bucket p b) c = s
 
     pub keep-step : (a : Act) → Orderly S (step S L a .1)
     keep-step a = stepped S L a (λ out. Orderly S (out .1)) (λ n. refused-orderly S n a L roomy s) (keep-result a)
@@ -239,15 +247,22 @@ module _ (S : Settings) (roomy : Roomy S) where
     result-marked (prefetch p q) f = unfold move in f
     result-marked (credit p q n) f = unfold change in f
     result-marked (mapTo d p) f = unfold change in f
-    result-marked (turn p) f = go (eqb (readyWord S L p) 0)
+    result-marked (turn t p) f = go (eqb (readyWord S L p) 0)
       where
-        go : (b : Bool) → Marked S ((cond b (idle, L) (serve S L p (pick (lastOf L p) (readyWord S L p)))) .1)
+        q : ℕ
+        q = pick (lastOf L p) (readyWord S L p)
+
+        go : (b : Bool) → Marked S ((cond b (idle, L) (serve S L t p q)) .1)
         go true = f
-        go false = unfold served change move in f
+        go false =
+            ticked-by t p (firstOf S L (prefetched p q)) (served S L p q (firstOf S L (prefetched p q))) (Marked S)
+            (unfold served change move in f)
+            (λ i v. unfold served change move in f)
     result-marked (ready p) f = f
     result-marked (whereIs y) f = f
     result-marked (clear p) f = put-marked S L p 0 no-mark f (s .shaped .numbers-long halted)
     result-marked (report p) f = f
+    result-marked (bucket p b) f = f
 
     pub keep-marked : (a : Act) → Marked S L → Marked S (step S L a .1)
     keep-marked a f = stepped S L a (λ out. Marked S (out .1)) (λ n. refused-marked S n a L s f) (λ c. result-marked a f)

@@ -90,9 +90,10 @@ module _ {X : Type 0} (call : X → Call → Reply × X) (shows : X → Desk) (l
         moment = o .moment;
         among = o .among;
         soon = omega (arith, o .soon, turns-counted p x L e first (first-refused call x cs f (o .moment)));
+        clock = o .event .clock;
         a-turn = o .is-that ∙ ap act (o .event .a-turn);
         it-leaves =
-            act-answer call shows long faithful S (afterCalls call x first) (o .found) (o .shown) (turn p)
+            act-answer call shows long faithful S (afterCalls call x first) (o .found) (o .shown) (turn (o .event .clock) p)
             ∙ ap (λ (a : Act). step S (o .found) a .0) (sym (o .event .a-turn))
             ∙ o .event .it-leaves;
         until-then = λ i l. waits-so (afterCalls call x (take i cs)) (o .until-then i l);

@@ -11,7 +11,8 @@ use Rattle.ledger.specs.Header.{widthOf, formOf, frontBits, frontBytes, 
 use Rattle.ledger.specs.Ledger.{owner, Packet, free, place#, placeOf, Ledger, arrival, halted, markOf, change, putIn, pop, start}
 use Rattle.ledger.specs.Halt.{halts, marks}
 use Rattle.ledger.specs.Calls.{Act, arrive, stitch, prefetch, credit, mapTo, turn, ready, whereIs, Side, outside, Reply, refused, entry}
-use Rattle.ledger.specs.Calls.{clear, report, stitched, idle, leaves, isRefused, sideOf, arriving, markedFor, onRefusal}
+use Rattle.ledger.specs.Buckets.{untimed}
+use Rattle.ledger.specs.Calls.{clear, report, bucket, stitched, idle, leaves, isRefused, sideOf, arriving, markedFor, onRefusal}
 use Rattle.ledger.specs.Desk.{Desk, none, has, Call, setup, act, desk, afterCalls, SetupsRefused}
 use Rattle.ledger.specs.Demand.{turnsIn, Stands, InHand, NobodyStarvesFrom}
 use Rattle.ledger.specs.Order.{idsAt, KeepsOrder, GoesAlong}
@@ -27,12 +28,12 @@ use Rattle.ledger.proofs.Promises.{Wanting, no-node, taken-in}
 module _ (S : Settings) (L : Ledger) (p q : ℕ) (hp : p < S .ports) (hq : q < S .queues) (ahead : List Packet) (k : Packet)
     (there : Stands S p q k ahead L) (hand : InHand S L p q (ahead ++ (k ∷ []))) where
   only-turns : ℕ → List Call
-  only-turns n = replicate n (act (turn p))
+  only-turns n = replicate n (act (turn untimed p))
 
   only-refused : (call : Desk → Call → Reply × Desk) (n : ℕ) (D : Desk) → SetupsRefused call D (only-turns n)
   unfolding only-turns
   only-refused call zero D = tt
-  only-refused call (suc n) D = ((λ i. absurd (true≢false (sym i))), only-refused call n (call D (act (turn p)) .1))
+  only-refused call (suc n) D = ((λ i. absurd (true≢false (sym i))), only-refused call n (call D (act (turn untimed p)) .1))
 
   all-count : (n : ℕ) → turnsIn p (only-turns n) ≡ n
   unfolding only-turns
@@ -103,11 +104,12 @@ idleTurns n D (act (stitch p)) = desk n D (act (stitch p))
 idleTurns n D (act (prefetch p q)) = desk n D (act (prefetch p q))
 idleTurns n D (act (credit p q k)) = desk n D (act (credit p q k))
 idleTurns n D (act (mapTo d p)) = desk n D (act (mapTo d p))
-idleTurns n D (act (turn p)) = (idle, D)
+idleTurns n D (act (turn c p)) = (idle, D)
 idleTurns n D (act (ready p)) = desk n D (act (ready p))
 idleTurns n D (act (whereIs y)) = desk n D (act (whereIs y))
 idleTurns n D (act (clear p)) = desk n D (act (clear p))
 idleTurns n D (act (report p)) = desk n D (act (report p))
+idleTurns n D (act (bucket p b)) = desk n D (act (bucket p b))
 
 pub never-leaves : (n : ℕ) (S : Settings) (D : Desk) (r : ℕ) → r < S .ports → (k : Packet)
     → (deeds : List Deed) → SetupsRefused (idleTurns n) D (callsOf (doneFrom (idleTurns n) (λ E. E) D deeds))
@@ -148,7 +150,7 @@ order-turned-round n k =
 
 pub sent-from-nowhere : (k : Packet) → GoesAlong (λ D c. (leaves k outside, D)) (λ D. D) two (start two) (has two (start two)) [] → ⊥
 unfolding start row placeOf
-sent-from-nowhere k g = g .sends 0 k outside refl
+sent-from-nowhere k g = g .sends untimed 0 k outside refl
 
 -- ---- pools: a desk that answers right, and whose refusals cost port 0 a node
 

@@ -3,7 +3,7 @@ use mathlib.Core.List.{List}
 use Prim.Native.Nat.{ℕ}
 use lib.ListN.{replicate}
 use Rattle.ledger.specs.Ledger.{Packet, Place, free, ingress, egress, prefetched}
-use Rattle.ledger.specs.Calls.{Side, inside, outside, Reply, refused, done, entry, stitched, idle, leaves, word, found, reported}
+use Rattle.ledger.specs.Calls.{Side, inside, outside, Reply, refused, done, entry, stitched, idle, leaves, word, found, reported, counted}
 use Rattle.ledger.specs.declared.Refusal.{Refusal}
 use Rattle.ledger.specs.declared.Refusal.the-variants.{ShortMemory, BadSetting, NoState, NoPort, NoQueue, HeaderSize, Checksum, Source}
 use Rattle.ledger.specs.declared.Refusal.the-variants.{TooShort, NoCredit, NoFreeNode, NothingThere, SlotsInUse, TooMuchCredit, NoSuchId}
@@ -25,6 +25,8 @@ use Rattle.ledger.specs.declared.Whereabouts.{Whereabouts}
 use Rattle.ledger.specs.declared.Whereabouts.the-variants as places
 use Rattle.ledger.specs.declared.Reported.{Reported}
 use Rattle.ledger.specs.declared.Reported.the-variants as reports
+use Rattle.ledger.specs.declared.Bucketed.{Bucketed}
+use Rattle.ledger.specs.declared.Bucketed.the-variants as counts
 
 -- the number of a refusal in the table; 19 to 21 and 27 are paper 02's, and 16 to 18 and 22 to 26 aren't given yet
 abbrev pub numberOf : Refusal → ℕ
@@ -102,6 +104,10 @@ abbrev pub reportReply : Reported → Reply
 reportReply (reports.Mark n) = reported n
 reportReply (reports.No r) = refused (numberOf r)
 
+abbrev pub bucketReply : Bucketed → Reply
+bucketReply (counts.Count n) = counted n
+bucketReply (counts.No r) = refused (numberOf r)
+
 -- the ten bytes beside stitch's answer: the record, or zeros where there is none
 abbrev pub recordIn : Reply → List ℕ
 recordIn (refused n) = replicate 10 0
@@ -113,3 +119,4 @@ recordIn (leaves k s) = replicate 10 0
 recordIn (word w n) = replicate 10 0
 recordIn (found v i) = replicate 10 0
 recordIn (reported n) = replicate 10 0
+recordIn (counted n) = replicate 10 0

@@ -6,12 +6,14 @@ use Prim.Native.Nat.{ℕ, zero, suc, _+_, _-_, _/_, _%_, _^_}
 use lib.ListN.{length, getD}
 use lib.Dec.{eqb, ltb, leb}
 use lib.Count.{ones}
-use Rattle.ledger.specs.Settings.{Settings, ids}
+use Rattle.ledger.specs.Settings.{Settings, ids, bucketCount}
 use Rattle.ledger.specs.Rules.{Rule, refuse, guard}
 use Rattle.ledger.specs.Header.{form, fieldsOf, arrivalRules}
 use Rattle.ledger.specs.Ledger.{owner, isNode, Packet, bare, recorded, Place, free, ingress, egress, prefetched, placeOf, Ledger, listAt}
-use Rattle.ledger.specs.Ledger.{arrival, outward, last, mapped, halted, arrivalOf, outwardOf, lastOf, mapOf, markOf, oldest, move, putIn, putCredit}
+use Rattle.ledger.specs.Ledger.{arrival, outward, last, mapped, halted, buckets, arrivalOf, outwardOf, lastOf, mapOf, markOf, bucketAt}
+use Rattle.ledger.specs.Ledger.{oldest, move, putIn, putCredit}
 use Rattle.ledger.specs.Halt.{marks, heldUp}
+use Rattle.ledger.specs.Buckets.{Clock, untimed, at, waitOf, bucketOf, oneMore, bucket#}
 use Rattle.ledger.specs.Ready.{readyWord, pick}
 
 pub data Act : Type 0 where
@@ -20,11 +22,12 @@ pub data Act : Type 0 where
   prefetch : ℕ → ℕ → Act
   credit : ℕ → ℕ → ℕ → Act
   mapTo : ℕ → ℕ → Act
-  turn : ℕ → Act
+  turn : Clock → ℕ → Act
   ready : ℕ → Act
   whereIs : ℕ → Act
   clear : ℕ → Act
   report : ℕ → Act
+  bucket : ℕ → ℕ → Act
 
 abbrev pub isArrival : Act → Bool
 isArrival (arrive p h) = true
@@ -32,11 +35,12 @@ isArrival (stitch p) = false
 isArrival (prefetch p q) = false
 isArrival (credit p q n) = false
 isArrival (mapTo d p) = false
-isArrival (turn p) = false
+isArrival (turn c p) = false
 isArrival (ready p) = false
 isArrival (whereIs y) = false
 isArrival (clear p) = false
 isArrival (report p) = false
+isArrival (bucket p b) = false
 
 pub data Side : Type 0 where
   inside outside : Side
@@ -51,6 +55,7 @@ pub data Reply : Type 0 where
   word : ℕ → ℕ → Reply
   found : Place → ℕ → Reply
   reported : ℕ → Reply
+  counted : ℕ → Reply
 
 abbrev pub isRefused : Reply → Bool
 isRefused (refused n) = true
@@ -62,6 +67,7 @@ isRefused (leaves k s) = false
 isRefused (word w n) = false
 isRefused (found v i) = false
 isRefused (reported n) = false
+isRefused (counted n) = false
 
 -- ---- parts of the rules
 
@@ -115,12 +121,21 @@ served S L p q k =
     (putCredit arrival S (owner (k .node)) q (arrivalOf S L (owner (k .node)) q + k .price)
     (move S (prefetched p q) (free (owner (k .node))) (bare (k .node)) L)))
 
-abbrev pub serve : Settings → Ledger → ℕ → ℕ → Reply × Ledger
-serve S L p q = (leaves (firstOf S L (prefetched p q)) (sideOf q), served S L p q (firstOf S L (prefetched p q)))
+-- the wait of packet k, which a turn of port p sends, is counted in p's buckets if the turn is timed
+unfoldable pub ticked : Clock → ℕ → Packet → Ledger → Ledger
+ticked untimed p k L = L
+ticked (at time) p k L =
+    let b = bucketOf (waitOf time (k .stamp)) in
+    putIn buckets (bucket# p b) (oneMore (bucketAt L p b)) L
+
+abbrev pub serve : Settings → Ledger → Clock → ℕ → ℕ → Reply × Ledger
+serve S L c p q =
+    let k = firstOf S L (prefetched p q) in
+    (leaves k (sideOf q), ticked c p k (served S L p q k))
 
 -- with nothing ready the answer is idle and nothing changes
-abbrev pub turned : Settings → Ledger → ℕ → ℕ → Reply × Ledger
-turned S L p w = cond (eqb w 0) (idle, L) (serve S L p (pick (lastOf L p) w))
+abbrev pub turned : Settings → Ledger → Clock → ℕ → ℕ → Reply × Ledger
+turned S L c p w = cond (eqb w 0) (idle, L) (serve S L c p (pick (lastOf L p) w))
 
 -- ---- where
 
@@ -150,11 +165,12 @@ rules S L (credit p q n) =
     ∷ refuse 14 (ltb 65535 (outwardOf S L p q + n))
     ∷ []
 rules S L (mapTo d p) = refuse 15 (leb ids d) ∷ noPort S p ∷ []
-rules S L (turn p) = noPort S p ∷ []
+rules S L (turn c p) = noPort S p ∷ []
 rules S L (ready p) = noPort S p ∷ []
 rules S L (whereIs y) = refuse 15 (not (isNode S y)) ∷ []
 rules S L (clear p) = noPort S p ∷ []
 rules S L (report p) = noPort S p ∷ []
+rules S L (bucket p b) = noPort S p ∷ refuse 5 (leb bucketCount b) ∷ []
 
 -- ---- the answer and the ledger after it, where no refusal applies
 
@@ -169,13 +185,14 @@ result S L (prefetch p q) =
     (entry (k .node), move S (egress p q) (prefetched p q) k L)
 result S L (credit p q n) = (done, putCredit outward S p q (outwardOf S L p q + n) L)
 result S L (mapTo d p) = (done, putIn mapped d p L)
-result S L (turn p) = turned S L p (readyWord S L p)
+result S L (turn c p) = turned S L c p (readyWord S L p)
 result S L (ready p) = (word (readyWord S L p) (ones (readyWord S L p)), L)
 result S L (whereIs y) =
     let l = which y (L .lists) in
     (found (placeOf S l) (position y (getD (L .lists) l [])), L)
 result S L (clear p) = (done, putIn halted p 0 L)
 result S L (report p) = (reported (markOf L p), L)
+result S L (bucket p b) = (counted (bucketAt L p b), L)
 
 -- the ledger with port p marked for refusal n, if it marks the port
 unfoldable pub markedFor : Settings → ℕ → ℕ → Ledger → Ledger
@@ -188,11 +205,12 @@ onRefusal S n (stitch p) L = L
 onRefusal S n (prefetch p q) L = L
 onRefusal S n (credit p q v) L = L
 onRefusal S n (mapTo d p) L = L
-onRefusal S n (turn p) L = L
+onRefusal S n (turn c p) L = L
 onRefusal S n (ready p) L = L
 onRefusal S n (whereIs y) L = L
 onRefusal S n (clear p) L = L
 onRefusal S n (report p) L = L
+onRefusal S n (bucket p b) L = L
 
 -- one act: the answer, and the ledger after it
 abbrev pub step : Settings → Ledger → Act → Reply × Ledger

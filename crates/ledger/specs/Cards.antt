@@ -1,15 +1,16 @@
--- Paper 01, "Bench cards": the starred cards, the cases of paper 02, Q-3, Q-5, Q-6, Q-7, Q-9 and Q-12, and packets that cross from port to
--- port: a single table. The claim that they hold is that of proofs/Cards.antt. Assumes nothing.
+-- Paper 01, "Bench cards": the starred cards, the cases of paper 02, Q-3, Q-5, Q-6, Q-7, Q-9, Q-12 and Q-13, and packets that cross from
+-- port to port: a single table. The claim that they hold is that of proofs/Cards.antt. Assumes nothing.
 use mathlib.Core.Path.{_≡_}
 use mathlib.Core.List.{List, [], _∷_, _++_, map}
-use Prim.Native.Nat.{ℕ, zero, suc, _+_, _-_, _*_, _/_, _%_}
+use Prim.Native.Nat.{ℕ, zero, suc, _+_, _-_, _*_, _/_, _%_, _^_}
 use lib.ListN.{length, drop}
 use Rattle.crc.specs.Crc.{crc8}
-use Rattle.ledger.specs.Settings.{tenBytes, wide, settings, size}
-use Rattle.ledger.specs.Ledger.{Packet, free, ingress, egress, prefetched}
+use Rattle.ledger.specs.Settings.{Settings, tenBytes, wide, settings, size}
+use Rattle.ledger.specs.Ledger.{Packet, free, ingress, egress, prefetched, Ledger, buckets, putIn, start}
 use Rattle.ledger.specs.Calls.{arrive, stitch, prefetch, credit, mapTo, turn, ready, whereIs, inside, outside, Reply, refused, done, entry}
-use Rattle.ledger.specs.Calls.{clear, report, stitched, idle, leaves, word, found, reported}
-use Rattle.ledger.specs.Desk.{none, Call, setup, act, replies, after}
+use Rattle.ledger.specs.Buckets.{untimed, at, stop, bucket#}
+use Rattle.ledger.specs.Calls.{clear, report, bucket, stitched, idle, leaves, word, found, reported, counted}
+use Rattle.ledger.specs.Desk.{none, has, Call, setup, act, replies, after}
 use Rattle.ledger.specs.Rounds.{roundReply, answersIn, round, doneBy, turnAnswers}
 
 -- the nine bytes before the checksum, timestamp and transaction 0; flags: 2 poisoned, 1 the reserved bit
@@ -48,9 +49,9 @@ all-twice q (suc n) = twice q ++ all-twice (suc q) n
 -- n turns of port 0, and which queues are ready after each
 abbrev pub turns : ℕ → List Call
 turns zero = []
-turns (suc n) = act (turn 0) ∷ act (ready 0) ∷ turns n
+turns (suc n) = act (turn untimed 0) ∷ act (ready 0) ∷ turns n
 
--- the queue by which a packet leaves, or the ready word; 100 for any other reply
+-- the queue by which a packet leaves, the ready word, or what a bucket holds; 100 for any other reply
 abbrev pub seen : Reply → ℕ
 seen (refused n) = 100
 seen done = 100
@@ -61,14 +62,17 @@ seen (leaves k s) = k .queue
 seen (word w n) = w
 seen (found v i) = 100
 seen (reported n) = 100
+seen (counted n) = n
 
 -- A memory of zero bytes, which is no switch state, is called so. A card says how many bytes are lent and what the replies are;
--- or, with 65,536 lent and after so many replies, by which queues packets leave and which queues are ready then;
--- or, after calls, what a round into a room answers and leaves in it.
+-- or, with 65,536 lent and after so many replies, by which queues packets leave, which queues are ready then and what buckets hold;
+-- or, after calls, what a round into a room answers and leaves in it;
+-- or, from a ledger to which no calls lead in a lifetime, what the replies are.
 pub data Card : Type 0 where
   lent : ℕ → List Call → List Reply → Card
   serves : List Call → ℕ → List ℕ → Card
   rounds : List Call → List ℕ → Reply → List ℕ → Card
+  from : Settings → Ledger → List Call → List Reply → Card
 
 -- 65,536 bytes are lent
 abbrev pub says : List Call → List Reply → Card
@@ -81,6 +85,7 @@ Holds (rounds calls room reply told) =
     let D = after 65536 none calls in
     let cs = doneBy D (round (length room)) .calls in
     _≡_ {A = Reply × List ℕ} (roundReply D (length room), answersIn (turnAnswers cs (replies 65536 D cs)) room) (reply, told)
+Holds (from S L calls rs) = replies 65536 (has S L) calls ≡ rs
 
 abbrev pub twelve : List ℕ
 twelve = 0 ∷ 0 ∷ 0x30 ∷ 0 ∷ 0 ∷ 0 ∷ 0 ∷ 0 ∷ 0 ∷ 0x72 ∷ []
@@ -110,7 +115,7 @@ plain-record q len = stitched (0 ∷ 0 ∷ len / 256 ∷ len % 256 ∷ q ∷ 0 �
 abbrev pub costs : ℕ → ℕ → Card
 costs len n =
     says (setUp 1 64 1 (n - 1) ∷ act (arrive 0 (header 0 0 1 len)) ∷ setUp 1 64 1 n ∷ (brought 1 len
-    ++ (act (credit 0 1 (n - 1)) ∷ act (turn 0) ∷ act (credit 0 1 1) ∷ act (turn 0) ∷ [])))
+    ++ (act (credit 0 1 (n - 1)) ∷ act (turn untimed 0) ∷ act (credit 0 1 1) ∷ act (turn untimed 0) ∷ [])))
     (done ∷ refused 10 ∷ done ∷ entry 0 ∷ plain-record 1 len ∷ entry 0
     ∷ done ∷ idle ∷ done ∷ leaves (plain 1 len n) outside ∷ [])
 
@@ -145,7 +150,7 @@ crossing =
     says (setUp 4 64 2 200 ∷ act (mapTo 3 2) ∷ act (arrive 1 across) ∷ act (arrive 1 across) ∷ act (whereIs 2049) ∷ act (whereIs 2051)
     ∷ act (stitch 1) ∷ act (stitch 1) ∷ act (whereIs 2049) ∷ act (prefetch 2 5) ∷ act (prefetch 2 5) ∷ act (whereIs 2049) ∷ act (ready 2)
     ∷ act (arrive 1 (header 3 1 0 12)) ∷ act (stitch 1) ∷ act (prefetch 2 0) ∷ act (credit 2 5 3) ∷ act (ready 2) ∷ act (ready 1)
-    ∷ act (turn 2) ∷ act (turn 2) ∷ act (ready 2) ∷ act (turn 2) ∷ act (whereIs 2048) ∷ [])
+    ∷ act (turn untimed 2) ∷ act (turn untimed 2) ∷ act (ready 2) ∷ act (turn untimed 2) ∷ act (whereIs 2048) ∷ [])
     (done ∷ done ∷ entry 2048 ∷ entry 2049 ∷ found (ingress 1) 1 ∷ found (free 1) 1
     ∷ stitched (8 ∷ 0 ∷ 0 ∷ 100 ∷ 5 ∷ 2 ∷ 1 ∷ 2 ∷ 3 ∷ 4 ∷ []) ∷ stitched (8 ∷ 1 ∷ 0 ∷ 100 ∷ 5 ∷ 2 ∷ 1 ∷ 2 ∷ 3 ∷ 4 ∷ [])
     ∷ found (egress 2 5) 1 ∷ entry 2048 ∷ entry 2049 ∷ found (prefetched 2 5) 1 ∷ word 0 0
@@ -180,7 +185,7 @@ abbrev pub wide-arrivals : Card
 wide-arrivals =
     says (setUpWide 5 17 1 1 ∷ act (mapTo 7 3) ∷ act (arrive 4 twelve) ∷ act (arrive 4 (wideHeader 7 4 16 14 129))
     ∷ act (arrive 4 (wideHeader 7 7 16 14 128)) ∷ act (arrive 4 (wideHeader 7 4 16 13 128)) ∷ act (arrive 4 (wideHeader 7 4 17 14 128))
-    ∷ act (clear 4) ∷ act (arrive 4 (wideHeader 7 4 16 14 128)) ∷ act (stitch 4) ∷ act (prefetch 3 16) ∷ act (credit 3 16 1) ∷ act (turn 3) ∷ [])
+    ∷ act (clear 4) ∷ act (arrive 4 (wideHeader 7 4 16 14 128)) ∷ act (stitch 4) ∷ act (prefetch 3 16) ∷ act (credit 3 16 1) ∷ act (turn untimed 3) ∷ [])
     (done ∷ done ∷ refused 6 ∷ refused 20 ∷ refused 8 ∷ refused 9 ∷ refused 19
     ∷ done ∷ entry 8192 ∷ stitched (32 ∷ 0 ∷ 0 ∷ 14 ∷ 16 ∷ 3 ∷ 1 ∷ 2 ∷ 3 ∷ 4 ∷ []) ∷ entry 8192 ∷ done
     ∷ leaves (record { node = 8192; len = 14; queue = 16; dest = 7; stamp = 0x01020304; poisoned = 1; transaction = 171; price = 1 }) outside ∷ [])
@@ -211,10 +216,51 @@ unhalting =
 -- A halted port sends, and what it has taken in leaves: its turn, stitch and prefetch go on, with the packets of its halted queues.
 abbrev pub halted-sends : Card
 halted-sends =
-    says (setUp 4 64 1 16 ∷ (brought 1 12 ++ (act (arrive 0 (header 0 0 1 12)) ∷ act (credit 0 1 1) ∷ act (arrive 0 spoilt) ∷ act (turn 0) ∷ act (stitch 0)
+    says (setUp 4 64 1 16 ∷ (brought 1 12 ++ (act (arrive 0 (header 0 0 1 12)) ∷ act (credit 0 1 1) ∷ act (arrive 0 spoilt) ∷ act (turn untimed 0) ∷ act (stitch 0)
     ∷ act (prefetch 0 1) ∷ act (ready 0) ∷ act (arrive 0 (header 0 0 1 12)) ∷ [])))
     (done ∷ entry 0 ∷ plain-record 1 12 ∷ entry 0 ∷ entry 1 ∷ done ∷ refused 7 ∷ leaves (plain 1 12 1) outside
     ∷ stitched (0 ∷ 1 ∷ 0 ∷ 12 ∷ 1 ∷ 0 ∷ 0 ∷ 0 ∷ 0 ∷ 0 ∷ []) ∷ entry 1 ∷ word 0 0 ∷ refused 10 ∷ [])
+
+-- a packet of queue 0 with this timestamp comes in at port 0, and a turn of port 0 at this time sends it
+abbrev pub sentAt : ℕ → ℕ → List Call
+sentAt stamp time =
+    let h = sealed (0 ∷ 0 ∷ 0x30 ∷ stamp / 2 ^ 24 ∷ stamp / 2 ^ 16 % 256 ∷ stamp / 2 ^ 8 % 256 ∷ stamp % 256 ∷ 0 ∷ 0 ∷ []) in
+    act (arrive 0 h) ∷ act (stitch 0) ∷ act (prefetch 0 0) ∷ act (turn (at time) 0) ∷ []
+
+-- what these buckets of port p hold
+abbrev pub read : ℕ → List ℕ → List Call
+read p bs = map (λ b. act (bucket p b)) bs
+
+-- Waits of 0, 1, 2, 3, 2 ^ 31 and 2 ^ 32 - 1, then 11 by a clock that passed its end: each in the bucket of its highest bit, at the port that
+-- took the turn. A turn that is not timed and a timed one that is idle count nothing. Setup clears.
+abbrev pub waits : List Call
+waits =
+    setUp 2 64 1 0
+    ∷ (sentAt 0 0 ++ (sentAt 0 1 ++ (sentAt 0 2 ++ (sentAt 7 10 ++ (sentAt 0 2147483648 ++ (sentAt 1 0 ++ (sentAt 4294967290 5
+    ++ (brought 0 12 ++ (act (turn untimed 0) ∷ act (turn (at 5) 0) ∷ [])))))))))
+
+abbrev pub counting : Card
+counting =
+    serves (waits ++ (read 0 (0 ∷ 1 ∷ 2 ∷ 3 ∷ 4 ∷ 5 ∷ 31 ∷ 32 ∷ []) ++ (read 1 (0 ∷ 1 ∷ 32 ∷ []) ++ (setUp 2 64 1 0 ∷ read 0 (0 ∷ 2 ∷ 32 ∷ []))))) 34
+    (1 ∷ 1 ∷ 2 ∷ 0 ∷ 1 ∷ 0 ∷ 0 ∷ 2 ∷ 0 ∷ 0 ∷ 0 ∷ 100 ∷ 0 ∷ 0 ∷ 0 ∷ [])
+
+-- A timed turn answers as a turn, idle or not, and is refused as one. A bucket is read at a state, of a port and below 33, in that order.
+abbrev pub telling : Card
+telling =
+    says (act (turn (at 9) 0) ∷ act (bucket 0 0) ∷ setUp 1 64 1 1 ∷ act (turn (at 9) 4) ∷ act (turn (at 9) 3) ∷ (brought 1 12
+    ++ (act (turn (at 9) 0) ∷ act (credit 0 1 1) ∷ act (turn (at 9) 0) ∷ act (bucket 0 4) ∷ act (bucket 4 33) ∷ act (bucket 3 33) ∷ act (bucket 3 32) ∷ [])))
+    (refused 3 ∷ refused 3 ∷ done ∷ refused 4 ∷ idle ∷ entry 0 ∷ plain-record 1 12 ∷ entry 0
+    ∷ idle ∷ done ∷ leaves (plain 1 12 1) outside ∷ counted 1 ∷ refused 4 ∷ refused 5 ∷ counted 0 ∷ [])
+
+-- Bucket 0 of port 0 two below its stop, and three packets that wait for nothing.
+abbrev pub stopping : Card
+stopping =
+    let S = settings 1 64 1 0 in
+    let sent = leaves (plain 0 12 0) inside in
+    from S (putIn buckets (bucket# 0 0) (stop - 2) (start S))
+    (sentAt 0 0 ++ (read 0 (0 ∷ []) ++ (sentAt 0 0 ++ (read 0 (0 ∷ []) ++ (sentAt 0 0 ++ read 0 (0 ∷ 1 ∷ []))))))
+    (entry 0 ∷ twelve-record ∷ entry 0 ∷ sent ∷ counted 4294967294 ∷ entry 0 ∷ twelve-record ∷ entry 0 ∷ sent ∷ counted 4294967295
+    ∷ entry 0 ∷ twelve-record ∷ entry 0 ∷ sent ∷ counted 4294967295 ∷ counted 0 ∷ [])
 
 -- before a round: one of queue 0 has come in at port 0, two of queue 5 for port 2 at port 1, with outward credit for one of them, and one of
 -- the last queue for port 3 at port 2
@@ -233,16 +279,16 @@ cards =
     (done ∷ refused 9 ∷ refused 8 ∷ [])
     ∷ says (setUp 1 64 1 16 ∷ act (arrive 0 twelve) ∷ act (stitch 0) ∷ act (arrive 0 spoilt) ∷ [])
     (done ∷ entry 0 ∷ twelve-record ∷ refused 7 ∷ [])
-    ∷ says (setUp 1 64 1 200 ∷ act (arrive 2 full) ∷ act (stitch 2) ∷ act (prefetch 0 23) ∷ act (turn 0) ∷ act (credit 0 23 128) ∷ act (turn 0)
-    ∷ act (arrive 2 full) ∷ act (stitch 2) ∷ act (prefetch 0 23) ∷ act (turn 0) ∷ [])
+    ∷ says (setUp 1 64 1 200 ∷ act (arrive 2 full) ∷ act (stitch 2) ∷ act (prefetch 0 23) ∷ act (turn untimed 0) ∷ act (credit 0 23 128) ∷ act (turn untimed 0)
+    ∷ act (arrive 2 full) ∷ act (stitch 2) ∷ act (prefetch 0 23) ∷ act (turn untimed 0) ∷ [])
     (done ∷ entry 4096 ∷ full-record ∷ entry 4096 ∷ idle ∷ done
     ∷ leaves (record { node = 4096; len = 8191; queue = 23; dest = 1; stamp = 0; poisoned = 0; transaction = 0; price = 128 }) outside
     ∷ entry 4096 ∷ full-record ∷ entry 4096 ∷ idle ∷ [])
-    ∷ says (setUp 1 64 1 16 ∷ act (arrive 0 twelve) ∷ act (arrive 0 twelve) ∷ act (stitch 0) ∷ act (prefetch 0 0) ∷ act (turn 0) ∷ act (arrive 0 twelve) ∷ [])
+    ∷ says (setUp 1 64 1 16 ∷ act (arrive 0 twelve) ∷ act (arrive 0 twelve) ∷ act (stitch 0) ∷ act (prefetch 0 0) ∷ act (turn untimed 0) ∷ act (arrive 0 twelve) ∷ [])
     (done ∷ entry 0 ∷ refused 11 ∷ twelve-record ∷ entry 0 ∷ leaves (plain 0 12 0) inside ∷ entry 0 ∷ [])
     ∷ says (setUp 1 64 1 0 ∷ act (credit 0 1 65535) ∷ act (credit 0 1 0) ∷ act (credit 0 1 1) ∷ [])
     (done ∷ done ∷ done ∷ refused 14 ∷ [])
-    ∷ says (setUp 256 64 1 0 ∷ setUp 0 64 1 0 ∷ setUp 2049 64 1 0 ∷ setUp 1143 64 1 0 ∷ setUp 1144 64 1 0 ∷ setUp 2048 64 1 0 ∷ [])
+    ∷ says (setUp 256 64 1 0 ∷ setUp 0 64 1 0 ∷ setUp 2049 64 1 0 ∷ setUp 1133 64 1 0 ∷ setUp 1134 64 1 0 ∷ setUp 2048 64 1 0 ∷ [])
     (done ∷ refused 2 ∷ refused 2 ∷ done ∷ refused 1 ∷ refused 1 ∷ [])
     ∷ lent (size (settings 2048 64 1 0) - 1) (setUp 2048 64 1 0 ∷ []) (refused 1 ∷ [])
     ∷ lent (size (settings 2048 64 1 0))
@@ -250,11 +296,11 @@ cards =
     (done ∷ found (free 3) 2047 ∷ refused 15 ∷ entry 6144 ∷ found (free 3) 2046 ∷ [])
     ∷ says (setUp 2 64 1 16 ∷ (brought 0 12 ++ (act (prefetch 0 0) ∷ [])))
     (done ∷ entry 0 ∷ twelve-record ∷ entry 0 ∷ refused 12 ∷ [])
-    ∷ serves (setUp 9 64 2 16 ∷ (brought 5 12 ++ (act (credit 0 5 9) ∷ act (turn 0) ∷ (twice 2 ++ (twice 5 ++ (twice 9 ++ turns 3)))))) 27
+    ∷ serves (setUp 9 64 2 16 ∷ (brought 5 12 ++ (act (credit 0 5 9) ∷ act (turn untimed 0) ∷ (twice 2 ++ (twice 5 ++ (twice 9 ++ turns 3)))))) 27
     (9 ∷ 548 ∷ 2 ∷ 548 ∷ 5 ∷ 548 ∷ [])
-    ∷ serves (setUp 49 64 2 16 ∷ (brought 5 12 ++ (act (credit 0 5 9) ∷ act (turn 0) ∷ (all-twice 0 24 ++ turns 24)))) 220 (5 ∷ 16777215 ∷ [])
+    ∷ serves (setUp 49 64 2 16 ∷ (brought 5 12 ++ (act (credit 0 5 9) ∷ act (turn untimed 0) ∷ (all-twice 0 24 ++ turns 24)))) 220 (5 ∷ 16777215 ∷ [])
     ∷ costs 12 1 ∷ costs 64 1 ∷ costs 65 2 ∷ costs 76 2 ∷ costs 8191 128
-    ∷ says (setUp 1 64 1 0 ∷ (brought 0 8191 ++ (act (turn 0) ∷ [])))
+    ∷ says (setUp 1 64 1 0 ∷ (brought 0 8191 ++ (act (turn untimed 0) ∷ [])))
     (done ∷ entry 0 ∷ plain-record 0 8191 ∷ entry 0 ∷ leaves (plain 0 8191 0) inside ∷ [])
     ∷ says (setUp 1 64 1 1 ∷ act (arrive 0 (sealed (nine 0 0 23 12 1))) ∷ act (arrive 0 (header 0 0 24 12))
     ∷ act (arrive 0 (header 0 0 31 12)) ∷ act (arrive 0 (sealed (nine 0 0 23 12 2))) ∷ [])
@@ -262,6 +308,7 @@ cards =
     ∷ one-by-one 24 ∷ one-by-one 31
     ∷ crossing ∷ wide-rows ∷ wide-arrivals
     ∷ halting ∷ unhalting ∷ halted-sends
+    ∷ counting ∷ telling ∷ stopping
     ∷ rounds [] (zeros 15) (refused 3) (zeros 15)
     ∷ rounds (setUp 2 64 1 0 ∷ act (arrive 1 (header 0 1 0 12)) ∷ act (arrive 0 twelve) ∷ []) (zeros 16) done
     (0 ∷ 0 ∷ 0 ∷ 0 ∷ 0 ∷ 1 ∷ 0 ∷ 0 ∷ 0 ∷ 1 ∷ 0 ∷ 0 ∷ 0 ∷ 1 ∷ 0 ∷ 0 ∷ [])

@@ -9,22 +9,24 @@ use lib.Dec.{eqb}
 use Rattle.ledger.specs.Settings.{Settings, tenBytes}
 use Rattle.ledger.specs.Ledger.{Packet, prefetched, Ledger, listAt, outwardOf}
 use Rattle.ledger.specs.Ready.{bit}
-use Rattle.ledger.specs.Calls.{Act, arrive, stitch, prefetch, credit, mapTo, turn, ready, whereIs, clear, report, Reply, leaves, sideOf}
+use Rattle.ledger.specs.Buckets.{Clock}
+use Rattle.ledger.specs.Calls.{Act, arrive, stitch, prefetch, credit, mapTo, turn, ready, whereIs, clear, report, bucket, Reply, leaves, sideOf}
 use Rattle.ledger.specs.Desk.{Desk, has, Call, setup, act, desk, afterCalls, SetupsRefused}
 use Rattle.ledger.specs.Sound.{sum, Roomy, Orderly, Sound}
 
--- is the act a turn of port p
+-- is the act a turn of port p, timed or not
 abbrev pub isTurn : ℕ → Act → Bool
 isTurn p (arrive r h) = false
 isTurn p (stitch r) = false
 isTurn p (prefetch r q) = false
 isTurn p (credit r q n) = false
 isTurn p (mapTo d r) = false
-isTurn p (turn r) = eqb r p
+isTurn p (turn c r) = eqb r p
 isTurn p (ready r) = false
 isTurn p (whereIs y) = false
 isTurn p (clear r) = false
 isTurn p (report r) = false
+isTurn p (bucket r b) = false
 
 -- packet k stands in the prefetch slots of port p and queue q, behind `ahead`
 pub record Stands (S : Settings) (p q : ℕ) (k : Packet) (ahead : List Packet) (L : Ledger) : Type 0 where
@@ -53,15 +55,16 @@ pub record ShowsWaiting {X : Type 0} (shows : X → Desk) (S : Settings) (p q : 
   pub shown : shows x ≡ has S ledger
   pub stands : Stands S p q k ahead ledger
 
--- among the calls there is a turn of port p, before which it had fewer than n turns, at which packet k leaves by queue q;
+-- among the calls there is a turn of port p, timed or not, before which it had fewer than n turns, at which packet k leaves by queue q;
 -- and at every moment up to then x shows k in its prefetch list
 pub record LeavesAmong {X : Type 0} (call : X → Call → Reply × X) (shows : X → Desk) (S : Settings) (p q : ℕ) (k : Packet) (n : ℕ)
     (x : X) (cs : List Call) : Type 0 where
   pub moment : ℕ
   pub among : moment < length cs
   pub soon : turnsIn p (take moment cs) < n
-  pub a-turn : getD cs moment (act (ready 0)) ≡ act (turn p)
-  pub it-leaves : call (afterCalls call x (take moment cs)) (act (turn p)) .0 ≡ leaves k (sideOf q)
+  pub clock : Clock
+  pub a-turn : getD cs moment (act (ready 0)) ≡ act (turn clock p)
+  pub it-leaves : call (afterCalls call x (take moment cs)) (act (turn clock p)) .0 ≡ leaves k (sideOf q)
   pub until-then : (i : ℕ) → i ≤ moment → ShowsWaiting shows S p q k (afterCalls call x (take i cs))
 
 -- Nobody starves from here on, where x shows the ledger L: a packet of a port below P and a queue below Q, in the prefetch slots behind

@@ -9,6 +9,7 @@ use lib.Dec.{ltb}
 use Rattle.ledger.specs.Settings.{Settings}
 use Rattle.ledger.specs.Ledger.{Packet, ingress, egress, prefetched, Ledger, listAt, mapOf, move}
 use Rattle.ledger.specs.Ready.{bit}
+use Rattle.ledger.specs.Buckets.{Clock}
 use Rattle.ledger.specs.Calls.{stitch, turn, ready, Reply, stitched, leaves, sideOf, stitchRecord}
 use Rattle.ledger.specs.Desk.{Desk, has, Call, act, desk, afterCalls, SetupsRefused}
 use Rattle.ledger.specs.Sound.{Roomy, Orderly}
@@ -95,11 +96,12 @@ module _ {X : Type 0} (call : X → Call → Reply × X) (shows : X → Desk) wh
     pub answer : call (atCall x cs t) (act (stitch r)) .0 ≡ stitched (stitchRecord k (mapOf M (k .dest)))
     pub leads : shows (atCall x cs (suc t)) ≡ has S (move S (ingress r) (egress (mapOf M (k .dest)) (k .queue)) k M)
 
-  -- call t is a turn of port p, at which packet k leaves by queue q
+  -- call t is a turn of port p, timed or not, at which packet k leaves by queue q
   pub record LeavesAt (p q : ℕ) (k : Packet) (x : X) (cs : List Call) (t : ℕ) : Type 0 where
     pub among : t < length cs
-    pub a-turn : getD cs t (act (ready 0)) ≡ act (turn p)
-    pub it-leaves : call (atCall x cs t) (act (turn p)) .0 ≡ leaves k (sideOf q)
+    pub clock : Clock
+    pub a-turn : getD cs t (act (ready 0)) ≡ act (turn clock p)
+    pub it-leaves : call (atCall x cs t) (act (turn clock p)) .0 ≡ leaves k (sideOf q)
 
   -- packet k is stitched at a call before which fewer than n rounds are over, and up to then it stands in the ingress list
   pub record StitchedWithin (S : Settings) (r : ℕ) (k : Packet) (n : ℕ) (x : X) (ds : List Carried) : Type 0 where

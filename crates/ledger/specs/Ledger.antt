@@ -4,8 +4,9 @@ use mathlib.Core.List.{List, [], _∷_, _++_}
 use Prim.Native.Nat.{ℕ, zero, suc, _+_, _-_, _*_, _/_, _%_, _<_}
 use lib.ListN.{getD, set, drop, replicate}
 use lib.Dec.{eqb, ltb}
-use Rattle.ledger.specs.Settings.{Settings, ids, row}
+use Rattle.ledger.specs.Settings.{Settings, ids, bucketCount, row}
 use Rattle.ledger.specs.Header.{Fields, price}
+use Rattle.ledger.specs.Buckets.{stop, bucket#}
 
 -- ---- nodes
 
@@ -119,7 +120,7 @@ setCredit S xs p (suc r) v = set xs (cell S p r) v
 -- ---- the ledger: lists of packets, and numbers in columns
 
 pub data Column : Type 0 where
-  arrival outward last mapped halted : Column
+  arrival outward last mapped halted buckets : Column
 
 abbrev pub column# : Column → ℕ
 column# arrival = 0
@@ -127,15 +128,17 @@ column# outward = 1
 column# last = 2
 column# mapped = 3
 column# halted = 4
+column# buckets = 5
 
 -- the numbers of a column: credits have one for each port and each queue but 0, last served queues and marks (paper 02, Q-9) one for each
--- port, the map one for each id
+-- port, the map one for each id, buckets (paper 02, Q-13) 33 for each port
 abbrev pub tall : Settings → Column → ℕ
 tall S arrival = S .ports * (S .queues - 1)
 tall S outward = S .ports * (S .queues - 1)
 tall S last = S .ports
 tall S mapped = ids
 tall S halted = S .ports
+tall S buckets = S .ports * bucketCount
 
 -- each number of a column is below this; which marks there are is rule (i)'s
 abbrev pub bound : Settings → Column → ℕ
@@ -144,14 +147,17 @@ bound S outward = 65536
 bound S last = S .queues
 bound S mapped = S .ports
 bound S halted = 256
+bound S buckets = suc stop
 
--- and is this in the starting ledger: all arrival credit in hand, the last queue last served, no port halted
+-- and is this in the starting ledger: all arrival credit in hand, the last queue last served, no port halted, nothing
+-- counted
 abbrev pub starting : Settings → Column → ℕ
 starting S arrival = S .credit
 starting S outward = 0
 starting S last = S .queues - 1
 starting S mapped = 0
 starting S halted = 0
+starting S buckets = 0
 
 pub record Ledger : Type 0 where
   pub lists : List (List Packet)
@@ -175,6 +181,10 @@ mapOf L d = getD (L .numbers mapped) d 0
 -- a port's mark: 0, or the refusal for which it was halted
 abbrev pub markOf : Ledger → ℕ → ℕ
 markOf L p = getD (L .numbers halted) p 0
+
+-- bucket b of port p: how many packets its timed turns sent whose wait falls there
+abbrev pub bucketAt : Ledger → ℕ → ℕ → ℕ
+bucketAt L p b = getD (L .numbers buckets) (bucket# p b) 0
 
 -- ---- lists change in two ways: the oldest is taken off, a last one is put on
 

@@ -1,6 +1,7 @@
 pub mod Settings
 pub mod Rules
 pub mod Header
+pub mod Buckets
 pub mod Ledger
 pub mod Ready
 pub mod Halt

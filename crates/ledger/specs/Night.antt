@@ -12,7 +12,8 @@ use Rattle.ledger.specs.Header.{form, fieldsOf}
 use Rattle.ledger.specs.Ledger.{owner, Packet, recorded, free, ingress, place#, placeOf, Column, arrival, Ledger, listAt, arrivalOf, markOf}
 use Rattle.ledger.specs.Ready.{bit}
 use Rattle.ledger.specs.Halt.{OnlyMark, TurnedAway}
-use Rattle.ledger.specs.Calls.{Act, arrive, stitch, prefetch, credit, mapTo, turn, ready, whereIs, clear, report, Reply, refused, entry, isRefused}
+use Rattle.ledger.specs.Calls.{Act, arrive, stitch, prefetch, credit, mapTo, turn, ready, whereIs, clear, report, bucket, Reply, refused, entry}
+use Rattle.ledger.specs.Calls.{isRefused}
 use Rattle.ledger.specs.Desk.{Desk, has, Call, setup, act, afterCalls, answersOf}
 use Rattle.ledger.specs.Sound.{All, weigh, owes}
 use Rattle.ledger.specs.Order.{isFree, cameTo, leftFrom, idsAt, FirstInFirstOut}
@@ -75,11 +76,12 @@ refusedAt p (stitch r) x = false
 refusedAt p (prefetch r q) x = false
 refusedAt p (credit r q n) x = false
 refusedAt p (mapTo d r) x = false
-refusedAt p (turn r) x = false
+refusedAt p (turn c r) x = false
 refusedAt p (ready r) x = false
 refusedAt p (whereIs y) x = false
 refusedAt p (clear r) x = false
 refusedAt p (report r) x = false
+refusedAt p (bucket r b) x = false
 
 -- of calls and their answers, the acts but such arrivals, each with its answer; a setup, which is refused, is left out
 abbrev pub otherBy : ℕ → Call → Reply → List (Act × Reply) → List (Act × Reply)

@@ -11,8 +11,9 @@ use Rattle.numbers.specs.Bytes.{number}
 use Rattle.ledger.specs.Settings.{Settings}
 use Rattle.ledger.specs.Header.{form, fieldsOf}
 use Rattle.ledger.specs.Ledger.{owner, Packet, recorded, Place, free, ingress, egress, prefetched, portOf, kindIn, queueIn, placeOf, Ledger, listAt}
+use Rattle.ledger.specs.Buckets.{Clock}
 use Rattle.ledger.specs.Calls.{Act, arrive, stitch, prefetch, credit, mapTo, turn, ready, whereIs, Side, Reply, refused, done, entry, stitched}
-use Rattle.ledger.specs.Calls.{clear, report, idle, leaves, word, found, reported}
+use Rattle.ledger.specs.Calls.{clear, report, bucket, idle, leaves, word, found, reported, counted}
 use Rattle.ledger.specs.Desk.{Desk, has, Call, setup, act, afterCalls, answersOf}
 use Rattle.ledger.specs.Sound.{All}
 
@@ -38,6 +39,7 @@ named no′ e s l (leaves k t) = l k
 named no′ e s l (word w n) = no′
 named no′ e s l (found v i) = no′
 named no′ e s l (reported n) = no′
+named no′ e s l (counted n) = no′
 
 abbrev pub byEntry : Place → Place → Reply → Movement
 byEntry v w = named stays (λ x. moves x v w) (λ b. stays) (λ k. stays)
@@ -56,11 +58,12 @@ movement (stitch p) r = byRecord (ingress p) r
 movement (prefetch p q) r = byEntry (egress p q) (prefetched p q) r
 movement (credit p q n) r = stays
 movement (mapTo d p) r = stays
-movement (turn p) r = byTurn p r
+movement (turn c p) r = byTurn p r
 movement (ready p) r = stays
 movement (whereIs y) r = stays
 movement (clear p) r = stays
 movement (report p) r = stays
+movement (bucket p b) r = stays
 
 abbrev pub movementOf : Call → Reply → Movement
 movementOf (setup T) r = stays
@@ -127,11 +130,12 @@ broughtBy S (stitch p) r = []
 broughtBy S (prefetch p q) r = []
 broughtBy S (credit p q n) r = []
 broughtBy S (mapTo d p) r = []
-broughtBy S (turn p) r = []
+broughtBy S (turn c p) r = []
 broughtBy S (ready p) r = []
 broughtBy S (whereIs y) r = []
 broughtBy S (clear p) r = []
 broughtBy S (report p) r = []
+broughtBy S (bucket p b) r = []
 
 abbrev pub broughtIn : Settings → Call → Reply → List Packet
 broughtIn S (setup T) r = []
@@ -158,7 +162,7 @@ pub record GoesAlong {X : Type 0} (call : X → Call → Reply × X) (shows : X 
   pub ledger : Ledger
   pub shown : shows (afterCalls call x cs) ≡ has S ledger
   pub holds : All (λ k. Latest k (held S L ++ gathered (broughtIn S) cs (answersOf call x cs))) (held S ledger)
-  pub sends : (p : ℕ) (k : Packet) (t : Side) → call (afterCalls call x cs) (act (turn p)) .0 ≡ leaves k t
+  pub sends : (c : Clock) (p : ℕ) (k : Packet) (t : Side) → call (afterCalls call x cs) (act (turn c p)) .0 ≡ leaves k t
       → Latest k (held S L ++ gathered (broughtIn S) cs (answersOf call x cs))
   pub tells : (p : ℕ) (b : List ℕ) → call (afterCalls call x cs) (act (stitch p)) .0 ≡ stitched b
       → (k : Packet) × Latest k (held S L ++ gathered (broughtIn S) cs (answersOf call x cs)) × Tells k b

@@ -6,8 +6,9 @@ use lib.ListN.{length, getD, drop}
 use lib.Dec.{ltb}
 use Rattle.ledger.specs.Settings.{Settings}
 use Rattle.ledger.specs.Rules.{Rule, refuse, guard}
+use Rattle.ledger.specs.Buckets.{untimed}
 use Rattle.ledger.specs.Calls.{Act, arrive, stitch, prefetch, credit, mapTo, turn, ready, whereIs, Reply, refused, done, entry, stitched, idle}
-use Rattle.ledger.specs.Calls.{clear, report, leaves, word, found, reported}
+use Rattle.ledger.specs.Calls.{clear, report, bucket, leaves, word, found, reported, counted}
 use Rattle.ledger.specs.Desk.{Desk, none, has, Call, setup, act}
 
 -- ---- what a round does
@@ -24,9 +25,9 @@ abbrev pub prefetches : Settings → List Act
 prefetches S = each (λ p. each (λ q. prefetch p q ∷ []) (S .queues)) (S .ports)
 
 abbrev pub turns : Settings → List Act
-turns S = each (λ p. turn p ∷ []) (S .ports)
+turns S = each (λ p. turn untimed p ∷ []) (S .ports)
 
--- "one stitch at each port in order; then one prefetch for each port and queue; then one turn at each port"
+-- "one stitch at each port in order; then one prefetch for each port and queue; then one turn at each port"; none of them is timed
 unfoldable pub roundActs : Settings → List Act
 roundActs S = stitches S ++ (prefetches S ++ turns S)
 
@@ -52,6 +53,7 @@ answerBytes (leaves k s) = 0 ∷ 0 ∷ k .node / 256 ∷ k .node % 256 ∷ []
 answerBytes (word w n) = 0 ∷ 0 ∷ 0 ∷ 0 ∷ []
 answerBytes (found v i) = 0 ∷ 0 ∷ 0 ∷ 0 ∷ []
 answerBytes (reported n) = 0 ∷ 0 ∷ 0 ∷ 0 ∷ []
+answerBytes (counted n) = 0 ∷ 0 ∷ 0 ∷ 0 ∷ []
 
 unfoldable pub bytesOf : List Reply → List ℕ
 bytesOf [] = []
@@ -95,11 +97,12 @@ ofTurn (act (stitch p)) r = []
 ofTurn (act (prefetch p q)) r = []
 ofTurn (act (credit p q n)) r = []
 ofTurn (act (mapTo d p)) r = []
-ofTurn (act (turn p)) r = r ∷ []
+ofTurn (act (turn c p)) r = r ∷ []
 ofTurn (act (ready p)) r = []
 ofTurn (act (whereIs y)) r = []
 ofTurn (act (clear p)) r = []
 ofTurn (act (report p)) r = []
+ofTurn (act (bucket p b)) r = []
 
 abbrev pub turnAnswers : List Call → List Reply → List Reply
 turnAnswers [] rs = []

@@ -74,11 +74,17 @@ firstOut S = outFrom S 0 settingCount
 abbrev pub ids : ℕ
 ids = 4096
 
+-- buckets of a port: one for a wait of 0, and one for each bit that may be a wait's highest (paper 02, Q-13)
+abbrev pub bucketCount : ℕ
+bucketCount = 33
+
 -- lists of a port: free, ingress, and for each queue egress and prefetch
 unfoldable pub row : Settings → ℕ
 row S = 2 + 2 * S .queues
 
 -- the bytes of a state: settings of 2, the map, for each port the queue last served and the mark, two credits of 2 for each port and queue
--- but 0, 8 for each list, 13 for each node
+-- but 0, 4 for each bucket, 8 for each list, 13 for each node
 unfoldable pub size : Settings → ℕ
-size S = 2 * settingCount + ids + 2 * S .ports + 4 * (S .ports * (S .queues - 1)) + 8 * (S .ports * row S) + 13 * (S .ports * S .nodes)
+size S =
+    2 * settingCount + ids + 2 * S .ports + 4 * (S .ports * (S .queues - 1)) + 4 * (S .ports * bucketCount) + 8 * (S .ports * row S)
+    + 13 * (S .ports * S .nodes)
