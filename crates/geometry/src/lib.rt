@@ -1,4 +1,4 @@
-// The switch's geometry: which element of its tables a node, a list or a credit has. It is said here and nowhere else.
+// The switch's geometry: which element of its tables a node, a list, a credit or a bucket has. It is said here and nowhere else.
 use layout::Shape;
 use ledger::EntryId;
 use ledger::ListKind;
@@ -6,10 +6,11 @@ ghost use mathlib.Core.Path.{_≡_};
 ghost use Prim.Native.Nat.{_+_, _-_, _*_};
 ghost use Rattle.ledger.specs.Settings.{row};
 ghost use Rattle.ledger.specs.Ledger.{isNode, free, ingress, egress, prefetched, place#, placeOf, cell};
+ghost use Rattle.ledger.specs.Buckets.{bucket#};
 ghost use Rattle.ledger.specs.Answers.{kindOf};
 ghost use Rattle.layout.specs.Tables.{settingsOf, Laid};
 ghost use Rattle.layout.specs.Picture.{slot};
-ghost use Rattle.geometry.specs.Places.{OfPort, InRow, OfQueue, HasCell, InLists};
+ghost use Rattle.geometry.specs.Places.{OfPort, InRow, OfQueue, HasCell, HasBucket, InLists};
 
 // ---- nodes
 
@@ -44,6 +45,16 @@ pub fn cell_of(s: Shape, p: usize, q: usize) -> usize
 {
     let queues = s.queues;
     p * (queues - 1) + (q - 1)
+}
+
+// ---- buckets
+
+// The element of a port's bucket in the table of buckets.
+pub fn bucket_of(s: Shape, p: usize, b: usize) -> usize
+    requires { ⌜ HasBucket s p b ⌝ }
+    ensures { λ r. ⌜ r ≡ bucket# p b ⌝ }
+{
+    p * 33 + b
 }
 
 // ---- lists: port by port, free, ingress, the egress lists, the prefetch lists

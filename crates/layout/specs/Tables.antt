@@ -4,19 +4,19 @@ use mathlib.Core.List.{List, [], _∷_, map}
 use Prim.Native.Nat.{ℕ, _+_, _-_, _*_, _^_}
 use lib.ListN.{take}
 use Rattle.numbers.specs.Bytes.{number, store}
-use Rattle.ledger.specs.Settings.{Settings, settingCount, ids, row}
+use Rattle.ledger.specs.Settings.{Settings, settingCount, ids, bucketCount, row}
 use Rattle.ledger.specs.Header.{form, leastLength}
-use Rattle.ledger.specs.Ledger.{Column, arrival, outward, last, mapped, halted}
+use Rattle.ledger.specs.Ledger.{Column, arrival, outward, last, mapped, halted, buckets}
 use Rattle.ledger.specs.Sound.{sum, Roomy}
 use mathlib.Core.Path.{_≡_}
 use Rattle.layout.specs.declared.Shape.{Shape}
 use Rattle.layout.specs.declared.Table.{Table}
-use Rattle.layout.specs.declared.Table.the-variants.{Setting, Mapped, Last, Halted, Arrival, Outward, Head, Tail, Count, Next, Length, Stamp, Queue}
-use Rattle.layout.specs.declared.Table.the-variants.{Dest, Poisoned, Transaction, Price}
+use Rattle.layout.specs.declared.Table.the-variants.{Setting, Mapped, Last, Halted, Arrival, Outward, Buckets, Head, Tail, Count, Next, Length, Stamp}
+use Rattle.layout.specs.declared.Table.the-variants.{Queue, Dest, Poisoned, Transaction, Price}
 
 -- the tables in their order: the settings, the columns of numbers, then what there is for each list, then for each node
 abbrev pub columnTables : ℕ
-columnTables = 5
+columnTables = 6
 
 abbrev pub turnOf : Table → ℕ
 turnOf Setting = 0
@@ -25,6 +25,7 @@ turnOf Last = 2
 turnOf Halted = 3
 turnOf Arrival = 4
 turnOf Outward = 5
+turnOf Buckets = 6
 turnOf Head = 1 + columnTables
 turnOf Tail = 2 + columnTables
 turnOf Count = 3 + columnTables
@@ -45,6 +46,7 @@ width Last = 1
 width Halted = 1
 width Arrival = 2
 width Outward = 2
+width Buckets = 4
 width Head = 2
 width Tail = 2
 width Count = 4
@@ -57,7 +59,7 @@ width Poisoned = 1
 width Transaction = 1
 width Price = 1
 
--- elements: of credits one for each port and queue but 0, of lists' ends and counts one for each list, of records one for each node
+-- elements: of credits one for each port and queue but 0, of buckets 33 for each port, of lists' ends and counts one for each list, of records one for each node
 abbrev pub cells : Settings → ℕ
 cells S = S .ports * (S .queues - 1)
 
@@ -74,6 +76,7 @@ many S Last = S .ports
 many S Halted = S .ports
 many S Arrival = cells S
 many S Outward = cells S
+many S Buckets = S .ports * bucketCount
 many S Head = lists S
 many S Tail = lists S
 many S Count = lists S
@@ -93,6 +96,7 @@ tableOf outward = Outward
 tableOf last = Last
 tableOf mapped = Mapped
 tableOf halted = Halted
+tableOf buckets = Buckets
 
 abbrev pub bytesOf : Settings → Table → ℕ
 bytesOf S t = many S t * width t
@@ -100,7 +104,7 @@ bytesOf S t = many S t * width t
 -- the tables by their turns, and their sizes
 abbrev pub tables : List Table
 tables =
-    Setting ∷ Mapped ∷ Last ∷ Halted ∷ Arrival ∷ Outward ∷ Head ∷ Tail ∷ Count
+    Setting ∷ Mapped ∷ Last ∷ Halted ∷ Arrival ∷ Outward ∷ Buckets ∷ Head ∷ Tail ∷ Count
     ∷ Next ∷ Length ∷ Stamp ∷ Queue ∷ Dest ∷ Poisoned ∷ Transaction ∷ Price ∷ []
 
 abbrev pub sizes : Settings → List ℕ

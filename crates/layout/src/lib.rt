@@ -16,6 +16,7 @@ pub enum Table {
     Halted,
     Arrival,
     Outward,
+    Buckets,
     Head,
     Tail,
     Count,
@@ -89,7 +90,7 @@ pub fn shape_of(told: Settings) -> Shape
     let lists = ports * row;
     let all = ports * nodes;
     let arrival = 4112 + 2 * ports;
-    let head = arrival + 4 * cells;
+    let head = arrival + 4 * cells + 132 * ports;
     let next = head + 8 * lists;
     Shape {
         ports,
@@ -129,6 +130,7 @@ pub fn start_of(s: Shape, t: Table) -> usize
         Table::Halted => 4112 + s.ports,
         Table::Arrival => s.arrival,
         Table::Outward => s.arrival + 2 * cells,
+        Table::Buckets => s.arrival + 4 * cells,
         Table::Head => head,
         Table::Tail => head + 2 * lists,
         Table::Count => head + 4 * lists,

@@ -11,14 +11,14 @@ use lib.ListN.{length, getD, set, length-set, length-map}
 use lib.Seq.{getD-set-same, getD-set-other, ext-getD}
 use lib.Dec.{eqb, ltb}
 use Rattle.ledger.specs.Settings.{Settings, row}
-use Rattle.ledger.specs.Ledger.{owner, index, isNode, Packet, bare, Ledger, arrival, outward, last, mapped, halted, Column, tall}
+use Rattle.ledger.specs.Ledger.{owner, index, isNode, Packet, bare, Ledger, arrival, outward, last, mapped, halted, buckets, Column, tall}
 use Rattle.ledger.specs.Ready.{bit}
 use Rattle.ledger.specs.Sound.{All, sum, weigh, one, Roomy}
 use Rattle.ledger.proofs.Tests.{eqb-is, eqb-not, ltb-is, ltb-not}
 use Rattle.ledger.proofs.Lists.{weigh-set, sum-below, All-map, counted}
 use Rattle.ledger.proofs.Places.{row-lt, row-inj, Node, node-of, bit-le}
 use Rattle.layout.specs.declared.Table.{Table}
-use Rattle.layout.specs.declared.Table.the-variants.{Setting, Mapped, Last, Halted, Arrival, Outward, Head, Tail, Count, Next, Length, Stamp, Queue, Dest}
+use Rattle.layout.specs.declared.Table.the-variants.{Setting, Mapped, Last, Halted, Arrival, Outward, Buckets, Head, Tail, Count, Next, Length, Stamp, Queue, Dest}
 use Rattle.layout.specs.declared.Table.the-variants.{Poisoned, Transaction, Price}
 use Rattle.layout.specs.Tables.{turnOf, lists, all, many, get, tableOf}
 use Rattle.layout.specs.Picture.{slot, chain, nodesOf, packetAt, nodeIn, tabulate, ledgerIn, lastD, StateOf}
@@ -28,7 +28,7 @@ use Rattle.memory.specs.Ends.{Tidy, IsRecord, withLists, SameNumbers}
 
 -- the column whose table has turn n
 abbrev columnIn : ℕ → Column
-columnIn n = getD (mapped ∷ mapped ∷ last ∷ halted ∷ arrival ∷ outward ∷ []) n mapped
+columnIn n = getD (mapped ∷ mapped ∷ last ∷ halted ∷ arrival ∷ outward ∷ buckets ∷ []) n mapped
 
 pub record ColumnTable (S : Settings) (c : Column) : Type 0 where
   pub low : turnOf (tableOf c) < turnOf Head
@@ -42,6 +42,7 @@ column-table S outward = record { low = omega arith; above = omega arith; long =
 column-table S last = record { low = omega arith; above = omega arith; long = refl; back = refl }
 column-table S mapped = record { low = omega arith; above = omega arith; long = refl; back = refl }
 column-table S halted = record { low = omega arith; above = omega arith; long = refl; back = refl }
+column-table S buckets = record { low = omega arith; above = omega arith; long = refl; back = refl }
 
 pub table-inj : (S : Settings) (c d : Column) → turnOf (tableOf c) ≡ turnOf (tableOf d) → c ≡ d
 table-inj S c d e = sym (column-table S c .back) ∙ ap columnIn e ∙ column-table S d .back
@@ -262,6 +263,7 @@ module _ (S : Settings) where
   many-record Halted h = absurd (omega arith)
   many-record Arrival h = absurd (omega arith)
   many-record Outward h = absurd (omega arith)
+  many-record Buckets h = absurd (omega arith)
   many-record Head h = absurd (omega arith)
   many-record Tail h = absurd (omega arith)
   many-record Count h = absurd (omega arith)

@@ -122,8 +122,9 @@ module _ {X : Type 0} (call : X → Call → Reply × X) (shows : X → Desk) (S
     moment = o .moment;
     among = h;
     soon = subst (λ (l : List Call). turnsIn p l < n) (first (o .moment) (omega arith)) (o .soon);
+    clock = o .clock;
     a-turn = sym (List·getD-append xs ys (act (ready 0)) (o .moment) h) ∙ o .a-turn;
-    it-leaves = ap (λ (l : List Call). call (afterCalls call x l) (act (turn p)) .0) (sym (first (o .moment) (omega arith))) ∙ o .it-leaves;
+    it-leaves = ap (λ (l : List Call). call (afterCalls call x l) (act (turn (o .clock) p)) .0) (sym (first (o .moment) (omega arith))) ∙ o .it-leaves;
     until-then = λ i l. subst (λ (l : List Call). ShowsWaiting shows S p q k (afterCalls call x l)) (first i l) (o .until-then i l);
   }
     where
@@ -135,9 +136,10 @@ module _ {X : Type 0} (call : X → Call → Reply × X) (shows : X → Desk) (S
     moment = t;
     among = omega (arith, o .among, length-append xs ys);
     soon = omega (arith, o .soon, turns-append p xs (take t ys), ap (turnsIn p) (later t), ap (λ (j : ℕ). turnsIn p (take j (xs ++ ys))) is);
+    clock = o .clock;
     a-turn = sym (getD-append-add xs ys t (act (ready 0))) ∙ ap (λ (j : ℕ). getD (xs ++ ys) j (act (ready 0))) (sym is) ∙ o .a-turn;
-    it-leaves = ap (λ (y : X). call y (act (turn p)) .0) (sym (after t))
-        ∙ ap (λ (j : ℕ). call (afterCalls call x (take j (xs ++ ys))) (act (turn p)) .0) (sym is)
+    it-leaves = ap (λ (y : X). call y (act (turn (o .clock) p)) .0) (sym (after t))
+        ∙ ap (λ (j : ℕ). call (afterCalls call x (take j (xs ++ ys))) (act (turn (o .clock) p)) .0) (sym is)
         ∙ o .it-leaves;
     until-then = λ i l. subst (ShowsWaiting shows S p q k) (after i) (o .until-then (length xs + i) (omega arith));
   }
@@ -161,11 +163,11 @@ module _ (S : Settings) (p q : ℕ) (k : Packet) where
   unfolding RoomTells
   told-so n m (lent-call c) o = only (o .moment) (o .among) (o .a-turn) (o .it-leaves)
     where
-      only : (t : ℕ) → t < 1 → getD (c ∷ []) t (act (ready 0)) ≡ act (turn p)
-          → M (act (turn p)) (afterCalls onMemory m (take t (c ∷ []))) .0 ≡ leaves k (sideOf q) → Told p q k m (lent-call c)
-      only zero h e i = (e, ap (λ (b : Call). M b m .0) e ∙ i)
+      only : (t : ℕ) → t < 1 → getD (c ∷ []) t (act (ready 0)) ≡ act (turn (o .clock) p)
+          → M (act (turn (o .clock) p)) (afterCalls onMemory m (take t (c ∷ []))) .0 ≡ leaves k (sideOf q) → Told p q k m (lent-call c)
+      only zero h e i = (o .clock, e, ap (λ (b : Call). M b m .0) e ∙ i)
       only (suc t) h e i = absurd (not-suc-le-zero (le-of-suc-le-suc h))
-  told-so n m (lent-round room) o = room-tells m room (o .moment) p (o .among) (o .a-turn) ∙ ap answerBytes (o .it-leaves)
+  told-so n m (lent-round room) o = room-tells m room (o .moment) (o .clock) p (o .among) (o .a-turn) ∙ ap answerBytes (o .it-leaves)
   told-so n m (lent-audit room) o = not-suc-le-zero (o .among)
   told-so n m lent-find o = not-suc-le-zero (o .among)
   told-so n m lent-repair o = not-suc-le-zero (o .among)

@@ -10,6 +10,7 @@ use Rattle.ledger.specs.Settings.{Settings}
 use Rattle.ledger.specs.Header.{form}
 use Rattle.ledger.specs.Ledger.{isNode, Packet, Place, place#, Ledger, markOf, Place·In}
 use Rattle.ledger.specs.Ready.{isReady, wordOf, countOf}
+use Rattle.ledger.specs.Buckets.{Clock}
 use Rattle.ledger.specs.Calls.{Act, arrive, turn, ready, whereIs, clear, Side, inside, outside, Reply, refused, entry, leaves, word, found, step}
 use Rattle.ledger.specs.Desk.{has, Call, act, SetupsRefused}
 use Rattle.ledger.specs.Sound.{All, Roomy, Sound}
@@ -133,9 +134,9 @@ module _ (m : List ℕ) (S : Settings) (L : Ledger) (e : picture m ≡ has S L) 
   memory-ready-counts p hp = on-state (ready p) ∙ ap (λ (r : Reply × Ledger). r .0) (ready-counts S L p hp)
 
   -- a packet of queue 0 leaves inside, any other outside
-  pub memory-inside-outside : (p : ℕ) (k : Packet) (t : Side)
-      → M (act (turn p)) m .0 ≡ leaves k t → (k .queue ≡ 0 → t ≡ inside) × (0 < k .queue → t ≡ outside)
-  memory-inside-outside p k t i = inside-outside S ok L (s .orderly) p k t (sym (on-state (turn p)) ∙ i)
+  pub memory-inside-outside : (c : Clock) (p : ℕ) (k : Packet) (t : Side)
+      → M (act (turn c p)) m .0 ≡ leaves k t → (k .queue ≡ 0 → t ≡ inside) × (0 < k .queue → t ≡ outside)
+  memory-inside-outside c p k t i = inside-outside S ok L (s .orderly) c p k t (sym (on-state (turn c p)) ∙ i)
 
   -- a header with no fault, at a port of the switch: turned away only for want of credit, which a halt is taken for, or of a node
   pub memory-arrival : (p : ℕ) (h : List ℕ) → p < S .ports → Passes (form S) (S .queues) p h

@@ -1,5 +1,5 @@
 -- Acts one after another on a state, and a round: it is the same calls one by one. Assumes nothing.
-use mathlib.Core.Path.{_≡_, refl, sym, ap, _∙_, subst}
+use mathlib.Core.Path.{_≡_, refl, sym, ap, ap₂, _∙_, subst}
 use mathlib.Core.Bool.{Bool, true, false}
 use mathlib.Core.List.{List, [], _∷_, _++_, map, append-assoc}
 use Prim.Native.Nat.{ℕ, zero, suc, _+_, _-_, _*_, _≤_, _<_}
@@ -11,6 +11,7 @@ use lib.ListN.{length, getD, take, drop, length-append, length-map, List·getD-a
 use lib.Seq.{take-append-add, getD-append-add}
 use lib.Dec.{ltb}
 use Rattle.ledger.specs.Settings.{Settings}
+use Rattle.ledger.specs.Buckets.{Clock, untimed}
 use Rattle.ledger.specs.Calls.{Act, stitch, prefetch, turn, ready, Reply, refused, done, isRefused}
 use Rattle.ledger.specs.Desk.{Desk, has, Call, act, afterCalls, answersOf}
 use Rattle.ledger.specs.Demand.{isTurn}
@@ -128,11 +129,11 @@ module _ (S : Settings) where
   none-of-turns f h zero m = refl
   none-of-turns f h (suc n) m = of-turns-append m (each f n) (f n) ∙ rw (none-of-turns f h n m, h (afterActs S m (each f n)) n)
 
-  all-of-turns : (n : ℕ) (m : List ℕ) → ofTurns m (each (λ p. turn p ∷ []) n) ≡ answersTo S m (each (λ p. turn p ∷ []) n)
+  all-of-turns : (n : ℕ) (m : List ℕ) → ofTurns m (each (λ p. turn untimed p ∷ []) n) ≡ answersTo S m (each (λ p. turn untimed p ∷ []) n)
   all-of-turns zero m = refl
   all-of-turns (suc n) m =
-      let xs = each (λ p. turn p ∷ []) n in
-      of-turns-append m xs (turn n ∷ []) ∙ rw (all-of-turns n m) (sym (answers-append S m xs (turn n ∷ [])))
+      let xs = each (λ p. turn untimed p ∷ []) n in
+      of-turns-append m xs (turn untimed n ∷ []) ∙ rw (all-of-turns n m) (sym (answers-append S m xs (turn untimed n ∷ [])))
 
   stitches-none : (m : List ℕ) → ofTurns m (stitches S) ≡ []
   stitches-none m = none-of-turns (λ p. stitch p ∷ []) (λ m n. refl) (S .ports) m
@@ -209,32 +210,33 @@ module _ (S : Settings) where
   parts = sym (append-assoc (stitches S) (prefetches S) (turns S))
 
   -- the only turn of port p stands behind them, in its order
-  turn-seat : (j p : ℕ) → j < length (roundActs S) → getD (roundActs S) j (ready 0) ≡ turn p → (p < S .ports) × (j ≡ length first + p)
-  turn-seat j p h e = go (decLe (suc j) (length first))
+  turn-seat : (j : ℕ) (c : Clock) (p : ℕ) → j < length (roundActs S) → getD (roundActs S) j (ready 0) ≡ turn c p
+      → (p < S .ports) × (j ≡ length first + p) × (untimed ≡ c)
+  turn-seat j c p h e = go (decLe (suc j) (length first))
     where
       many : length (turns S) ≡ S .ports
-      many = each-length turn (S .ports)
+      many = each-length (turn untimed) (S .ports)
 
-      is-turn : getD (first ++ turns S) j (ready 0) ≡ turn p
+      is-turn : getD (first ++ turns S) j (ready 0) ≡ turn c p
       is-turn = ap (λ (l : List Act). getD l j (ready 0)) (sym parts) ∙ e
 
-      go : Dec (suc j ≤ length first) → (p < S .ports) × (j ≡ length first + p)
+      go : Dec (suc j ≤ length first) → (p < S .ports) × (j ≡ length first + p) × (untimed ≡ c)
       go (yes l) =
           let quiet = All-append (λ a. isTurn p a ≡ false) (stitches S) (prefetches S) (quiet-stitches S p) (quiet-prefetches S p) in
           let none = All-at (λ a. isTurn p a ≡ false) first (ready 0) quiet j l in
-          let here : getD first j (ready 0) ≡ turn p = sym (List·getD-append first (turns S) (ready 0) j l) ∙ is-turn in
+          let here : getD first j (ready 0) ≡ turn c p = sym (List·getD-append first (turns S) (ready 0) j l) ∙ is-turn in
           absurd (true≢false (sym (ap (isTurn p) here ∙ eqb-is p p refl) ∙ none))
       go (no l) =
           let i : ℕ = j - length first in
           let at : j ≡ length first + i = omega arith in
           let short : i < S .ports = omega (arith, h, ap length parts, length-append first (turns S), many) in
-          let here : turn i ≡ turn p =
-          sym (each-at turn (S .ports) i (ready 0) short)
+          let here : turn untimed i ≡ turn c p =
+          sym (each-at (turn untimed) (S .ports) i (ready 0) short)
           ∙ sym (getD-append-add first (turns S) i (ready 0))
           ∙ ap (λ (k : ℕ). getD (first ++ turns S) k (ready 0)) (sym at)
           ∙ is-turn in
           let same : i ≡ p = cc in
-          (omega arith, omega arith)
+          (omega arith, omega arith, cc)
 
   answer-at : (xs : List Act) (m : List ℕ) (i : ℕ) (d : Reply) (e : Act) → i < length xs
       → getD (answersTo S m xs) i d ≡ acted S (afterActs S m (take i xs)) (getD xs i e) .0
@@ -244,14 +246,14 @@ module _ (S : Settings) where
 
   -- so its answer is the one that is told for p
   turn-told : (m : List ℕ) (j p : ℕ) → p < S .ports → j ≡ length first + p
-      → getD (turnsTold S m) p done ≡ acted S (afterActs S m (take j (roundActs S))) (turn p) .0
+      → getD (turnsTold S m) p done ≡ acted S (afterActs S m (take j (roundActs S))) (turn untimed p) .0
   turn-told m j p hp e =
       let m₂ : List ℕ = afterActs S m first in
       let upto : take j (roundActs S) ≡ first ++ take p (turns S) =
       ap (λ (l : List Act). take j l) parts ∙ ap (λ (k : ℕ). take k (first ++ turns S)) e ∙ take-append-add first (turns S) p in
-      answer-at (turns S) m₂ p done (ready 0) (omega (arith, each-length turn (S .ports)))
-      ∙ ap (λ (a : Act). acted S (afterActs S m₂ (take p (turns S))) a .0) (each-at turn (S .ports) p (ready 0) hp)
-      ∙ ap (λ (n : List ℕ). acted S n (turn p) .0)
+      answer-at (turns S) m₂ p done (ready 0) (omega (arith, each-length (turn untimed) (S .ports)))
+      ∙ ap (λ (a : Act). acted S (afterActs S m₂ (take p (turns S))) a .0) (each-at (turn untimed) (S .ports) p (ready 0) hp)
+      ∙ ap (λ (n : List ℕ). acted S n (turn untimed p) .0)
       (sym (after-append S m first (take p (turns S))) ∙ ap (λ (l : List Act). afterActs S m l) (sym upto))
 
   -- on a state, what an act answers after others is what the call does
@@ -270,7 +272,7 @@ take-map (suc n) (a ∷ xs) = ap (λ (l : List Call). act a ∷ l) (take-map n x
 
 pub room-tells : RoomTells
 unfolding RoomTells roundOn picture rounded
-room-tells m room j p = go (state-dec m)
+room-tells m room j c p = go (state-dec m)
   where
     S : Settings
     S = settingsIn m
@@ -278,21 +280,21 @@ room-tells m room j p = go (state-dec m)
     Tells : Desk → Reply × List ℕ × List ℕ → Type 0
     Tells D out =
         let cs = doneBy D (round (length room)) .calls in
-        j < length cs → getD cs j (act (ready 0)) ≡ act (turn p)
-        → take 4 (drop (4 * p) (out .2)) ≡ answerBytes (M (act (turn p)) (afterCalls onMemory m (take j cs)) .0)
+        j < length cs → getD cs j (act (ready 0)) ≡ act (turn c p)
+        → take 4 (drop (4 * p) (out .2)) ≡ answerBytes (M (act (turn c p)) (afterCalls onMemory m (take j cs)) .0)
 
     told : State m → (b : Bool) → ltb (length room) (4 * S .ports) ≡ b → Tells (has S (ledgerIn S m)) (rounded S m room)
     told s true e = rw e (λ h i. absurd (not-suc-le-zero h))
     told s false e = rw e (λ h i.
         let acts : List Act = roundActs S in
-        let is : act (getD acts j (ready 0)) ≡ act (turn p) = sym (List·getD-map act acts j (ready 0)) ∙ i in
-        let same : getD acts j (ready 0) ≡ turn p = cc in
-        let at = turn-seat S j p (omega (arith, h, length-map acts act)) same in
-        read-told (turnsTold S m) room p done (omega (arith, at .0, as-many-answers S turn (S .ports) (afterActs S m (stitches S ++ prefetches S))))
+        let is : act (getD acts j (ready 0)) ≡ act (turn c p) = sym (List·getD-map act acts j (ready 0)) ∙ i in
+        let same : getD acts j (ready 0) ≡ turn c p = cc in
+        let at = turn-seat S j c p (omega (arith, h, length-map acts act)) same in
+        read-told (turnsTold S m) room p done (omega (arith, at .0, as-many-answers S (turn untimed) (S .ports) (afterActs S m (stitches S ++ prefetches S))))
         ∙ ap answerBytes
         (turn-told S m j p (at .0) (at .1)
-        ∙ call-after S m refl s (take j acts) (turn p)
-        ∙ ap (λ (cs : List Call). M (act (turn p)) (afterCalls onMemory m cs) .0) (sym (take-map j acts))))
+        ∙ call-after S m refl s (take j acts) (turn untimed p)
+        ∙ ap₂ (λ (t : Clock) (cs : List Call). M (act (turn t p)) (afterCalls onMemory m cs) .0) (at .2) (sym (take-map j acts))))
 
     go : (d : Dec (State m)) → Tells (deskOf m d) (roundTested m d room)
     go (yes s) = told s (ltb (length room) (4 * S .ports)) refl

@@ -1,6 +1,6 @@
 -- The square: for every memory and every call, what the memory pictures after the call is what the desk has after it, and the replies agree.
 -- Assumes nothing.
-use mathlib.Core.Path.{_≡_, refl, sym, ap, _∙_, subst}
+use mathlib.Core.Path.{_≡_, refl, sym, ap, ap₂, _∙_, subst}
 use mathlib.Core.Logic.{_≢_}
 use mathlib.Core.Bool.{Bool, true, false, cond}
 use mathlib.Core.List.{List, [], _∷_}
@@ -14,11 +14,12 @@ use Rattle.ledger.specs.Rules.{Rule, refuse, guard, Clear}
 use Rattle.ledger.specs.Header.{form, fieldsOf, price}
 use Rattle.ledger.specs.Ledger.{owner, isNode, Packet, bare, recorded, Place, free, ingress, egress, prefetched, place#, column, portOf, Ledger}
 use Rattle.ledger.specs.Ledger.{listAt, arrivalOf, outwardOf, lastOf, mapOf, markOf, push, move, putCredit, putIn, start, arrival, outward, last, mapped}
-use Rattle.ledger.specs.Ledger.{halted, change}
+use Rattle.ledger.specs.Ledger.{halted, buckets, bucketAt, tall, change}
 use Rattle.ledger.specs.Halt.{halts, marks}
 use Rattle.ledger.specs.Ready.{readyWord, pick}
 use Rattle.ledger.specs.Calls.{Act, arrive, stitch, prefetch, credit, mapTo, turn, ready, whereIs, Reply, refused, done, idle, isRefused, isEmpty}
-use Rattle.ledger.specs.Calls.{clear, report, firstOf, arriving, arrived, served, serve, turned, rules, result, markedFor, onRefusal, step}
+use Rattle.ledger.specs.Buckets.{Clock, untimed, at, waitOf, bucketOf, oneMore, bucket#}
+use Rattle.ledger.specs.Calls.{clear, report, bucket, firstOf, arriving, arrived, served, ticked, serve, turned, rules, result, markedFor, onRefusal, step}
 use Rattle.ledger.specs.Desk.{Desk, has, Call, setup, act, isArrivalCall, setupRules, desk}
 use Rattle.ledger.specs.Sound.{weigh, one, Proper, Orderly, Marked, Roomy}
 use Rattle.ledger.specs.Ledger.{Place·In}
@@ -31,11 +32,13 @@ use Rattle.ledger.proofs.Rows.{roomy}
 use Rattle.ledger.proofs.Passes.{Admits, admits}
 use Rattle.ledger.proofs.Halt.{halts-low, marks-port, marks-halts, marks-not, marks-in}
 use Rattle.ledger.proofs.Steps.{guarded, recorded-proper, picked-some, keep-served, keep-step, keep-marked}
-use Rattle.layout.specs.declared.Table.the-variants.{Arrival, Outward, Halted}
+use Rattle.layout.specs.declared.Table.the-variants.{Arrival, Outward, Halted, Buckets}
+use Rattle.ledger.proofs.Buckets.{bucket-in, bucket-lt, one-more-in}
 use Rattle.layout.specs.Tables.{lists, get, put}
+use Rattle.layout.proofs.Tables.{get-lt}
 use Rattle.layout.specs.Picture.{settingsIn, packetAt, nodeIn, ledgerIn, StateOf, State}
 use Rattle.memory.specs.Ends.{popMem, pushMem, Tidy, withLists}
-use Rattle.memory.specs.Writes.{headOf, moveMem, recordMem, creditMem, arriveMem, serveMem, turnMem, write, markMem, refusedMem}
+use Rattle.memory.specs.Writes.{headOf, moveMem, recordMem, creditMem, arriveMem, serveMem, tickMem, turnMem, write, markMem, refusedMem}
 use Rattle.memory.specs.Image.{setupMem}
 use Rattle.memory.specs.Memory.{state-dec, picture, acted, tested, M}
 use Rattle.memory.proofs.Judged.{kept-else}
@@ -285,22 +288,43 @@ module _ (S : Settings) (ok : Roomy S) (m : List ℕ) (s : StateOf S m) where
   same : Painted m L
   same = record { kept = record { settings = refl; same-length = refl; past = refl; tidy = tidy-of }; shows = refl }
 
-  turn-painted : (p w : ℕ) → p < S .ports
+  -- a tick writes what it changes of the ledger
+  tick-painted : (c : Clock) (p : ℕ) (k : Packet) (m′ : List ℕ) (N : Ledger) → p < S .ports → Painted m′ N → Painted (tickMem S c p k m′) (ticked c p k N)
+  unfolding tickMem ticked
+  tick-painted untimed p k m′ N hp f = f
+  tick-painted (at time) p k m′ N hp f =
+      let b : ℕ = bucketOf (waitOf time (k .stamp)) in
+      let i : ℕ = bucket# p b in
+      let h : i < tall S buckets = bucket-lt S p b hp (bucket-in (waitOf time (k .stamp))) in
+      let v : get S m′ Buckets i ≡ bucketAt N p b =
+      unfold ledgerIn in
+      (sym (getD-table (get S m′ Buckets) (tall S buckets) i 0 h) ∙ ap (λ (L′ : Ledger). bucketAt L′ p b) (f .shows)) in
+      record {
+        kept = kept-then S m m′ _ (f .kept) (column-kept S ok m′ (f .kept .tidy) buckets i (oneMore (get S m′ Buckets i)) h);
+        shows =
+            column-paint S ok m′ (f .kept .tidy) buckets i (oneMore (get S m′ Buckets i)) h (one-more-in _ (get-lt S m′ Buckets i))
+            ∙ ap₂ (λ (n : ℕ) (L′ : Ledger). putIn buckets i (oneMore n) L′) v (f .shows);
+      }
+
+  turn-painted : (c : Clock) (p w : ℕ) → p < S .ports
       → (eqb w 0 ≡ false → (pick (lastOf L p) w < S .queues) × (isEmpty (listAt S L (prefetched p (pick (lastOf L p) w))) ≡ false))
-      → Painted (turnMem S p w m) (turned S L p w .1)
-  turn-painted p w hp some = go (eqb w 0) some
+      → Painted (turnMem S c p w m) (turned S L c p w .1)
+  turn-painted c p w hp some = go (eqb w 0) some
     where
       t : ℕ
       t = pick (lastOf L p) w
 
+      sent : Packet
+      sent = packetAt S m (headOf S m (prefetched p t))
+
       serves : t < S .queues → isEmpty (listAt S L (prefetched p t)) ≡ false
-          → Painted (serveMem S p t (packetAt S m (headOf S m (prefetched p t))) m) (serve S L p t .1)
+          → Painted (tickMem S c p sent (serveMem S p t sent m)) (serve S L c p t .1)
       serves h e =
-          subst (λ (k : Packet). Painted (serveMem S p t k m) (serve S L p t .1)) (j-is p t hp h e)
-          (record { kept = serve-kept p t hp h e; shows = serve-paint p t hp h e })
+          subst (λ (k : Packet). Painted (tickMem S c p k (serveMem S p t k m)) (serve S L c p t .1)) (j-is p t hp h e)
+          (tick-painted c p (firstOf S L (prefetched p t)) _ _ hp (record { kept = serve-kept p t hp h e; shows = serve-paint p t hp h e }))
 
       go : (b : Bool) → (b ≡ false → (t < S .queues) × (isEmpty (listAt S L (prefetched p t)) ≡ false))
-          → Painted (cond b m (serveMem S p t (packetAt S m (headOf S m (prefetched p t))) m)) (cond b (idle, L) (serve S L p t) .1)
+          → Painted (cond b m (tickMem S c p sent (serveMem S p t sent m))) (cond b (idle, L) (serve S L c p t) .1)
       go true f = same
       go false f = serves (f refl .0) (f refl .1)
 
@@ -347,15 +371,16 @@ module _ (S : Settings) (ok : Roomy S) (m : List ℕ) (s : StateOf S m) where
         kept = column-kept S ok m tidy-of mapped d p hd;
         shows = column-paint S ok m tidy-of mapped d p hd (omega (arith, ok .few-ports));
       }
-  painted (turn p) c =
+  painted (turn t p) c =
       let hp = leb-no (S .ports) p (c .0) in
-      turn-painted p (readyWord S L p) hp (picked-some S ok L o p hp)
+      turn-painted t p (readyWord S L p) hp (picked-some S ok L o p hp)
   painted (ready p) c = same
   painted (whereIs y) c = same
   painted (clear p) c =
       let hp = leb-no (S .ports) p (c .0) in
       record { kept = column-kept S ok m tidy-of halted p 0 hp; shows = column-paint S ok m tidy-of halted p 0 hp (omega arith) }
   painted (report p) c = same
+  painted (bucket p b) c = same
 
   -- a refusal writes what it changes of the ledger
   mark-painted : (p n : ℕ) → Painted (markMem S p n m) (markedFor S p n L)
@@ -384,11 +409,12 @@ module _ (S : Settings) (ok : Roomy S) (m : List ℕ) (s : StateOf S m) where
   refused-painted n (prefetch p q) = same
   refused-painted n (credit p q v) = same
   refused-painted n (mapTo d p) = same
-  refused-painted n (turn p) = same
+  refused-painted n (turn c p) = same
   refused-painted n (ready p) = same
   refused-painted n (whereIs y) = same
   refused-painted n (clear p) = same
   refused-painted n (report p) = same
+  refused-painted n (bucket p b) = same
 
   -- so an act leaves what the desk's step leaves
   act-painted : (a : Act) → (acted S m a .0 ≡ step S L a .0) × Painted (acted S m a .1) (step S L a .1)

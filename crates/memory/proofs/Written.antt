@@ -6,11 +6,11 @@ use native.Mathlib.Nat.{le-refl}
 use native.Mathlib.Omega.{arith}
 use lib.ListN.{length}
 use Rattle.ledger.specs.Settings.{Settings, settingCount, row, size}
-use Rattle.ledger.specs.Ledger.{entryId, arrival, outward, last, mapped, halted, Column, tall, starting}
+use Rattle.ledger.specs.Ledger.{entryId, arrival, outward, last, mapped, halted, buckets, Column, tall, starting}
 use Rattle.ledger.specs.Sound.{Roomy}
 use Rattle.ledger.proofs.Places.{row-lt, row-inj}
 use Rattle.layout.specs.declared.Table.{Table}
-use Rattle.layout.specs.declared.Table.the-variants.{Setting, Mapped, Last, Halted, Arrival, Outward, Head, Tail, Count, Next}
+use Rattle.layout.specs.declared.Table.the-variants.{Setting, Mapped, Last, Halted, Arrival, Outward, Buckets, Head, Tail, Count, Next}
 use Rattle.layout.specs.Tables.{turnOf, width, many, cells, lists, get, tableOf}
 use Rattle.memory.specs.Image.{fill, settingAt, written}
 use Rattle.memory.proofs.Fill.{Fits, length-fill, fill-append, fill-else, fill-other, fill-get, length-links, links-append, links-other, links-get}
@@ -176,3 +176,4 @@ module _ (S : Settings) where
               ∙ fill-get S Last _ _ (S .ports) (settled S m) i marks-fit (simp length-fill long) h
           number mapped i h = untouched Mapped i h (omega arith) (omega arith) (omega arith) (omega arith)
           number halted i h = untouched Halted i h (omega arith) (omega arith) (omega arith) (omega arith)
+          number buckets i h = untouched Buckets i h (omega arith) (omega arith) (omega arith) (omega arith)

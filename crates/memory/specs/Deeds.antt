@@ -8,6 +8,7 @@ use Prim.Native.Nat.{ℕ, _+_, _-_, _*_, _≤_, _<_}
 use lib.ListN.{length, getD, take, drop}
 use Rattle.ledger.specs.Settings.{Settings}
 use Rattle.ledger.specs.Ledger.{Packet, Place, mapped, markOf, Ledger, start, Place·In}
+use Rattle.ledger.specs.Buckets.{Clock}
 use Rattle.ledger.specs.Calls.{turn, clear, done, leaves, isRefused, sideOf}
 use Rattle.ledger.specs.Desk.{has, Call, setup, act, afterCalls, SetupsRefused}
 use Rattle.ledger.specs.Sound.{All}
@@ -99,9 +100,10 @@ FoundAmongCalls =
 
 -- ---- demand 3
 
--- what tells the caller that packet k left port p by queue q: the answer of a turn, or four bytes of a round's room
+-- what tells the caller that packet k left port p by queue q: the answer of a turn, timed or not, or four bytes of a
+-- round's room
 abbrev pub Told : ℕ → ℕ → Packet → List ℕ → LentDeed → Type 0
-Told p q k m (lent-call c) = (c ≡ act (turn p)) × (M c m .0 ≡ leaves k (sideOf q))
+Told p q k m (lent-call c) = (t : Clock) × (c ≡ act (turn t p)) × (M c m .0 ≡ leaves k (sideOf q))
 Told p q k m (lent-round room) = take 4 (drop (4 * p) (roundOn m room .2)) ≡ answerBytes (leaves k (sideOf q))
 Told p q k m (lent-audit room) = ⊥
 Told p q k m lent-find = ⊥

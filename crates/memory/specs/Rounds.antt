@@ -7,6 +7,7 @@ use lib.ListN.{length, getD, take, drop}
 use Rattle.ledger.specs.Settings.{Settings}
 use Rattle.ledger.specs.Rules.{guard}
 use Rattle.ledger.specs.Ledger.{Ledger}
+use Rattle.ledger.specs.Buckets.{Clock}
 use Rattle.ledger.specs.Calls.{Act, turn, ready, Reply, refused, done}
 use Rattle.ledger.specs.Desk.{has, Call, act, afterCalls, answersOf}
 use Rattle.ledger.specs.Rounds.{stitches, prefetches, turns, roundActs, roundRules, roundReply, answersIn, round, doneBy}
@@ -60,8 +61,8 @@ RoundIsCalls =
 -- call answers.
 unfoldable pub RoomTells : Type 0
 RoomTells =
-    (m room : List ℕ) (j p : ℕ) → j < length (roundCalls m room) → getD (roundCalls m room) j (act (ready 0)) ≡ act (turn p)
-    → take 4 (drop (4 * p) (roundOn m room .2)) ≡ answerBytes (M (act (turn p)) (afterCalls onMemory m (take j (roundCalls m room))) .0)
+    (m room : List ℕ) (j : ℕ) (c : Clock) (p : ℕ) → j < length (roundCalls m room) → getD (roundCalls m room) j (act (ready 0)) ≡ act (turn c p)
+    → take 4 (drop (4 * p) (roundOn m room .2)) ≡ answerBytes (M (act (turn c p)) (afterCalls onMemory m (take j (roundCalls m room))) .0)
 
 -- ---- from door to door, on any memory that is a switch state
 

@@ -8,9 +8,11 @@ use Rattle.ledger.specs.Header.{form, fieldsOf}
 use Rattle.ledger.specs.Ledger.{owner, Packet, recorded, Place, free, ingress, egress, prefetched, place#, cell, arrivalOf, outwardOf, lastOf, mapOf}
 use Rattle.ledger.specs.Ready.{readyWord, pick}
 use Rattle.ledger.specs.Halt.{marks}
-use Rattle.ledger.specs.Calls.{Act, arrive, stitch, prefetch, credit, mapTo, turn, ready, whereIs, clear, report}
+use Rattle.ledger.specs.Buckets.{Clock, untimed, at, waitOf, bucketOf, oneMore, bucket#}
+use Rattle.ledger.specs.Calls.{Act, arrive, stitch, prefetch, credit, mapTo, turn, ready, whereIs, clear, report, bucket}
 use Rattle.layout.specs.declared.Table.{Table}
-use Rattle.layout.specs.declared.Table.the-variants.{Mapped, Last, Halted, Arrival, Outward, Head, Length, Stamp, Queue, Dest, Poisoned, Transaction, Price}
+use Rattle.layout.specs.declared.Table.the-variants.{Mapped, Last, Halted, Arrival, Outward, Buckets, Head, Length, Stamp, Queue, Dest, Poisoned, Transaction}
+use Rattle.layout.specs.declared.Table.the-variants.{Price}
 use Rattle.layout.specs.Tables.{get, put}
 use Rattle.layout.specs.Picture.{slot, packetAt, ledgerIn}
 use Rattle.memory.specs.Ends.{popMem, pushMem}
@@ -53,10 +55,18 @@ serveMem S p q k m =
     (creditMem S Arrival (owner (k .node)) q (arrivalOf S (ledgerIn S m) (owner (k .node)) q + k .price)
     (moveMem S (prefetched p q) (free (owner (k .node))) m)))
 
-abbrev pub turnMem : Settings → ℕ → ℕ → List ℕ → List ℕ
-turnMem S p w m =
+-- the wait of packet k, which a turn of port p sends, is counted in p's buckets if the turn is timed
+unfoldable pub tickMem : Settings → Clock → ℕ → Packet → List ℕ → List ℕ
+tickMem S untimed p k m = m
+tickMem S (at time) p k m =
+    let i = bucket# p (bucketOf (waitOf time (k .stamp))) in
+    put S Buckets i (oneMore (get S m Buckets i)) m
+
+abbrev pub turnMem : Settings → Clock → ℕ → ℕ → List ℕ → List ℕ
+turnMem S c p w m =
     let q = pick (lastOf (ledgerIn S m) p) w in
-    cond (eqb w 0) m (serveMem S p q (packetAt S m (headOf S m (prefetched p q))) m)
+    let k = packetAt S m (headOf S m (prefetched p q)) in
+    cond (eqb w 0) m (tickMem S c p k (serveMem S p q k m))
 
 -- each act where no refusal applies
 abbrev pub write : Settings → List ℕ → Act → List ℕ
@@ -67,11 +77,12 @@ write S m (stitch p) =
 write S m (prefetch p q) = moveMem S (egress p q) (prefetched p q) m
 write S m (credit p q n) = creditMem S Outward p q (outwardOf S (ledgerIn S m) p q + n) m
 write S m (mapTo d p) = put S Mapped d p m
-write S m (turn p) = turnMem S p (readyWord S (ledgerIn S m) p) m
+write S m (turn c p) = turnMem S c p (readyWord S (ledgerIn S m) p) m
 write S m (ready p) = m
 write S m (whereIs y) = m
 write S m (clear p) = put S Halted p 0 m
 write S m (report p) = m
+write S m (bucket p b) = m
 
 -- memory with port p marked for refusal n, if it marks the port
 unfoldable pub markMem : Settings → ℕ → ℕ → List ℕ → List ℕ
@@ -84,8 +95,9 @@ refusedMem S n (stitch p) m = m
 refusedMem S n (prefetch p q) m = m
 refusedMem S n (credit p q v) m = m
 refusedMem S n (mapTo d p) m = m
-refusedMem S n (turn p) m = m
+refusedMem S n (turn c p) m = m
 refusedMem S n (ready p) m = m
 refusedMem S n (whereIs y) m = m
 refusedMem S n (clear p) m = m
 refusedMem S n (report p) m = m
+refusedMem S n (bucket p b) m = m

@@ -1,21 +1,23 @@
 -- Which elements the parts of a state are, and what they show. Assumes nothing.
-use mathlib.Core.Path.{_≡_, sym, ap, _∙_}
+use mathlib.Core.Path.{_≡_, refl, sym, ap, _∙_}
 use mathlib.Core.List.{List}
 use Prim.Native.Nat.{ℕ, suc, _-_, _<_}
 use native.Mathlib.Omega.{arith}
 use lib.ListN.{getD}
-use Rattle.ledger.specs.Settings.{Settings, ids}
-use Rattle.ledger.specs.Ledger.{cell, creditAt, lastOf, mapOf, markOf}
+use Rattle.ledger.specs.Settings.{Settings, ids, bucketCount}
+use Rattle.ledger.specs.Ledger.{cell, creditAt, buckets, tall, lastOf, mapOf, markOf, bucketAt}
+use Rattle.ledger.specs.Buckets.{bucket#}
 use Rattle.ledger.proofs.Places.{cell-lt}
+use Rattle.ledger.proofs.Buckets.{bucket-lt}
 use Rattle.layout.specs.declared.Shape.{Shape}
 use Rattle.layout.specs.declared.Table.{Table}
-use Rattle.layout.specs.declared.Table.the-variants.{Mapped, Last, Halted}
+use Rattle.layout.specs.declared.Table.the-variants.{Mapped, Last, Halted, Buckets}
 use Rattle.layout.specs.Tables.{cells, get, put, settingsOf}
 use Rattle.layout.specs.Picture.{tabulate, ledgerIn}
 use Rattle.layout.specs.Access.{Reads}
 use Rattle.memory.specs.Writes.{creditMem}
 use Rattle.memory.proofs.Chains.{getD-table}
-use Rattle.parts.specs.Parts.{InCredits}
+use Rattle.parts.specs.Parts.{InCredits, InBuckets}
 
 -- ---- credits: queue q's cell is that of q - 1, and queue 0 has none
 
@@ -59,3 +61,11 @@ module _ (S : Settings) (m : List ℕ) where
   pub mapped-is : (d : ℕ) → d < ids → mapOf (ledgerIn S m) d ≡ get S m Mapped d
   unfolding ledgerIn
   mapped-is d h = getD-table (get S m Mapped) ids d 0 h
+
+  pub bucket-is : (p b : ℕ) → p < S .ports → b < bucketCount → bucketAt (ledgerIn S m) p b ≡ get S m Buckets (bucket# p b)
+  unfolding ledgerIn
+  bucket-is p b h k = getD-table (get S m Buckets) (tall S buckets) (bucket# p b) 0 (bucket-lt S p b h k)
+
+module _ {s : Shape} {p b : ℕ} {m : List ℕ} (h : InBuckets s p b m) where
+  pub bucket-reads : {i : ℕ} → i ≡ bucket# p b → Reads 4 s Buckets i m
+  bucket-reads e = record { laid = h .laid; long = h .long; wide = refl; inside = rw e (bucket-lt (settingsOf s) p b (h .port) (h .bucket)) }

@@ -3,7 +3,7 @@ use mathlib.Core.Path.{_≡_}
 use mathlib.Core.List.{List}
 use Prim.Native.Nat.{ℕ, _≤_, _<_}
 use lib.ListN.{length}
-use Rattle.ledger.specs.Settings.{size, ids}
+use Rattle.ledger.specs.Settings.{size, ids, bucketCount}
 use Rattle.layout.specs.declared.Shape.{Shape}
 use Rattle.layout.specs.declared.Table.{Table}
 use Rattle.layout.specs.Tables.{width, cells, many, settingsOf, Laid}
@@ -32,3 +32,10 @@ pub record InMap (s : Shape) (d : ℕ) (m : List ℕ) : Type 0 where
   pub laid : Laid s
   pub long : size (settingsOf s) ≤ length m
   pub id : d < ids
+
+-- bucket b of port p
+pub record InBuckets (s : Shape) (p b : ℕ) (m : List ℕ) : Type 0 where
+  pub laid : Laid s
+  pub long : size (settingsOf s) ≤ length m
+  pub port : p < s .ports
+  pub bucket : b < bucketCount

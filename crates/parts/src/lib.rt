@@ -1,13 +1,14 @@
-// The parts of a state that are neither lists nor records, read and written: credits, last served queues, marks, map entries.
+// The parts of a state that are neither lists nor records, read and written: credits, last served queues, marks, map entries, buckets.
 use layout::Shape;
 use layout::Table;
 ghost use mathlib.Core.Path.{_≡_};
-ghost use Rattle.ledger.specs.Ledger.{creditAt, arrivalOf, outwardOf, lastOf, mapOf, markOf};
-ghost use Rattle.layout.specs.declared.Table.the-variants.{Mapped, Last, Halted, Arrival, Outward};
+ghost use Rattle.ledger.specs.Ledger.{creditAt, arrivalOf, outwardOf, lastOf, mapOf, markOf, bucketAt};
+ghost use Rattle.ledger.specs.Buckets.{bucket#};
+ghost use Rattle.layout.specs.declared.Table.the-variants.{Mapped, Last, Halted, Arrival, Outward, Buckets};
 ghost use Rattle.layout.specs.Tables.{cells, get, put, settingsOf};
 ghost use Rattle.layout.specs.Picture.{tabulate, ledgerIn};
 ghost use Rattle.memory.specs.Writes.{creditMem};
-ghost use Rattle.parts.specs.Parts.{InCell, InCredits, InPorts, InMap};
+ghost use Rattle.parts.specs.Parts.{InCell, InCredits, InPorts, InMap, InBuckets};
 
 // ---- credits
 
@@ -105,4 +106,21 @@ pub fn set_mark(m: &mut [u8], s: Shape, p: usize, n: u8)
     ensures { λ _. ⌜ now (m .exit) ≡ put (settingsOf s) Halted p n (now (m .entry)) ⌝ }
 {
     layout::put1(m, s, Table::Halted, p, n);
+}
+
+// ---- buckets
+
+// Bucket b of port p.
+pub fn bucket(m: &[u8], s: Shape, p: usize, b: usize) -> u32
+    requires { ⌜ InBuckets s p b (now m) ⌝ }
+    ensures { λ r. ⌜ r ≡ bucketAt (ledgerIn (settingsOf s) (now (m .entry))) p b ⌝ }
+{
+    layout::get4(m, s, Table::Buckets, geometry::bucket_of(s, p, b))
+}
+
+pub fn set_bucket(m: &mut [u8], s: Shape, p: usize, b: usize, n: u32)
+    requires { ⌜ InBuckets s p b (now m) ⌝ }
+    ensures { λ _. ⌜ now (m .exit) ≡ put (settingsOf s) Buckets (bucket# p b) n (now (m .entry)) ⌝ }
+{
+    layout::put4(m, s, Table::Buckets, geometry::bucket_of(s, p, b), n);
 }

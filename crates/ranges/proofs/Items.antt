@@ -11,11 +11,11 @@ use lib.ListN.{length, getD}
 use lib.Dec.{ltb, leb}
 use Rattle.ledger.specs.declared.Finding.the-variants.{Whole}
 use Rattle.ledger.specs.Settings.{Settings}
-use Rattle.ledger.specs.Ledger.{prefetched, place#, Column, arrival, outward, last, mapped, halted, tall, bound, listAt}
+use Rattle.ledger.specs.Ledger.{prefetched, place#, Column, arrival, outward, last, mapped, halted, buckets, tall, bound, listAt}
 use Rattle.ledger.specs.Sound.{sum, InRange, Roomy}
 use Rattle.ledger.proofs.Tests.{ltb-yes, ltb-is, ltb-not, leb-yes, leb-is}
 use Rattle.ledger.proofs.Places.{row-lt, row-div, row-mod, place#-lt}
-use Rattle.layout.specs.declared.Table.the-variants.{Arrival, Outward, Halted, Count}
+use Rattle.layout.specs.declared.Table.the-variants.{Arrival, Outward, Halted, Buckets, Count}
 use Rattle.layout.specs.Tables.{tableOf, lists, get}
 use Rattle.layout.specs.Picture.{ledgerIn}
 use Rattle.layout.proofs.Tables.{get-lt}
@@ -99,6 +99,7 @@ module _ (S : Settings) (m : List ℕ) where
         number last i h = tested [] _ last refl i h (omega arith)
         number mapped i h = tested (last ∷ []) _ mapped refl i h (omega arith)
         number halted i h = get-lt S m Halted i
+        number buckets i h = get-lt S m Buckets i
 
     holds : InRange S (ledgerIn S m) → (k : ℕ) → k < items S → fitsAt S m k ≡ true
     unfolding fitsAt

@@ -7,6 +7,7 @@ use native.Mathlib.Numerals.{add-one, add-two, add-three}
 use native.Mathlib.Omega.{arith}
 use lib.ListN.{length, getD, take, drop, set}
 use lib.Seq.{sets-eq}
+use Rattle.ledger.specs.Buckets.{untimed}
 use Rattle.ledger.specs.Calls.{Act, Reply, turn}
 use Rattle.ledger.specs.Rounds.{each, answerBytes, answersIn}
 use Rattle.ledger.proofs.Told.{none-told, told-next}
@@ -43,7 +44,7 @@ module _ {s : Shape} (f : ℕ → List Act) {m₀ : List ℕ} {n : ℕ} where
 -- ---- turns, told in a room
 
 abbrev one : ℕ → List Act
-one p = turn p ∷ []
+one p = turn untimed p ∷ []
 
 -- the turns of the ports below p are told in what was room₀
 pub record Telling (s : Shape) (m₀ room₀ : List ℕ) (n p : ℕ) (m room : List ℕ) : Type 0 where
@@ -60,19 +61,19 @@ module _ {s : Shape} {m₀ : List ℕ} {n : ℕ} where
     rs = answersTo (settingsOf s) m₀ (each one p)
 
     abbrev r : Reply
-    r = acted (settingsOf s) m (turn p) .0
+    r = acted (settingsOf s) m (turn untimed p) .0
 
     answers-one : rs ++ (r ∷ []) ≡ answersTo (settingsOf s) m₀ (each one (p + 1))
     answers-one =
-        ap (λ (l : List ℕ). rs ++ (acted (settingsOf s) l (turn p) .0 ∷ [])) (at .passed .done) ∙ sym (answers-next (settingsOf s) one p m₀)
+        ap (λ (l : List ℕ). rs ++ (acted (settingsOf s) l (turn untimed p) .0 ∷ [])) (at .passed .done) ∙ sym (answers-next (settingsOf s) one p m₀)
 
     pub told-one : {m′ room′ : List ℕ} → p < n → length m′ ≡ length m → length room′ ≡ length room
-        → m′ ≡ acted (settingsOf s) m (turn p) .1 → room′ ≡ take (4 * p) room ++ (answerBytes r ++ drop (4 * p + 4) room)
+        → m′ ≡ acted (settingsOf s) m (turn untimed p) .1 → room′ ≡ take (4 * p) room ++ (answerBytes r ++ drop (4 * p + 4) room)
         → Telling s m₀ room₀ n (p + 1) m′ room′
     told-one l h i e f = record {
       passed = passed-next one (at .passed) l h e;
       room-length = i ∙ at .room-length;
-      told = f ∙ rw (at .told) (told-next rs r room₀ p (as-many-answers (settingsOf s) turn p m₀) ∙ ap (λ (x : List Reply). answersIn x room₀) answers-one);
+      told = f ∙ rw (at .told) (told-next rs r room₀ p (as-many-answers (settingsOf s) (turn untimed) p m₀) ∙ ap (λ (x : List Reply). answersIn x room₀) answers-one);
     }
 
     pub told-all : n ≤ p

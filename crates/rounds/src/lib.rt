@@ -10,6 +10,7 @@ ghost use mathlib.Core.List.{List, [], _∷_, _++_};
 ghost use Prim.Native.Nat.{ℕ, _+_, _*_, _≤_, _<_};
 ghost use lib.ListN.{length, take, drop};
 ghost use Rattle.ledger.specs.Answers.{plainReply, turnReply};
+ghost use Rattle.ledger.specs.Buckets.{untimed};
 ghost use Rattle.ledger.specs.Calls.{Reply, prefetch, turn};
 ghost use Rattle.ledger.specs.Rounds.{each, stitches, prefetches, turns, answerBytes, answersIn};
 ghost use Rattle.layout.specs.Tables.{settingsOf};
@@ -91,9 +92,9 @@ fn put(room: &mut [u8], at: usize, bytes: [u8; 4])
 // The turn of port p, told in its four bytes of the room.
 fn turn_port(m: &mut [u8], s: Shape, p: usize, room: &mut [u8])
     requires { ⌜ Works s (now m) × (p < s .ports) × (4 * s .ports ≤ length (now room)) ⌝ }
-    ensures { λ _. ⌜ now (m .exit) ≡ acted (settingsOf s) (now (m .entry)) (turn p) .1 ⌝ }
+    ensures { λ _. ⌜ now (m .exit) ≡ acted (settingsOf s) (now (m .entry)) (turn untimed p) .1 ⌝ }
     ensures { λ _. ⌜ now (room .exit) ≡ take (4 * p) (now (room .entry))
-        ++ (answerBytes (acted (settingsOf s) (now (m .entry)) (turn p) .0) ++ drop (4 * p + 4) (now (room .entry))) ⌝ }
+        ++ (answerBytes (acted (settingsOf s) (now (m .entry)) (turn untimed p) .0) ++ drop (4 * p + 4) (now (room .entry))) ⌝ }
 {
     let bytes = told(turns::turn(m, s, p as u32));
     put(room, 4 * p, bytes);

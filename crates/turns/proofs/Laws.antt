@@ -12,6 +12,7 @@ use Rattle.ledger.specs.Settings.{Settings}
 use Rattle.ledger.specs.Header.{price}
 use Rattle.ledger.specs.Ledger.{owner, isNode, Packet, free, prefetched, place#, Ledger, listAt, arrivalOf, outwardOf, lastOf}
 use Rattle.ledger.specs.Ready.{bit, covered, isReady, wordOf, readyWord, maskedAbove, pick}
+use Rattle.ledger.specs.Buckets.{untimed}
 use Rattle.ledger.specs.Calls.{Reply, refused, idle, leaves, word, turn, ready, Side, sideOf, isEmpty, firstOf}
 use Rattle.ledger.specs.Sound.{Roomy}
 use Rattle.ledger.proofs.Tests.{leb-is, leb-not, leb-yes, eqb-yes, eqb-not, true≢false}
@@ -25,7 +26,7 @@ use Rattle.layout.specs.declared.Table.the-variants.{Last, Arrival, Outward, He
 use Rattle.layout.specs.Tables.{lists, get, put}
 use Rattle.layout.specs.Picture.{packetAt, ledgerIn, StateOf}
 use Rattle.memory.specs.Ends.{popMem, pushMem}
-use Rattle.memory.specs.Writes.{headOf, moveMem, creditMem, serveMem}
+use Rattle.memory.specs.Writes.{headOf, moveMem, creditMem, serveMem, tickMem}
 use Rattle.memory.specs.Judged.{judged}
 use Rattle.memory.specs.Memory.{acted}
 use Rattle.memory.proofs.Judged.{acted-bad}
@@ -118,9 +119,9 @@ masked-is w m hw hm =
 -- ---- a turn
 
 module _ (S : Settings) (m : List ℕ) (p : ℕ) where
-  pub turn-no-port : S .ports ≤ p → (refused 4, m) ≡ acted S m (turn p)
+  pub turn-no-port : S .ports ≤ p → (refused 4, m) ≡ acted S m (turn untimed p)
   unfolding judged
-  turn-no-port h = sym (acted-bad S m (turn p) refl 4 (rw (leb-is (S .ports) p h)))
+  turn-no-port h = sym (acted-bad S m (turn untimed p) refl 4 (rw (leb-is (S .ports) p h)))
 
   pub ready-no-port : S .ports ≤ p → refused 4 ≡ acted S m (ready p) .0
   unfolding acted
@@ -131,7 +132,7 @@ module _ (S : Settings) (m : List ℕ) (p : ℕ) where
     unfolding acted
     ready-is = rw (leb-not (S .ports) p hp)
 
-    pub idle-is : readyWord S (ledgerIn S m) p ≡ 0 → (idle, m) ≡ acted S m (turn p)
+    pub idle-is : readyWord S (ledgerIn S m) p ≡ 0 → (idle, m) ≡ acted S m (turn untimed p)
     unfolding acted
     idle-is e = rw (leb-not (S .ports) p hp, e)
 
@@ -178,8 +179,8 @@ module _ (S : Settings) (m : List ℕ) (p : ℕ) where
               omega (arith, fits .2 .price-is ∙ ap (λ (t : ℕ). price (S .beat) t (k .len)) z ∙ price-free (S .beat) (k .len))
           go false i e = leb-yes (k .price) (outwardOf S N p q) e
 
-      pub leaves-is : (leaves k (sideOf q), serveMem S p q k m) ≡ acted S m (turn p)
-      unfolding acted
+      pub leaves-is : (leaves k (sideOf q), serveMem S p q k m) ≡ acted S m (turn untimed p)
+      unfolding acted tickMem
       leaves-is = rw (leb-not (S .ports) p hp, eqb-not (readyWord S N p) 0 n) (ap (λ (j : Packet). (leaves j (sideOf q), serveMem S p q k m)) (sym k-is))
 
 -- ---- what serving writes
@@ -226,5 +227,5 @@ pub turn-leaves : (S : Settings) (m : List ℕ) (p : ℕ) (hp : p < S .ports) (s
     → (q′ : ℕ) → q′ ≡ pick (lastOf (ledgerIn S m) p) (readyWord S (ledgerIn S m) p)
     → (k′ : Packet) (side : Side) (m′ : List ℕ)
     → k′ ≡ packetAt S m (headOf S m (prefetched p q′)) → side ≡ sideOf q′ → m′ ≡ serveMem S p q′ (packetAt S m (headOf S m (prefetched p q′))) m
-    → _≡_ {A = Reply × List ℕ} (leaves k′ side, m′) (acted S m (turn p))
+    → _≡_ {A = Reply × List ℕ} (leaves k′ side, m′) (acted S m (turn untimed p))
 turn-leaves S m p hp s n q′ eq k′ side m′ ek es em = rw (ek, es, em, eq) (leaves-is S m p hp s n)

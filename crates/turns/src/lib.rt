@@ -9,6 +9,7 @@ ghost use mathlib.Core.Path.{_≡_};
 ghost use mathlib.Core.List.{List};
 ghost use Prim.Native.Nat.{ℕ, _<_};
 ghost use Rattle.ledger.specs.Answers.{exitOf, turnReply, readyReply};
+ghost use Rattle.ledger.specs.Buckets.{untimed};
 ghost use Rattle.ledger.specs.Calls.{Reply, turn, ready, sideOf};
 ghost use Rattle.ledger.specs.Ready.{bit, isReady, readyWord, pick};
 ghost use Rattle.layout.specs.declared.Table.the-variants.{Last, Arrival, Outward};
@@ -107,7 +108,7 @@ fn serve(m: &mut [u8], s: Shape, p: usize, q: usize) -> Sent
 // The turn of a port: what leaves, or idle with nothing ready.
 pub fn turn(m: &mut [u8], s: Shape, port: u32) -> Turned
     requires { ⌜ Works s (now m) ⌝ }
-    ensures { λ r. ⌜ _≡_ {A = Reply × List ℕ} (turnReply r, now (m .exit)) (acted (settingsOf s) (now (m .entry)) (turn port)) ⌝ }
+    ensures { λ r. ⌜ _≡_ {A = Reply × List ℕ} (turnReply r, now (m .exit)) (acted (settingsOf s) (now (m .entry)) (turn untimed port)) ⌝ }
 {
     let p = port as usize;
     let ports = s.ports;

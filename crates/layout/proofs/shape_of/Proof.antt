@@ -62,6 +62,8 @@ shape-of-spec =
     (λ c. omega (arith, small c))
     (λ c. omega (arith, small c))
     (λ c. omega (arith, small c))
+    (λ c. search needs)
+    (λ c. omega (arith, small c))
     (λ c. omega (arith, small c))
     (λ c. omega (arith, small c))
     returns)

@@ -1,0 +1,1 @@
+-- What a timed turn and the reading of a bucket come to, with no code. Assumes nothing.
