@@ -72,7 +72,7 @@ one-more-le n = go (ltb n stop)
 
 -- ---- what a tick leaves: the ledger, or one bucket of it changed
 
-not-arrival : buckets ≢ arrival
+pub not-arrival : buckets ≢ arrival
 not-arrival i = let z : _≡_ {A = ℕ} 0 1 = cc in omega arith
 
 module _ (c : Clock) (p : ℕ) (k : Packet) (L : Ledger) where

@@ -50,3 +50,18 @@ module _ (c : Column) (f : List ℕ → List ℕ) (L : Ledger) where
       go : Dec (column# c ≡ column# d) → P d (change c f L .numbers d)
       go (yes e) = subst (λ (d : Column). P d (change c f L .numbers d)) (column-inj c d e) (rw change-here new)
       go (no n) = rw (change-other d (λ e. n (ap column# e))) (old d)
+
+-- where a ledger differs from N in one column alone, it is N with that column changed
+pub only-changed : (c : Column) (N L : Ledger) → L .lists ≡ N .lists → ((d : Column) → d ≢ c → L .numbers d ≡ N .numbers d)
+    → L ≡ change c (λ xs. L .numbers c) N
+only-changed c N L same others = λ k. record { lists = lists k; numbers = λ d. number d (ℕ-discrete (column# c) (column# d)) k }
+  where
+    lists : L .lists ≡ change c (λ xs. L .numbers c) N .lists
+    lists = unfold change in same
+
+    number : (d : Column) → Dec (column# c ≡ column# d) → L .numbers d ≡ change c (λ xs. L .numbers c) N .numbers d
+    number d (yes e) =
+        subst (λ (b : Column). L .numbers b ≡ change c (λ xs. L .numbers c) N .numbers b) (column-inj c d e)
+        (sym (change-here c (λ xs. L .numbers c) N))
+    number d (no n) =
+        others d (λ e. n (ap column# (sym e))) ∙ sym (change-other c (λ xs. L .numbers c) N d (λ e. n (ap column# e)))

@@ -26,22 +26,15 @@ use Rattle.ledger.specs.Sound.{All, Orderly}
 use Rattle.ledger.specs.Desk.{Desk, has, Call, setup, act, desk, afterCalls, answersOf, SetupsRefused}
 use Rattle.ledger.specs.Night.{AgreeAt, refusedAt, others, asked, AlikeBut, OwnMarkAlone, HaltLasts}
 use Rattle.ledger.proofs.Tests.{true≢false, eqb-is, eqb-not, ltb-not, and-left, and-right}
-use Rattle.ledger.proofs.Columns.{column-inj, other-column, change-here, change-other}
+use Rattle.ledger.proofs.Columns.{other-column, change-here, change-other, only-changed}
 use Rattle.ledger.proofs.Buckets.{ticked-numbers}
 use Rattle.ledger.proofs.Halt.{marks-first, marked-by, not-held}
 use Rattle.ledger.proofs.Passes.{guard-after, passes, Admits, admits}
-use Rattle.ledger.proofs.Steps.{cleared, stepped, refused-by, refused-else}
+use Rattle.ledger.proofs.Steps.{guarded-both, cleared, stepped, refused-by, refused-else}
 use Rattle.ledger.proofs.Promises.{refusal-marks, means-sound}
 use Rattle.ledger.proofs.Courses.{Faithful, act-answer, act-shows, refused-shows, desk-faithful}
 
 -- ---- two ledgers under the same rules
-
--- what holds of each refusal by both, and of both outcomes, holds of what the same rules decide of both
-guarded-both : {X : Type 0} (P : X → X → Type 0) (rs : List Rule) (no₁ no₂ : ℕ → X) (out₁ out₂ : X)
-    → ((n : ℕ) → P (no₁ n) (no₂ n)) → (Clear rs → P out₁ out₂) → P (guard rs no₁ out₁) (guard rs no₂ out₂)
-guarded-both P [] no₁ no₂ out₁ out₂ f g = g tt
-guarded-both P (refuse n true ∷ rs) no₁ no₂ out₁ out₂ f g = f n
-guarded-both P (refuse n false ∷ rs) no₁ no₂ out₁ out₂ f g = guarded-both P rs no₁ no₂ out₁ out₂ f (λ c. g (refl, c))
 
 -- rules after rules: where none of the first applies, the others decide
 guard-then : {X : Type 0} (rs ts : List Rule) (no′ : ℕ → X) (out : X) → guard (rs ++ ts) no′ out ≡ guard rs no′ (guard ts no′ out)
@@ -190,17 +183,7 @@ remark ys N = change halted (λ xs. ys) N
 
 is-remark : {p : ℕ} {N L : Ledger} → OnlyMark p N L → L ≡ remark (L .numbers halted) N
 unfolding remark
-is-remark {p} {N} {L} o = λ k. record { lists = lists k; numbers = λ d. number d (ℕ-discrete (column# halted) (column# d)) k }
-  where
-    lists : L .lists ≡ remark (L .numbers halted) N .lists
-    lists = unfold change in o .same-lists
-
-    number : (d : Column) → Dec (column# halted ≡ column# d) → L .numbers d ≡ remark (L .numbers halted) N .numbers d
-    number d (yes e) =
-        subst (λ (c : Column). L .numbers c ≡ remark (L .numbers halted) N .numbers c) (column-inj halted d e)
-        (sym (change-here halted (λ xs. L .numbers halted) N))
-    number d (no n) =
-        o .same-numbers d (λ e. n (ap column# (sym e))) ∙ sym (change-other halted (λ xs. L .numbers halted) N d (λ e. n (ap column# e)))
+is-remark {p} {N} {L} o = only-changed halted N L (o .same-lists) (o .same-numbers)
 
 -- what both answer and leave: the same answer, but to p's report
 abbrev Alike : ℕ → Act → Reply × Ledger → Reply × Ledger → Type 0

@@ -26,6 +26,8 @@ pub mod Order
 pub mod Records
 pub mod Night
 pub mod Halted
+pub mod Tally
+pub mod Unread
 pub mod WrongDesks
 pub mod Answers
 pub mod Cards

@@ -34,6 +34,13 @@ guarded P [] no′ out f g = g tt
 guarded P (refuse n true ∷ rs) no′ out f g = f n
 guarded P (refuse n false ∷ rs) no′ out f g = guarded P rs no′ out f (λ c. g (refl, c))
 
+-- what holds of each refusal by both, and of both outcomes, holds of what the same rules decide of both
+pub guarded-both : {X : Type 0} (P : X → X → Type 0) (rs : List Rule) (no₁ no₂ : ℕ → X) (out₁ out₂ : X)
+    → ((n : ℕ) → P (no₁ n) (no₂ n)) → (Clear rs → P out₁ out₂) → P (guard rs no₁ out₁) (guard rs no₂ out₂)
+guarded-both P [] no₁ no₂ out₁ out₂ f g = g tt
+guarded-both P (refuse n true ∷ rs) no₁ no₂ out₁ out₂ f g = f n
+guarded-both P (refuse n false ∷ rs) no₁ no₂ out₁ out₂ f g = guarded-both P rs no₁ no₂ out₁ out₂ f (λ c. g (refl, c))
+
 -- where no rule applies, the outcome
 pub cleared : {X : Type 0} (rs : List Rule) (no′ : ℕ → X) (out : X) → Clear rs → guard rs no′ out ≡ out
 cleared [] no′ out c = refl

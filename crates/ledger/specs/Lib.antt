@@ -13,6 +13,7 @@ pub mod Rounds
 pub mod Door
 pub mod Order
 pub mod Night
+pub mod Tally
 pub mod Audit
 pub mod Repair
 pub mod Answers
