@@ -7,26 +7,40 @@ use Prim.Native.Nat.{ℕ, zero, suc, _≤_, _<_}
 use native.Mathlib.Omega.{arith}
 use lib.ListN.{length, getD, length-append}
 use Rattle.ledger.specs.Settings.{Settings}
-use Rattle.ledger.specs.Ledger.{entryId, Packet, Place, free, prefetched, column, place#, mapped, Ledger, listAt, start, Place·In}
+use Rattle.ledger.specs.Ledger.{entryId, Packet, Place, free, prefetched, column, place#, mapped, buckets, Ledger, listAt, start, Place·In}
 use Rattle.ledger.specs.Calls.{Reply}
 use Rattle.ledger.specs.Desk.{has}
 use Rattle.ledger.specs.Demand.{ShowsWaiting}
 use Rattle.ledger.specs.Repair.{restart}
 use Rattle.ledger.proofs.Tests.{true≢false}
 use Rattle.ledger.proofs.Start.{bares-length, start-free, start-else}
+use Rattle.ledger.specs.Buckets.{bucket#}
 use Rattle.ledger.proofs.Repair.{restarted}
+use Rattle.ledger.proofs.Tally.{start-none}
 use Rattle.layout.specs.Picture.{settingsIn, opens, ledgerIn}
 use Rattle.memory.specs.Memory.{picture}
 use Rattle.memory.specs.Repair.{repaired}
 use Rattle.memory.specs.Deeds.{LentDeed, lent-find, lent-repair}
 use Rattle.memory.specs.Deeds.{foundBy, Told, LeavesInDeeds, KeepsOrderInDeeds, PoolKeptInDeeds, CountsAfresh, HoldsInDeeds, AfreshAfterRepair}
+use Rattle.memory.specs.Deeds.{SumSinceRepair}
 use Rattle.memory.proofs.Demands.{pictured-state}
 use Rattle.memory.proofs.Repair.{repair-refused, repair-picture}
-use Rattle.memory.proofs.Deeds.{opens-state, holds-in-deeds}
+use Rattle.memory.proofs.Deeds.{opens-state, holds-in-deeds, sum-since}
 
 pub afresh-after-repair : AfreshAfterRepair
 unfolding AfreshAfterRepair HoldsInDeeds
 afresh-after-repair m o = holds-in-deeds (repaired m .1) (settingsIn m) _ (repair-picture m o)
+
+-- the buckets are as in the starting ledger
+pub sum-since-repair : SumSinceRepair
+unfolding SumSinceRepair AfreshAfterRepair
+sum-since-repair m o =
+    let S : Settings = settingsIn m in
+    sum-since (repaired m .1) S _ (afresh-after-repair m o)
+    (λ p hp b hb.
+    ap (λ (xs : List ℕ). getD xs (bucket# p b) 0)
+    (restarted S (ledgerIn S m .numbers mapped) .same-numbers buckets (λ e. let z : _≡_ {A = ℕ} 0 1 = cc in omega arith))
+    ∙ start-none S p hp b hb)
 
 -- ---- what is excluded
 

@@ -4,20 +4,22 @@ use mathlib.Core.Path.{_≡_, refl, sym, ap, _∙_, subst}
 use mathlib.Core.Bool.{Bool, true, false}
 use mathlib.Core.List.{List, [], _∷_, _++_, map}
 use Prim.Native.Nat.{ℕ, zero, suc, _+_, _-_, _*_, _≤_, _<_, zero-le}
-use native.Mathlib.Nat.{le-of-suc-le-suc, not-suc-le-zero, sub-zero}
+use native.Mathlib.Nat.{le-of-suc-le-suc, not-suc-le-zero, sub-zero, zero-add}
 use native.Mathlib.Omega.{arith}
 use native.Mathlib.Decide.{decLe}
 use lib.ListN.{length, getD, take, length-append, List·getD-append}
 use lib.Seq.{take-append-le, take-append-add, getD-append-add}
-use Rattle.ledger.specs.Settings.{Settings}
-use Rattle.ledger.specs.Ledger.{Packet, Ledger, start}
+use Rattle.ledger.specs.Settings.{Settings, bucketCount}
+use Rattle.ledger.specs.Ledger.{Packet, Ledger, bucketAt, start}
 use Rattle.ledger.specs.Calls.{turn, ready, Reply, refused, done, leaves, isRefused, sideOf}
 use Rattle.ledger.specs.Desk.{Desk, has, Call, setup, act, setupRules, desk, afterCalls, SetupsRefused}
 use Rattle.ledger.specs.Sound.{All}
 use Rattle.ledger.specs.Demand.{turnsIn, ShowsWaiting, LeavesAmong}
 use Rattle.ledger.specs.Rounds.{answerBytes}
+use Rattle.ledger.specs.Tally.{bucketSum, BelowStop}
 use Rattle.ledger.proofs.Tests.{true≢false}
 use Rattle.ledger.proofs.Steps.{guarded}
+use Rattle.ledger.proofs.Tally.{sum-none, start-none}
 use Rattle.ledger.proofs.Courses.{calls-append, refused-parts, calls-show}
 use Rattle.layout.specs.Picture.{opens, State}
 use Rattle.memory.specs.Memory.{picture, M}
@@ -25,12 +27,13 @@ use Rattle.memory.specs.Demands.{onMemory}
 use Rattle.memory.specs.Repair.{repaired}
 use Rattle.memory.specs.Rounds.{RoomTells, NobodyStarvesInRoundsInMemory}
 use Rattle.memory.specs.Deeds.{Undisturbed, RepairStands, foundBy, FoundAmongCalls, Told, LeavesInDeeds, NobodyStarvesInDeeds, FromHereOn}
-use Rattle.memory.specs.Deeds.{HoldsInDeeds, AfreshAfterSetup}
+use Rattle.memory.specs.Deeds.{CountsAfresh, HoldsInDeeds, AfreshAfterSetup, waitsOf, SumSince, SumSinceSetup}
 use Rattle.memory.specs.Deeds.{LentDeed, lent-call, lent-round, lent-audit, lent-find, lent-repair, deedOf, leftBy, afterDeeds}
 use Rattle.memory.specs.Deeds.{callsBy, callsIn, isRepair, RepairsRefused, DeedsAreCalls}
 use Rattle.memory.proofs.Picture.{opens-means}
 use Rattle.memory.proofs.Demands.{pictured-state, memory-faithful, memory-keeps-order, memory-goes-along, memory-pool-kept}
 use Rattle.memory.proofs.Demands.{memory-own-mark-alone, memory-halt-lasts}
+use Rattle.memory.proofs.Tally.{memory-buckets-count}
 use Rattle.memory.proofs.Rounds.{room-tells}
 use Rattle.memory.proofs.Door.{deed-is-calls, deeds-are-calls, nobody-starves-in-rounds-in-memory}
 
@@ -239,6 +242,7 @@ module _ (m : List ℕ) (S : Settings) (L : Ledger) (e : picture m ≡ has S L) 
     marks = λ p ds f. let o = memory-own-mark-alone m S L e p (callsIn m ds) (f .setups) in (o, shown-by-deeds m S ds f (o .sent) (o .shown));
     halts = λ p some ds f unlifted.
         let o = memory-halt-lasts m S L e p some (callsIn m ds) (f .setups) unlifted in (o, shown-by-deeds m S ds f (o .ledger) (o .shown));
+    counts = λ p hp ds f. let o = memory-buckets-count m S L e p hp (callsIn m ds) (f .setups) in (o, shown-by-deeds m S ds f (o .ledger) (o .shown));
     records = λ ds f. let o = memory-goes-along m S L e (callsIn m ds) (f .setups) in (o, shown-by-deeds m S ds f (o .ledger) (o .shown));
   }
 
@@ -262,3 +266,20 @@ afresh-after-setup m T d =
     stands =
         guarded {X = Reply × Desk} (λ o. o .0 ≡ done → o .1 ≡ has T (start T)) (setupRules (length m) T) (λ r. (refused r, picture m))
         (done, has T (start T)) (λ r i. absurd (let z : _≡_ {A = ℕ} 0 1 = cc in omega arith)) (λ c i. refl)
+
+-- ---- the buckets, counted from none
+
+pub sum-since : (m : List ℕ) (S : Settings) (L : Ledger) → CountsAfresh S L m → ((p : ℕ) → p < S .ports → (b : ℕ) → b < bucketCount → bucketAt L p b ≡ 0)
+    → SumSince S m
+sum-since m S L c none p hp ds u N i low =
+    let o = c .now .counts p hp ds u in
+    let shown = sym (o .1) ∙ i in
+    let same : o .0 .ledger ≡ N = cc in
+    ap (λ (K : Ledger). bucketSum K p) (sym same)
+    ∙ o .0 .summed (subst (λ (K : Ledger). BelowStop K p) (sym same) low)
+    ∙ ap (λ (n : ℕ). n + length (waitsOf p m ds)) (sum-none L p bucketCount (none p hp))
+    ∙ zero-add (length (waitsOf p m ds))
+
+pub sum-since-setup : SumSinceSetup
+unfolding SumSinceSetup AfreshAfterSetup
+sum-since-setup m T d = sum-since (M (setup T) m .1) T (start T) (afresh-after-setup m T d) (start-none T)

@@ -1,5 +1,5 @@
--- Paper 02, Q-11: demand 3, the order of queues, the pools, the marks and what is recorded, said of all that is done on a memory: calls, rounds,
--- audits and findings, setting up anew and repairs excepted. And "After repair demand 3 counts afresh, as after setup". Assumes nothing.
+-- Paper 02, Q-11: demand 3, the order of queues, the pools, the marks, the buckets and what is recorded, said of all that is done on a memory: calls,
+-- rounds, audits and findings, setting up anew and repairs excepted. And "After repair demand 3 counts afresh, as after setup". Assumes nothing.
 use mathlib.Core.Path.{_≡_}
 use mathlib.Core.Logic.{_≢_}
 use mathlib.Core.Bool.{Bool, true, false}
@@ -10,11 +10,12 @@ use Rattle.ledger.specs.Settings.{Settings}
 use Rattle.ledger.specs.Ledger.{Packet, Place, mapped, markOf, Ledger, start, Place·In}
 use Rattle.ledger.specs.Buckets.{Clock}
 use Rattle.ledger.specs.Calls.{turn, clear, done, leaves, isRefused, sideOf}
-use Rattle.ledger.specs.Desk.{has, Call, setup, act, afterCalls, SetupsRefused}
+use Rattle.ledger.specs.Desk.{has, Call, setup, act, afterCalls, answersOf, SetupsRefused}
 use Rattle.ledger.specs.Sound.{All}
 use Rattle.ledger.specs.Demand.{Stands, InHand, turnsIn, ShowsWaiting, LeavesAmong}
 use Rattle.ledger.specs.Order.{KeepsOrder, GoesAlong}
 use Rattle.ledger.specs.Night.{PoolKept, OwnMarkAlone, HaltLasts}
+use Rattle.ledger.specs.Tally.{waitsIn, bucketSum, BelowStop, BucketsCount}
 use Rattle.ledger.specs.Rounds.{answerBytes, Deed, one, round, look, doneBy}
 use Rattle.ledger.specs.Door.{atCall, callsOf, doneFrom}
 use Rattle.ledger.specs.Repair.{restart}
@@ -129,7 +130,7 @@ NobodyStarvesInDeeds S L m =
     → S .queues * (length ahead + 1) ≤ turnsIn p (callsIn m ds)
     → LeavesInDeeds S p q k (S .queues * (length ahead + 1)) m ds
 
--- ---- the order of queues, the pools, the marks, and what is recorded: the ledger after the calls is the one that the memory after the deeds shows
+-- ---- the order of queues, the pools, the marks, the buckets and what is recorded: the ledger after the calls is the one that the memory after the deeds shows
 
 abbrev pub KeepsOrderInDeeds : Settings → Ledger → Place → List ℕ → List LentDeed → Type 0
 KeepsOrderInDeeds S L u m ds = (o : KeepsOrder onMemory picture S L u m (callsIn m ds)) × (picture (afterDeeds m ds) ≡ has S (o .ledger))
@@ -142,6 +143,9 @@ OwnMarkAloneInDeeds S p m ds = (o : OwnMarkAlone onMemory picture S p m (callsIn
 
 abbrev pub HaltLastsInDeeds : Settings → ℕ → ℕ → List ℕ → List LentDeed → Type 0
 HaltLastsInDeeds S p v m ds = (o : HaltLasts onMemory picture S p v m (callsIn m ds)) × (picture (afterDeeds m ds) ≡ has S (o .ledger))
+
+abbrev pub BucketsCountInDeeds : Settings → Ledger → ℕ → List ℕ → List LentDeed → Type 0
+BucketsCountInDeeds S L p m ds = (o : BucketsCount onMemory picture S L p m (callsIn m ds)) × (picture (afterDeeds m ds) ≡ has S (o .ledger))
 
 abbrev pub GoesAlongInDeeds : Settings → Ledger → List ℕ → List LentDeed → Type 0
 GoesAlongInDeeds S L m ds = (o : GoesAlong onMemory picture S L m (callsIn m ds)) × (picture (afterDeeds m ds) ≡ has S (o .ledger))
@@ -157,6 +161,7 @@ pub record FromHereOn (S : Settings) (L : Ledger) (m : List ℕ) : Type 0 where
   pub marks : (p : ℕ) (ds : List LentDeed) → Undisturbed m ds → OwnMarkAloneInDeeds S p m ds
   pub halts : (p : ℕ) → 0 < markOf L p → (ds : List LentDeed) → Undisturbed m ds → All (λ c. c ≢ act (clear p)) (callsIn m ds)
       → HaltLastsInDeeds S p (markOf L p) m ds
+  pub counts : (p : ℕ) → p < S .ports → (ds : List LentDeed) → Undisturbed m ds → BucketsCountInDeeds S L p m ds
   pub records : (ds : List LentDeed) → Undisturbed m ds → GoesAlongInDeeds S L m ds
 
 -- and from every later moment on
@@ -176,3 +181,21 @@ AfreshAfterRepair =
 
 unfoldable pub AfreshAfterSetup : Type 0
 AfreshAfterSetup = (m : List ℕ) (T : Settings) → M (setup T) m .0 ≡ done → CountsAfresh T (start T) (M (setup T) m .1)
+
+-- ---- paper 02, Q-13: "Below that stop, their sum is the number of packets sent by timed turns since"
+
+-- the waits of the packets that timed turns of port p sent among the deeds; a round's turns are not timed
+abbrev pub waitsOf : ℕ → List ℕ → List LentDeed → List ℕ
+waitsOf p m ds = waitsIn p (callsIn m ds) (answersOf onMemory m (callsIn m ds))
+
+-- since memory m
+abbrev pub SumSince : Settings → List ℕ → Type 0
+SumSince S m =
+    (p : ℕ) → p < S .ports → (ds : List LentDeed) → Undisturbed m ds
+    → (N : Ledger) → picture (afterDeeds m ds) ≡ has S N → BelowStop N p → bucketSum N p ≡ length (waitsOf p m ds)
+
+unfoldable pub SumSinceSetup : Type 0
+SumSinceSetup = (m : List ℕ) (T : Settings) → M (setup T) m .0 ≡ done → SumSince T (M (setup T) m .1)
+
+unfoldable pub SumSinceRepair : Type 0
+SumSinceRepair = (m : List ℕ) → opens m ≡ true → SumSince (settingsIn m) (repaired m .1)

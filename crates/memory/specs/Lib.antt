@@ -4,6 +4,7 @@ pub mod Image
 pub mod Memory
 pub mod Marks
 pub mod Demands
+pub mod Tally
 pub mod Audit
 pub mod Repair
 pub mod Rounds

@@ -1,0 +1,37 @@
+-- Paper 02, Q-13, on memory: what a timed turn makes of a turn's bytes, and that no bucket is read. Assumes nothing.
+use mathlib.Core.Path.{_≡_}
+use mathlib.Core.List.{List}
+use Prim.Native.Nat.{ℕ, _<_}
+use lib.ListN.{length}
+use Rattle.ledger.specs.Settings.{Settings}
+use Rattle.ledger.specs.Ledger.{Ledger, buckets, tall, bound}
+use Rattle.ledger.specs.Buckets.{untimed, at}
+use Rattle.ledger.specs.Calls.{turn, Reply}
+use Rattle.ledger.specs.Desk.{has, Call, act}
+use Rattle.ledger.specs.Order.{named}
+use Rattle.ledger.specs.Tally.{AgreeBut, WaitsUnread}
+use Rattle.layout.specs.declared.Table.the-variants.{Buckets}
+use Rattle.layout.specs.Tables.{put}
+use Rattle.layout.specs.Picture.{settingsIn}
+use Rattle.memory.specs.Writes.{tickMem}
+use Rattle.memory.specs.Memory.{picture, M}
+use Rattle.memory.specs.Demands.{onMemory}
+
+-- what a turn of port p answers and leaves, with the wait of the packet that it sent counted
+abbrev pub asTimed : Settings → ℕ → ℕ → Reply × List ℕ → Reply × List ℕ
+asTimed S time p out = (out .0, named (out .1) (λ x. out .1) (λ b. out .1) (λ k. tickMem S (at time) p k (out .1)) (out .0))
+
+-- "Sending is as before", on every memory: a timed turn answers as the turn does, and what it leaves differs in a bucket's four bytes at most
+unfoldable pub TimedBytes : Type 0
+TimedBytes = (m : List ℕ) (time p : ℕ) → M (act (turn (at time) p)) m ≡ asTimed (settingsIn m) time p (M (act (turn untimed p)) m)
+
+-- whatever number stands in a bucket of a switch state, it is one, and differs in buckets alone
+unfoldable pub BucketsFree : Type 0
+BucketsFree =
+    (m : List ℕ) (S : Settings) (L : Ledger) → picture m ≡ has S L → (i v : ℕ) → i < tall S buckets → v < bound S buckets
+    → AgreeBut (picture m) (picture (put S Buckets i v m))
+
+-- and memories that differ so answer every call but the reading one alike, and go on differing so
+unfoldable pub WaitsUnreadInMemory : Type 0
+WaitsUnreadInMemory =
+    (m n : List ℕ) → length m ≡ length n → AgreeBut (picture m) (picture n) → (cs : List Call) → WaitsUnread onMemory picture m n cs
