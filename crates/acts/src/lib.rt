@@ -5,6 +5,7 @@ use ranges::Opened;
 ghost use mathlib.Core.Path.{_≡_};
 ghost use mathlib.Core.List.{List};
 ghost use Prim.Native.Nat.{ℕ};
+ghost use Rattle.ledger.specs.Buckets.{untimed};
 ghost use Rattle.ledger.specs.Calls.{arrive, stitch, prefetch, credit, turn};
 ghost use Rattle.ledger.specs.Desk.{act};
 ghost use Rattle.layout.specs.Picture.{State};
@@ -70,7 +71,7 @@ pub extern "C" fn act_credit(mem: &mut [u8], port: u32, queue: u32, amount: u32)
 pub extern "C" fn act_turn(mem: &mut [u8], port: u32, sent: &mut [u8; 16]) -> u32
     requires { ⌜ State (now mem) ⌝ }
     ensures { λ r. ⌜ _≡_ {A = ℕ × List ℕ × List ℕ} (r, now (mem .exit), now (sent .exit))
-        (toldIn sentRoom (now (sent .entry)) (M (act (turn port)) (now (mem .entry)))) ⌝ }
+        (toldIn sentRoom (now (sent .entry)) (M (act (turn untimed port)) (now (mem .entry)))) ⌝ }
 {
     let s = shape(mem);
     rooms::put_sent(turns::turn(mem, s, port), sent)

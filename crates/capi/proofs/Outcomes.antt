@@ -7,6 +7,7 @@ use native.Mathlib.Omega.{arith}
 use denote.Ref.{now}
 use lib.ListN.{getD, replicate}
 use Rattle.ledger.specs.Outcome.{Contract, OneOutcome}
+use Rattle.ledger.specs.Buckets.{untimed}
 use Rattle.ledger.specs.Calls.{turn}
 use Rattle.ledger.specs.Desk.{act}
 use Rattle.memory.specs.Memory.{M}
@@ -32,6 +33,8 @@ use Rattle.capi.proofs.vr_read_header
 use Rattle.capi.proofs.vr_write_header
 use Rattle.capi.proofs.vr_clear
 use Rattle.capi.proofs.vr_report
+use Rattle.capi.proofs.vr_timed_turn
+use Rattle.capi.proofs.vr_bucket
 
 pub vr-size-one : OneOutcome vr_size.ended vr_size.Reads.Learnt
 vr-size-one κs a r r₂ left left₂ p q = (p ∙ sym q, refl)
@@ -57,6 +60,9 @@ vr-map-one κs a r r₂ left left₂ p q = parted (λ m. (m, left .1)) p q
 pub vr-turn-one : OneOutcome vr_turn.ended vr_turn.Reads.Learnt
 vr-turn-one κs a r r₂ left left₂ p q = roomed (λ m x. (m, (tt, (x, tt)))) p q
 
+pub vr-timed-turn-one : OneOutcome vr_timed_turn.ended vr_timed_turn.Reads.Learnt
+vr-timed-turn-one κs a r r₂ left left₂ p q = roomed (λ m x. (m, (tt, (tt, (x, tt))))) p q
+
 pub vr-round-one : OneOutcome vr_round.ended vr_round.Reads.Learnt
 vr-round-one κs a r r₂ left left₂ p q = roomed (λ m x. (m, (x, tt))) p q
 
@@ -69,6 +75,9 @@ vr-clear-one κs a r r₂ left left₂ p q = parted (λ m. (m, left .1)) p q
 -- the memory of these is lent for reading only: what is left is the rooms
 pub vr-report-one : OneOutcome vr_report.ended vr_report.Reads.Learnt
 vr-report-one κs a r r₂ left left₂ p q = parted (λ x. (tt, (tt, (x, tt)))) p q
+
+pub vr-bucket-one : OneOutcome vr_bucket.ended vr_bucket.Reads.Learnt
+vr-bucket-one κs a r r₂ left left₂ p q = parted (λ x. (tt, (tt, (tt, (x, tt))))) p q
 
 pub vr-ready-one : OneOutcome vr_ready.ended vr_ready.Reads.Learnt
 vr-ready-one κs a r r₂ left left₂ p q = parted (λ x. (tt, (tt, (x .0, (x .1, tt))))) p q
@@ -90,11 +99,11 @@ vr-write-header-one κs a r r₂ left left₂ p q = roomed (λ b n. (tt, (tt, (t
 
 -- a contract of turn that says the number and the memory alone would not do: any sixteen bytes might stand in the room
 abbrev pub room-unsaid : Contract vr_turn.ended
-room-unsaid κs a r left = (r, now (left .0)) ≡ told (M (act (turn (a .1 .0))) (now (a .0)))
+room-unsaid κs a r left = (r, now (left .0)) ≡ told (M (act (turn untimed (a .1 .0))) (now (a .0)))
 
 pub room-needed : OneOutcome vr_turn.ended room-unsaid → ⊥
 room-needed one =
-    let e : (3, []) ≡ told (M (act (turn 0)) []) = ap told (sym (off-state [] (zero-no-state 0) (turn 0))) in
+    let e : (3, []) ≡ told (M (act (turn untimed 0)) []) = ap told (sym (off-state [] (zero-no-state 0) (turn untimed 0))) in
     let t = one ([], ([], tt)) (lent [], (0, (lent (replicate 16 0), tt))) 3 3 ([], (tt, (replicate 16 0, tt))) ([], (tt, (replicate 16 1, tt))) e e in
     let z : _≡_ {A = ℕ} 0 1 = ap (λ (x : List ℕ × (Unit {0} × (List ℕ × Unit {0}))). getD (x .1 .1 .0) 0 0) (t .1) in
     omega arith

@@ -5,7 +5,7 @@ use mathlib.Core.List.{List}
 use Prim.Native.Nat.{ℕ, _≤_}
 use native.Mathlib.Omega.{arith}
 use Rattle.ledger.specs.Settings.{Settings, row, size}
-use Rattle.ledger.specs.Calls.{Reply, refused, done, entry, stitched, idle, leaves, word, found, reported, arrive, isRefused}
+use Rattle.ledger.specs.Calls.{Reply, refused, done, entry, stitched, idle, leaves, word, found, reported, counted, arrive, isRefused}
 use Rattle.ledger.specs.Desk.{Call, act, isArrivalCall}
 use Rattle.ledger.specs.Answers.{numberOf}
 use Rattle.ledger.specs.declared.Refusal.{Refusal}
@@ -72,6 +72,7 @@ module _ {A : Type 0} (room : Reply → A → A) (kept : Keeps room) where
   refusal-only (word w n) old h = absurd (h refl)
   refusal-only (found v i) old h = absurd (h refl)
   refusal-only (reported n) old h = absurd (h refl)
+  refusal-only (counted n) old h = absurd (h refl)
 
   pub nothing-differs : (c : Call) → isArrivalCall c ≡ false → (m : List ℕ) (old : A) → (numberIn (M c m .0) ≡ 0 → ⊥)
       → toldIn room old (M c m) ≡ (numberIn (M c m .0), m, old)
@@ -90,6 +91,7 @@ numbered-reply (leaves k s) h = absurd (h refl)
 numbered-reply (word w n) h = absurd (h refl)
 numbered-reply (found v i) h = absurd (h refl)
 numbered-reply (reported n) h = absurd (h refl)
+numbered-reply (counted n) h = absurd (h refl)
 
 pub but-the-mark : (p : ℕ) (h m : List ℕ) (old : ℕ) → (numberIn (M (act (arrive p h)) m .0) ≡ 0 → ⊥) →
     let out = toldIn entryRoom old (M (act (arrive p h)) m) in

@@ -5,7 +5,8 @@ use settings::Settings;
 ghost use mathlib.Core.Path.{_≡_};
 ghost use mathlib.Core.List.{List};
 ghost use Prim.Native.Nat.{ℕ};
-ghost use Rattle.ledger.specs.Calls.{arrive, stitch, prefetch, credit, mapTo, turn, ready, whereIs, clear, report};
+ghost use Rattle.ledger.specs.Calls.{arrive, stitch, prefetch, credit, mapTo, turn, ready, whereIs, clear, report, bucket};
+ghost use Rattle.ledger.specs.Buckets.{untimed, at};
 ghost use Rattle.settings.specs.Told.{toldSettings};
 ghost use Rattle.ledger.specs.Desk.{setup, act};
 ghost use Rattle.memory.specs.Memory.{M};
@@ -16,7 +17,7 @@ ghost use Rattle.sound.specs.Sound.{brokenIn};
 ghost use Rattle.codec.specs.Reader.{reads};
 ghost use Rattle.codec.specs.Writer.{writes};
 ghost use Rattle.labels.specs.Labels.{labelAt, labelRoom, headerRoom};
-ghost use Rattle.rooms.specs.Rooms.{told, toldIn, toldRound, shown, entryRoom, recordRoom, sentRoom, readyRoom, markRoom, foundNumbers};
+ghost use Rattle.rooms.specs.Rooms.{told, toldIn, toldRound, shown, entryRoom, recordRoom, sentRoom, readyRoom, markRoom, bucketRoom, foundNumbers};
 ghost use Rattle.ledger.specs.Audit.{placeRoom};
 ghost use Rattle.capi.specs.Size.{settingsAt, sizeFor};
 
@@ -99,7 +100,7 @@ pub extern "C" fn vr_map(mem: &mut [u8], id: u32, port: u32) -> u32
 #[no_mangle]
 pub extern "C" fn vr_turn(mem: &mut [u8], port: u32, sent: &mut [u8; 16]) -> u32
     ensures { λ r. ⌜ _≡_ {A = ℕ × List ℕ × List ℕ} (r, now (mem .exit), now (sent .exit))
-        (toldIn sentRoom (now (sent .entry)) (M (act (turn port)) (now (mem .entry)))) ⌝ }
+        (toldIn sentRoom (now (sent .entry)) (M (act (turn untimed port)) (now (mem .entry)))) ⌝ }
 {
     rooms::put_sent(switch::turn(mem, port), sent)
 }
@@ -195,4 +196,20 @@ pub extern "C" fn vr_report(mem: &[u8], port: u32, mark: &mut u32) -> u32
     ensures { λ r. ⌜ _≡_ {A = ℕ × ℕ} (r, now (mark .exit)) (shown markRoom (now (mark .entry)) (M (act (report port)) (now (mem .entry)) .0)) ⌝ }
 {
     rooms::put_report(switch::report(mem, port), mark)
+}
+
+#[no_mangle]
+pub extern "C" fn vr_timed_turn(mem: &mut [u8], port: u32, time: u32, sent: &mut [u8; 16]) -> u32
+    ensures { λ r. ⌜ _≡_ {A = ℕ × List ℕ × List ℕ} (r, now (mem .exit), now (sent .exit))
+        (toldIn sentRoom (now (sent .entry)) (M (act (turn (at time) port)) (now (mem .entry)))) ⌝ }
+{
+    rooms::put_sent(switch::timed_turn(mem, port, time), sent)
+}
+
+#[no_mangle]
+pub extern "C" fn vr_bucket(mem: &[u8], port: u32, number: u32, count: &mut u32) -> u32
+    ensures { λ r. ⌜ _≡_ {A = ℕ × ℕ} (r, now (count .exit))
+        (shown bucketRoom (now (count .entry)) (M (act (bucket port number)) (now (mem .entry)) .0)) ⌝ }
+{
+    rooms::put_bucket(switch::bucket(mem, port, number), count)
 }

@@ -36,6 +36,7 @@ fn line(nodes: u32)
     start(s, Table::Halted);
     start(s, Table::Arrival);
     start(s, Table::Outward);
+    start(s, Table::Buckets);
     start(s, Table::Head);
     start(s, Table::Tail);
     start(s, Table::Count);

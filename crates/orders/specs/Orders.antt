@@ -4,8 +4,9 @@ use Prim.Native.Nat.{ℕ}
 use lib.ListN.{take, drop}
 use Rattle.numbers.specs.Bytes.{number}
 use Rattle.ledger.specs.Settings.{settings}
+use Rattle.ledger.specs.Buckets.{untimed}
 use Rattle.ledger.specs.Calls as act
-use Rattle.ledger.specs.Calls.{Reply, refused, done, entry, stitched, idle, leaves, word, found, reported}
+use Rattle.ledger.specs.Calls.{Reply, refused, done, entry, stitched, idle, leaves, word, found, reported, counted}
 use Rattle.ledger.specs.Desk as desk
 use Rattle.fields.specs.declared.Order.{Order}
 use Rattle.fields.specs.declared.Order.the-variants.{Setup, Arrive, Stitch, Prefetch, Turn, Credit, Map}
@@ -28,7 +29,7 @@ callIn (Setup nodes beat slots credit) h = desk.setup (settings nodes beat slots
 callIn (Arrive port at) h = desk.act (act.arrive port h)
 callIn (Stitch port) h = desk.act (act.stitch port)
 callIn (Prefetch port queue) h = desk.act (act.prefetch port queue)
-callIn (Turn port) h = desk.act (act.turn port)
+callIn (Turn port) h = desk.act (act.turn untimed port)
 callIn (Credit port queue amount) h = desk.act (act.credit port queue amount)
 callIn (Map id port) h = desk.act (act.mapTo id port)
 
@@ -43,6 +44,7 @@ saidOf (leaves k s) = Node (k .node)
 saidOf (word w n) = Done
 saidOf (found v i) = Done
 saidOf (reported n) = Done
+saidOf (counted n) = Done
 
 -- the line and the memory after a call
 abbrev pub carried : Reply × List ℕ → Said × List ℕ

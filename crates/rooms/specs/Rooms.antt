@@ -6,7 +6,7 @@ use lib.ListN.{set}
 use Rattle.ledger.specs.Ledger.{Packet}
 use Rattle.ledger.specs.declared.Broken.{Broken}
 use Rattle.ledger.specs.declared.Broken.the-variants.{Nothing, A, B, C, D, E, F, G, I}
-use Rattle.ledger.specs.Calls.{Side, inside, outside, Reply, refused, done, entry, stitched, idle, leaves, word, found, reported}
+use Rattle.ledger.specs.Calls.{Side, inside, outside, Reply, refused, done, entry, stitched, idle, leaves, word, found, reported, counted}
 
 -- the refusal's number; 0 for any other reply
 abbrev pub numberIn : Reply → ℕ
@@ -19,6 +19,7 @@ numberIn (leaves k s) = 0
 numberIn (word w n) = 0
 numberIn (found v i) = 0
 numberIn (reported n) = 0
+numberIn (counted n) = 0
 
 -- what a call answers and leaves: the number and the memory
 abbrev pub told : Reply × List ℕ → ℕ × List ℕ
@@ -48,6 +49,7 @@ entryRoom (leaves k s) old = old
 entryRoom (word w n) old = old
 entryRoom (found v i) old = old
 entryRoom (reported n) old = old
+entryRoom (counted n) old = old
 
 -- ---- stitch: the ten bytes of the record
 
@@ -61,6 +63,7 @@ recordRoom (leaves k s) old = old
 recordRoom (word w n) old = old
 recordRoom (found v i) old = old
 recordRoom (reported n) old = old
+recordRoom (counted n) old = old
 
 -- ---- turn: sixteen bytes
 
@@ -86,6 +89,7 @@ sentRoom (leaves k s) old = sentBytes k s
 sentRoom (word w n) old = old
 sentRoom (found v i) old = old
 sentRoom (reported n) old = old
+sentRoom (counted n) old = old
 
 -- ---- ready: the word and the count
 
@@ -99,6 +103,7 @@ readyRoom (leaves k s) old = old
 readyRoom (word w n) old = (w, n)
 readyRoom (found v i) old = old
 readyRoom (reported n) old = old
+readyRoom (counted n) old = old
 
 -- ---- report: the mark
 
@@ -112,6 +117,21 @@ markRoom (leaves k s) old = old
 markRoom (word w n) old = old
 markRoom (found v i) old = old
 markRoom (reported n) old = n
+markRoom (counted n) old = old
+
+-- ---- bucket: what it counts
+
+abbrev pub bucketRoom : Reply → ℕ → ℕ
+bucketRoom (refused n) old = old
+bucketRoom done old = old
+bucketRoom (entry x) old = old
+bucketRoom (stitched b) old = old
+bucketRoom idle old = old
+bucketRoom (leaves k s) old = old
+bucketRoom (word w n) old = old
+bucketRoom (found v i) old = old
+bucketRoom (reported n) old = old
+bucketRoom (counted n) old = n
 
 -- ---- find: the rule's number, 1 for (a) and so on, and the item; 0 and 0 where no rule is broken
 

@@ -1,6 +1,7 @@
 // What each answer leaves in the room that a caller of C lends for it: 0 and the answer's values, or the number of the refusal and the
 // room as it was.
 use ledger::Broken;
+use ledger::Bucketed;
 use ledger::Entry;
 use ledger::EntryId;
 use ledger::Exit;
@@ -14,9 +15,9 @@ use ledger::Turned;
 use ledger::Whereabouts;
 ghost use mathlib.Core.Path.{_≡_};
 ghost use Prim.Native.Nat.{ℕ};
-ghost use Rattle.ledger.specs.Answers.{numberOf, kindOf, exitOf, sentOf, plainReply, stitchReply, entryReply, turnReply, readyReply, whereReply, reportReply};
+ghost use Rattle.ledger.specs.Answers.{numberOf, kindOf, exitOf, sentOf, plainReply, stitchReply, entryReply, turnReply, readyReply, whereReply, reportReply, bucketReply};
 ghost use Rattle.ledger.specs.Ledger.{portOf, kindIn, queueIn};
-ghost use Rattle.rooms.specs.Rooms.{numberIn, entryRoom, recordRoom, sideByte, sentBytes, sentRoom, readyRoom, markRoom};
+ghost use Rattle.rooms.specs.Rooms.{numberIn, entryRoom, recordRoom, sideByte, sentBytes, sentRoom, readyRoom, markRoom, bucketRoom};
 ghost use Rattle.rooms.specs.Rooms.{ruleNumber, itemNumber, foundNumbers};
 ghost use Rattle.ledger.specs.Audit.{placeBytes, placeRoom};
 
@@ -238,5 +239,17 @@ pub fn put_report(answer: Reported, room: &mut u32) -> u32
             0
         }
         Reported::No(no) => refusal(no),
+    }
+}
+
+pub fn put_bucket(answer: Bucketed, room: &mut u32) -> u32
+    ensures { λ r. ⌜ (r ≡ numberIn (bucketReply answer)) × (now (room .exit) ≡ bucketRoom (bucketReply answer) (now (room .entry))) ⌝ }
+{
+    match answer {
+        Bucketed::Count(n) => {
+            *room = n;
+            0
+        }
+        Bucketed::No(no) => refusal(no),
     }
 }

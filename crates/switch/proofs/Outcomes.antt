@@ -15,7 +15,7 @@ use Rattle.ledger.specs.Calls as calls
 use Rattle.ledger.specs.Desk.{act}
 use Rattle.ledger.specs.declared.Plain.the-variants.{No}
 use Rattle.ledger.specs.declared.Refusal.the-variants.{NoState}
-use Rattle.ledger.proofs.Answers.{plain-inj, stitch-inj, entry-inj, turn-inj, ready-inj, where-inj, report-inj}
+use Rattle.ledger.proofs.Answers.{plain-inj, stitch-inj, entry-inj, turn-inj, ready-inj, where-inj, report-inj, bucket-inj}
 use Rattle.memory.specs.Memory.{M}
 use Rattle.memory.proofs.Demands.{off-state}
 use Rattle.memory.proofs.Image.{zero-no-state}
@@ -28,6 +28,8 @@ use Rattle.switch.proofs.prefetch
 use Rattle.switch.proofs.credit
 use Rattle.switch.proofs.map_to
 use Rattle.switch.proofs.turn
+use Rattle.switch.proofs.timed_turn
+use Rattle.switch.proofs.bucket
 use Rattle.switch.proofs.ready
 use Rattle.switch.proofs.where_is
 use Rattle.switch.proofs.where_past
@@ -71,6 +73,9 @@ map-to-one κs a r r₂ left left₂ p q = fixed plain-inj (left .1) p q
 pub turn-one : OneOutcome turn.ended turn.Reads.Learnt
 turn-one κs a r r₂ left left₂ p q = fixed turn-inj (left .1) p q
 
+pub timed-turn-one : OneOutcome timed_turn.ended timed_turn.Reads.Learnt
+timed-turn-one κs a r r₂ left left₂ p q = fixed turn-inj (left .1) p q
+
 -- a round's equation fixes the room with answer and memory
 pub round-one : OneOutcome round.ended round.Reads.Learnt
 round-one κs a r r₂ left left₂ p q = let t = roomed {B = List ℕ × (List ℕ × Unit {0})} (λ m x. (m, (x, tt))) p q in (plain-inj r r₂ (t .0), t .1)
@@ -84,6 +89,9 @@ clear-one κs a r r₂ left left₂ p q = fixed plain-inj (left .1) p q
 -- the memory of these is lent for reading only: nothing is left that could differ but the audit's room
 pub report-one : OneOutcome report.ended report.Reads.Learnt
 report-one κs a r r₂ left left₂ p q = (report-inj r r₂ (p ∙ sym q), refl)
+
+pub bucket-one : OneOutcome bucket.ended bucket.Reads.Learnt
+bucket-one κs a r r₂ left left₂ p q = (bucket-inj r r₂ (p ∙ sym q), refl)
 
 pub audit-one : OneOutcome audit.ended audit.Reads.Learnt
 audit-one κs a r r₂ left left₂ p q = let t = parted {C = Unit {0} × (List ℕ × Unit {0})} (λ x. (tt, (x, tt))) p q in (plain-inj r r₂ (t .0), t .1)

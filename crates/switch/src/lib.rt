@@ -1,7 +1,8 @@
-// The eleven calls of the queue manager, the round, and the night crew's audit, finding and repair, for any memory and any numbers: nothing has
+// The twelve calls of the queue manager, turn timed or not, the round, and the night crew's audit, finding and repair, for any memory and any numbers: nothing has
 // to be checked by the caller. Each contract is an equation that fixes answer and memory: (reply, memory after) is M of the call and the memory
 // before; of the round, roundOn of the memory and the room; of the audit auditOn, of the finding brokenIn, of the repair repaired.
 use ledger::Broken;
+use ledger::Bucketed;
 use ledger::Entry;
 use ledger::EntryId;
 use ledger::Plain;
@@ -16,8 +17,9 @@ use sound::Tested;
 ghost use mathlib.Core.Path.{_≡_};
 ghost use mathlib.Core.List.{List};
 ghost use Prim.Native.Nat.{ℕ, _<_};
-ghost use Rattle.ledger.specs.Answers.{plainReply, stitchReply, entryReply, turnReply, readyReply, whereReply, reportReply};
-ghost use Rattle.ledger.specs.Calls.{Reply, arrive, stitch, prefetch, credit, mapTo, turn, ready, whereIs, clear, report};
+ghost use Rattle.ledger.specs.Answers.{plainReply, stitchReply, entryReply, turnReply, readyReply, whereReply, reportReply, bucketReply};
+ghost use Rattle.ledger.specs.Buckets.{untimed, at};
+ghost use Rattle.ledger.specs.Calls.{Reply, arrive, stitch, prefetch, credit, mapTo, turn, ready, whereIs, clear, report, bucket};
 ghost use Rattle.ledger.specs.Desk.{act};
 ghost use Rattle.memory.specs.Memory.{M};
 ghost use Rattle.memory.specs.Rounds.{roundOn};
@@ -95,7 +97,7 @@ pub fn map_to(m: &mut [u8], id: u32, port: u32) -> Plain
 
 // Turn: what leaves the port, or idle.
 pub fn turn(m: &mut [u8], port: u32) -> Turned
-    ensures { λ r. ⌜ _≡_ {A = Reply × List ℕ} (turnReply r, now (m .exit)) (M (act (turn port)) (now (m .entry))) ⌝ }
+    ensures { λ r. ⌜ _≡_ {A = Reply × List ℕ} (turnReply r, now (m .exit)) (M (act (turn untimed port)) (now (m .entry))) ⌝ }
 {
     let tested = sound::test(m);
     match tested {
@@ -187,5 +189,26 @@ pub fn report(m: &[u8], port: u32) -> Reported
     match sound::test(m) {
         Tested::State(s) => halts::report(m, s, port),
         Tested::NoState => Reported::No(Refusal::NoState),
+    }
+}
+
+// Timed turn: a turn that is given the time, by which the wait of what leaves is counted in the port's buckets.
+pub fn timed_turn(m: &mut [u8], port: u32, time: u32) -> Turned
+    ensures { λ r. ⌜ _≡_ {A = Reply × List ℕ} (turnReply r, now (m .exit)) (M (act (turn (at time) port)) (now (m .entry))) ⌝ }
+{
+    let tested = sound::test(m);
+    match tested {
+        Tested::State(s) => waits::timed_turn(m, s, port, time),
+        Tested::NoState => Turned::No(Refusal::NoState),
+    }
+}
+
+// Bucket: how many packets the port's timed turns sent whose wait falls there.
+pub fn bucket(m: &[u8], port: u32, number: u32) -> Bucketed
+    ensures { λ r. ⌜ bucketReply r ≡ M (act (bucket port number)) (now (m .entry)) .0 ⌝ }
+{
+    match sound::test(m) {
+        Tested::State(s) => waits::bucket(m, s, port, number),
+        Tested::NoState => Bucketed::No(Refusal::NoState),
     }
 }

@@ -1,6 +1,7 @@
 -- `switch::turn` meets its contract: where the test says a state, the act on it is the call; else refusal 3. Assumes nothing.
 use mathlib.Core.Path.{sym, _∙_}
 use borrow.Author.Needs.{needs}
+use Rattle.ledger.specs.Buckets.{untimed}
 use Rattle.ledger.specs.Calls.{turn}
 use Rattle.sound.proofs.Means.{tested-state}
 use Rattle.switch.proofs.Laws.{on-state, off-state}
@@ -18,12 +19,12 @@ returns c =
     let p = c .before .before in
     let t = p .before .before .before in
     let a = t .before .before .before .before .before .args in
-    p .turn .ensures ∙ on-state _ (a .m .now) (sym (t .before .before .test .ensures) ∙ t .tested .given .1) (turn (a .port))
+    p .turn .ensures ∙ on-state _ (a .m .now) (sym (t .before .before .test .ensures) ∙ t .tested .given .1) (turn untimed (a .port))
 
 returns-2 : tie.Need-returns-2
 returns-2 c =
     let a = c .before .before .before .before .before .args in
-    off-state (a .m .now) (sym (c .before .before .test .ensures) ∙ c .enum-told .given .1) (turn (a .port))
+    off-state (a .m .now) (sym (c .before .before .test .ensures) ∙ c .enum-told .given .1) (turn untimed (a .port))
 
 pub turn-spec : {M : Type 1} → statement M
 turn-spec =
