@@ -21,7 +21,7 @@ use Rattle.paid.specs.Paid.{addPrice, addNode, addAll, addList, addFrom, sumsOf
 use Rattle.ledger.specs.Halt.{halts as halting, isMark}
 use Rattle.halts.specs.Marks.{marksFound}
 use Rattle.sound.specs.Sound.{nodesBroken}
-use Rattle.finding_cards.specs.Cards.{Holds, tables, packets, halts, cards}
+use Rattle.finding_cards.specs.Cards.{Holds, tables, packets, marks-buckets, cards}
 use Rattle.finding_cards.proofs.Skips.{Quick, quick-hold}
 
 tables-quick : All Quick tables
@@ -36,14 +36,14 @@ unfolding ones leadingZeros number store isBeat portsIn queuesIn inRows row size
     fitsFound addPrice addNode addAll addList addFrom sumsOf settledAt dueFound nodesBroken halting isMark marksFound
 packets-quick = ((refl, refl, refl), ((refl, refl, refl), ((refl, refl, refl), ((refl, refl, refl), ((refl, refl, refl), tt)))))
 
-halts-quick : All Quick halts
+marks-buckets-quick : All Quick marks-buckets
 unfolding ones leadingZeros number store isBeat portsIn queuesIn inRows row size widthOf formOf frontBits frontBytes bodySize headerSize leastLength price
     isNode place# cell creditAt setCredit startOf get put settingsIn slot chain nodesOf packetAt fill allLinked written image firstFrom
     prefetchAt fitsAt isNew mark allNew markAll ends right unmarked scan onceFound rangeTest fieldsTest properTest ruleTest firstBad fitsFrom
     fitsFound addPrice addNode addAll addList addFrom sumsOf settledAt dueFound nodesBroken halting isMark marksFound
-halts-quick = ((refl, refl, refl), ((refl, refl, refl), tt))
+marks-buckets-quick = ((refl, refl, refl), ((refl, refl, refl), ((refl, refl, refl), tt)))
 
 pub finding-cards-hold : All Holds cards
 finding-cards-hold =
-    All-append Holds tables (packets ++ halts) (quick-hold tables tables-quick)
-    (All-append Holds packets halts (quick-hold packets packets-quick) (quick-hold halts halts-quick))
+    All-append Holds tables (packets ++ marks-buckets) (quick-hold tables tables-quick)
+    (All-append Holds packets marks-buckets (quick-hold packets packets-quick) (quick-hold marks-buckets marks-buckets-quick))
