@@ -16,8 +16,8 @@ use Rattle.ledger.specs.Ledger.{owner, index}
 use Rattle.ledger.specs.Sound.{sum}
 use Rattle.ledger.proofs.Places.{row-lt, row-inj, Node}
 use Rattle.layout.specs.declared.Table.{Table}
-use Rattle.layout.specs.declared.Table.the-variants.{Setting, Mapped, Last, Halted, Arrival, Outward, Buckets, Head, Tail, Count, Next, Length, Stamp, Queue}
-use Rattle.layout.specs.declared.Table.the-variants.{Dest, Poisoned, Transaction, Price}
+use Rattle.layout.specs.declared.Table.the-variants.{Setting, Mapped, Last, Halted, Arrival, Outward, Buckets, Head, Tail, Count, Next, Length, Stamp}
+use Rattle.layout.specs.declared.Table.the-variants.{Queue, Dest, Poisoned, Transaction, Price}
 use Rattle.layout.specs.Tables.{turnOf, width, all, many, bytesOf, tables, sizes, startOf, get, put}
 use Rattle.layout.specs.Picture.{settingsIn, slot}
 

@@ -59,7 +59,8 @@ width Poisoned = 1
 width Transaction = 1
 width Price = 1
 
--- elements: of credits one for each port and queue but 0, of buckets 33 for each port, of lists' ends and counts one for each list, of records one for each node
+-- elements: of credits one for each port and queue but 0, of buckets 33 for each port, of lists' ends and counts one for each list, of
+-- records one for each node
 abbrev pub cells : Settings → ℕ
 cells S = S .ports * (S .queues - 1)
 

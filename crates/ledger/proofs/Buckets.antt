@@ -1,18 +1,19 @@
 -- Laws of waits and buckets (paper 02, Q-13): which bucket a wait falls in, and what a timed turn's tick leaves. Assumes nothing.
-use mathlib.Core.Path.{_≡_, refl, ap, _∙_}
+use mathlib.Core.Path.{_≡_, refl, sym, ap}
 use mathlib.Core.Logic.{_≢_}
 use mathlib.Core.Bool.{Bool, true, false, cond}
-use Prim.Native.Nat.{ℕ, suc, _+_, _-_, _*_, _^_, _≤_, _<_}
+use Prim.Native.Nat.{ℕ, suc, _+_, _-_, _%_, _^_, _≤_, _<_}
 use native.Mathlib.Nat.{mod-lt}
 use native.Mathlib.Omega.{arith}
-use lib.Dec.{ltb, lit<}
-use lib.Count.{leadingZeros, leading-of-zero, leading-le, leading-top}
+use lib.ListN.{set}
+use lib.Dec.{ltb}
+use lib.Count.{leadingZeros, leading-of-zero, leading-top}
 use Rattle.ledger.specs.Settings.{Settings, bucketCount}
 use Rattle.ledger.specs.Ledger.{Packet, Column, arrival, buckets, tall, Ledger, bucketAt, change, putIn}
 use Rattle.ledger.specs.Buckets.{Clock, untimed, at, waitOf, bucketOf, stop, oneMore, bucket#}
 use Rattle.ledger.specs.Calls.{ticked}
 use Rattle.ledger.specs.Sound.{Orderly, Roomy}
-use Rattle.ledger.proofs.Tests.{ltb-yes, ltb-no}
+use Rattle.ledger.proofs.Tests.{ltb-yes, ltb-is}
 use Rattle.ledger.proofs.Columns.{change-other}
 use Rattle.ledger.proofs.Keep.{keep-put}
 
@@ -22,21 +23,26 @@ pub wait-in : (time stamp : ℕ) → waitOf time stamp < 2 ^ 32
 unfolding waitOf
 wait-in time stamp = mod-lt (time + (2 ^ 32 - stamp)) (omega arith)
 
+-- "so a clock that passes its end still gives the wait": the time d that went by since the timestamp
+pub wait-is : (stamp d : ℕ) → stamp < 2 ^ 32 → d < 2 ^ 32 → waitOf ((stamp + d) % 2 ^ 32) stamp ≡ d
+unfolding waitOf
+wait-is stamp d h k = omega arith
+
 pub bucket-in : (wait : ℕ) → bucketOf wait < bucketCount
 unfolding bucketOf
 bucket-in wait = omega arith
 
--- "Wait 0 goes to bucket 0"
-pub bucket-of-none : bucketOf 0 ≡ 0
-unfolding bucketOf
-bucket-of-none = ap (λ (n : ℕ). 32 - n) (leading-of-zero 32)
-
--- "else a wait falls in the bucket of its highest set bit, counted from 1": bit j of bucket j + 1 is set, and no bit above it
+-- "a wait falls in the bucket of its highest set bit, counted from 1": bit j of bucket j + 1 is set, and no bit above it
 pub bucket-of-some : (wait : ℕ) → 0 < wait → wait < 2 ^ 32 → (j : ℕ) × (bucketOf wait ≡ suc j) × (2 ^ j ≤ wait) × (wait < 2 ^ suc j)
 unfolding bucketOf
 bucket-of-some wait some low =
     let t = leading-top 32 wait some low in
     (t .0, (let e : 32 - leadingZeros 32 wait ≡ suc (t .0) = omega (arith, t .1) in e), t .2, t .3)
+
+-- "Wait 0 goes to bucket 0"
+pub bucket-of-none : bucketOf 0 ≡ 0
+unfolding bucketOf
+bucket-of-none = ap (λ (n : ℕ). 32 - n) (leading-of-zero 32)
 
 -- ---- bucket numbers
 
@@ -60,7 +66,7 @@ one-more-in n h = go (ltb n stop) refl
 
 pub one-more : (n : ℕ) → n < stop → oneMore n ≡ suc n
 unfolding oneMore
-one-more n h = rw (Rattle.ledger.proofs.Tests.ltb-is n stop h)
+one-more n h = rw (ltb-is n stop h)
 
 pub one-more-le : (n : ℕ) → n ≤ oneMore n
 unfolding oneMore
@@ -89,7 +95,7 @@ module _ (c : Clock) (p : ℕ) (k : Packet) (L : Ledger) where
 
   pub ticked-numbers : (d : Column) → d ≢ buckets → ticked c p k L .numbers d ≡ L .numbers d
   ticked-numbers d other =
-      ticked-by (λ N. N .numbers d ≡ L .numbers d) refl (λ i v. change-other buckets (λ xs. lib.ListN.set xs i v) L d (λ e. other (Rattle.ledger.proofs.Columns.column-inj d buckets (ap Rattle.ledger.specs.Ledger.column# (mathlib.Core.Path.sym e)))))
+      ticked-by (λ N. N .numbers d ≡ L .numbers d) refl (λ i v. change-other buckets (λ xs. set xs i v) L d (λ e. other (sym e)))
 
   pub ticked-orderly : (S : Settings) → Roomy S → Orderly S L → p < S .ports → Orderly S (ticked c p k L)
   unfolding ticked

@@ -11,7 +11,7 @@ use lib.ListN.{length, getD, set, length-set}
 use lib.Seq.{getD-set-other}
 use lib.Dec.{eqb, ltb}
 use Rattle.ledger.specs.Settings.{Settings}
-use Rattle.ledger.specs.Rules.{Rule, refuse, guard, Clear}
+use Rattle.ledger.specs.Rules.{Rule, refuse, guard}
 use Rattle.ledger.specs.Header.{form, fieldsOf, arrivalRules}
 use Rattle.ledger.specs.Ledger.{owner, Packet, bare, recorded, Place, free, ingress, egress, prefetched, place#, creditAt, setCredit, Column, column#}
 use Rattle.ledger.specs.Buckets.{Clock, untimed, at, waitOf, bucketOf, oneMore, bucket#}

@@ -12,7 +12,8 @@ use lib.Seq.{getD-append-add}
 use lib.Dec.{eqb}
 use Rattle.ledger.specs.Settings.{Settings, inRows, row}
 use Rattle.ledger.specs.Ledger.{owner, index, entryId, isNode, Packet, bare, Place, free, ingress, egress, prefetched, column, place#, placeOf}
-use Rattle.ledger.specs.Ledger.{cell, creditAt, listAt, bares, startLists, start, arrival, outward, last, mapped, halted, buckets, markOf, Column, tall, bound}
+use Rattle.ledger.specs.Ledger.{cell, creditAt, listAt, bares, startLists, start, arrival, outward, last, mapped, halted, buckets, markOf, Column}
+use Rattle.ledger.specs.Ledger.{tall, bound}
 use Rattle.ledger.specs.Ledger.{starting}
 use Rattle.ledger.specs.Ready.{bit}
 use Rattle.ledger.specs.Halt.{halts, isMark}

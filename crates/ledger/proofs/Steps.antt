@@ -11,7 +11,7 @@ use Rattle.ledger.specs.Settings.{Settings}
 use Rattle.ledger.specs.Rules.{Rule, refuse, guard, Clear}
 use Rattle.ledger.specs.Header.{form, fieldsOf}
 use Rattle.ledger.specs.Ledger.{owner, Packet, bare, recorded, free, ingress, egress, prefetched, Ledger, listAt, arrivalOf, outwardOf, lastOf}
-use Rattle.ledger.specs.Ledger.{mapOf, markOf, move, change, putCredit, arrival, outward, last, mapped, halted, buckets, Column, Place·In}
+use Rattle.ledger.specs.Ledger.{mapOf, markOf, move, change, putCredit, arrival, outward, last, mapped, halted, Column, Place·In}
 use Rattle.ledger.specs.Buckets.{Clock}
 use Rattle.ledger.specs.Ready.{covered, isReady, wordOf, readyWord, pick}
 use Rattle.ledger.specs.Calls.{Act, arrive, stitch, prefetch, credit, mapTo, turn, ready, whereIs, refused, idle, isEmpty, firstOf, arriving}

@@ -4,32 +4,27 @@ use mathlib.Core.Path.{_≡_, refl, sym, ap, _∙_, subst}
 use mathlib.Core.Logic.{_≢_}
 use mathlib.Core.Bool.{Bool, true, false, cond}
 use mathlib.Core.List.{List, [], _∷_, _++_}
-use Prim.Native.Nat.{ℕ, zero, suc, _+_, _-_, _<_, _≤_}
+use Prim.Native.Nat.{ℕ, zero, suc, _+_, _<_}
 use native.Mathlib.Omega.{arith}
 use native.Mathlib.Decide.{ℕ-discrete, decLt}
-use lib.ListN.{length, getD, set, length-append, getD-replicate}
+use lib.ListN.{length, getD, set, getD-replicate}
 use lib.Seq.{getD-set-same, getD-set-other}
-use lib.Dec.{eqb, ltb, leb}
+use lib.Dec.{eqb, ltb}
 use Rattle.ledger.specs.Settings.{Settings, bucketCount}
-use Rattle.ledger.specs.Rules.{Rule, refuse, guard}
-use Rattle.ledger.specs.Ledger.{owner, Packet, bare, free, ingress, egress, prefetched, place#, Place, Column, arrival, outward, last, mapped, halted}
-use Rattle.ledger.specs.Ledger.{buckets, column#, tall, bound, Ledger, arrivalOf, outwardOf, lastOf, mapOf, markOf, bucketAt, setCredit, pop, push}
+use Rattle.ledger.specs.Ledger.{Packet, prefetched, halted}
+use Rattle.ledger.specs.Ledger.{buckets, tall, Ledger, lastOf, bucketAt}
 use Rattle.ledger.specs.Ledger.{move, change, putIn, start}
-use Rattle.ledger.specs.Buckets.{Clock, untimed, at, waitOf, bucketOf, stop, oneMore, bucket#}
-use Rattle.ledger.specs.Ready.{bit, isReady, readyWord, pick}
-use Rattle.ledger.specs.Halt.{marks}
-use Rattle.ledger.specs.Calls.{Act, arrive, stitch, prefetch, credit, mapTo, turn, ready, whereIs, clear, report, bucket, Side, Reply, refused, done}
-use Rattle.ledger.specs.Calls.{idle, leaves, sideOf, firstOf, arriving, arrived, served, ticked, serve, rules, result, step, markedFor, onRefusal}
-use Rattle.ledger.specs.Desk.{Desk, none, has, Call, setup, act, setupRules, desk, afterCalls, answersOf, SetupsRefused}
-use Rattle.ledger.specs.Sound.{Orderly, Sound, Roomy}
-use Rattle.ledger.specs.Tally.{CountedOnce, TimedAsTurn, waitBy, waitsIn, fallen, stopped, sumTo, bucketSum, BelowStop, BucketsCount}
-use Rattle.ledger.specs.Tally.{ButBuckets, AgreeBut, both-none, both-have, isReading, isReadingCall, AlikeBut, WaitsUnread}
-use Rattle.ledger.proofs.Tests.{true≢false, leb-no, ltb-yes, ltb-no, ltb-is, ltb-not, eqb-yes, eqb-no, eqb-is, eqb-not}
-use Rattle.ledger.proofs.Columns.{other-column, change-here, change-other, only-changed}
-use Rattle.ledger.proofs.Keep.{keep-changed}
-use Rattle.ledger.proofs.Buckets.{bucket-in, bucket-lt, bucket-apart, not-arrival}
-use Rattle.ledger.proofs.Rows.{roomy}
-use Rattle.ledger.proofs.Steps.{guarded, guarded-both, stepped, refused-numbers, keep-step}
+use Rattle.ledger.specs.Buckets.{untimed, at, waitOf, bucketOf, stop, oneMore, bucket#}
+use Rattle.ledger.specs.Ready.{bit, readyWord, pick}
+use Rattle.ledger.specs.Calls.{Act, arrive, stitch, prefetch, credit, mapTo, turn, ready, whereIs, clear, report, bucket, Side, Reply, refused}
+use Rattle.ledger.specs.Calls.{idle, leaves, sideOf, firstOf, arrived, served, ticked, serve, rules, result, step, onRefusal}
+use Rattle.ledger.specs.Desk.{Desk, has, Call, setup, act, desk, afterCalls, answersOf, SetupsRefused}
+use Rattle.ledger.specs.Sound.{Orderly, Roomy}
+use Rattle.ledger.specs.Tally.{CountedOnce, TimedAsTurn, waitBy, waitsIn, fallen, stopped, sumTo, bucketSum, BucketsCount}
+use Rattle.ledger.proofs.Tests.{leb-no, ltb-is, ltb-not, eqb-yes, eqb-no, eqb-is, eqb-not}
+use Rattle.ledger.proofs.Columns.{other-column, change-here, change-other}
+use Rattle.ledger.proofs.Buckets.{bucket-in, bucket-lt, bucket-apart}
+use Rattle.ledger.proofs.Steps.{guarded-both, stepped, refused-numbers, keep-step}
 use Rattle.ledger.proofs.Courses.{Faithful, act-answer, act-shows, refused-shows, desk-faithful}
 
 -- ---- a tick

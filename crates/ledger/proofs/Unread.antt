@@ -1,11 +1,9 @@
 -- Nothing but the reading call reads a bucket (paper 02, Q-13): no rule but its range, no refusal, no other answer, and so no demand.
 -- Assumes nothing.
 use mathlib.Core.Path.{_≡_, refl, sym, ap, _∙_, subst}
-use mathlib.Core.Logic.{_≢_}
 use mathlib.Core.Bool.{Bool, true, false, cond}
 use mathlib.Core.List.{List, [], _∷_}
 use Prim.Native.Nat.{ℕ, _+_, _-_, _<_}
-use native.Mathlib.Omega.{arith}
 use lib.ListN.{length, getD, set}
 use lib.Dec.{eqb}
 use Rattle.ledger.specs.Settings.{Settings}
@@ -13,14 +11,14 @@ use Rattle.ledger.specs.Rules.{Rule, guard}
 use Rattle.ledger.specs.Ledger.{owner, Packet, bare, Place, free, ingress, egress, prefetched, place#, Column, arrival, outward, last, mapped, halted}
 use Rattle.ledger.specs.Ledger.{buckets, column#, tall, bound, Ledger, arrivalOf, outwardOf, lastOf, mapOf, markOf, setCredit, pop, push}
 use Rattle.ledger.specs.Ledger.{move, change, putIn, start}
-use Rattle.ledger.specs.Buckets.{Clock, untimed, at, waitOf, bucketOf, oneMore, bucket#}
+use Rattle.ledger.specs.Buckets.{Clock, untimed, at}
 use Rattle.ledger.specs.Ready.{isReady, readyWord, pick}
 use Rattle.ledger.specs.Halt.{marks}
 use Rattle.ledger.specs.Calls.{Act, arrive, stitch, prefetch, credit, mapTo, turn, ready, whereIs, clear, report, bucket, Reply, refused, done, idle}
 use Rattle.ledger.specs.Calls.{firstOf, arriving, arrived, served, ticked, serve, rules, result, step, markedFor, onRefusal}
-use Rattle.ledger.specs.Desk.{Desk, none, has, Call, setup, act, setupRules, desk, afterCalls, answersOf}
+use Rattle.ledger.specs.Desk.{Desk, has, Call, setup, act, setupRules, desk}
 use Rattle.ledger.specs.Sound.{Sound}
-use Rattle.ledger.specs.Tally.{ButBuckets, AgreeBut, both-none, both-have, isReading, isReadingCall, AlikeBut, WaitsUnread}
+use Rattle.ledger.specs.Tally.{ButBuckets, AgreeBut, both-none, both-have, isReading, isReadingCall, WaitsUnread}
 use Rattle.ledger.proofs.Tests.{true≢false}
 use Rattle.ledger.proofs.Columns.{change-other, only-changed}
 use Rattle.ledger.proofs.Keep.{keep-changed}

@@ -6,17 +6,19 @@ use mathlib.Core.List.{List, [], _∷_, _++_, map, reverse}
 use Prim.Native.Nat.{ℕ, zero, suc, _+_, _*_, _≤_, _<_}
 use native.Mathlib.Omega.{arith}
 use lib.ListN.{length, getD, replicate}
+use lib.Dec.{eqb}
 use Rattle.ledger.specs.Settings.{Settings, settings, row}
 use Rattle.ledger.specs.Header.{widthOf, formOf, frontBits, frontBytes, bodySize, headerSize}
-use Rattle.ledger.specs.Ledger.{owner, Packet, free, place#, placeOf, Ledger, arrival, halted, markOf, change, putIn, pop, start}
+use Rattle.ledger.specs.Ledger.{owner, Packet, bare, free, place#, placeOf, Ledger, arrival, halted, buckets, markOf, bucketAt, change, putIn, pop, start}
 use Rattle.ledger.specs.Halt.{halts, marks}
-use Rattle.ledger.specs.Calls.{Act, arrive, stitch, prefetch, credit, mapTo, turn, ready, whereIs, Side, outside, Reply, refused, entry}
-use Rattle.ledger.specs.Buckets.{untimed}
-use Rattle.ledger.specs.Calls.{clear, report, bucket, stitched, idle, leaves, isRefused, sideOf, arriving, markedFor, onRefusal}
+use Rattle.ledger.specs.Calls.{Act, arrive, stitch, prefetch, credit, mapTo, turn, ready, whereIs, Side, outside, Reply, refused, done, entry}
+use Rattle.ledger.specs.Buckets.{untimed, at, waitOf, bucketOf, bucket#}
+use Rattle.ledger.specs.Calls.{clear, report, bucket, stitched, idle, leaves, isRefused, sideOf, arriving, step, markedFor, onRefusal}
 use Rattle.ledger.specs.Desk.{Desk, none, has, Call, setup, act, desk, afterCalls, SetupsRefused}
 use Rattle.ledger.specs.Demand.{turnsIn, Stands, InHand, NobodyStarvesFrom}
 use Rattle.ledger.specs.Order.{idsAt, KeepsOrder, GoesAlong}
 use Rattle.ledger.specs.Night.{Arrival, turned-away, taken, PoolKept, OwnMarkAlone, HaltLasts}
+use Rattle.ledger.specs.Tally.{TimedAsTurn, BucketsCount, WaitsUnread}
 use Rattle.ledger.specs.Rounds.{roundActs, Deed, round, Carried, wholeRound}
 use Rattle.ledger.specs.Door.{InIngress, CreditFor, roundsFor, callsOf, roundsIn, roundsBefore, doneFrom, StitchedAt, StitchedSoonFrom, LeavesSoonFrom}
 use Rattle.ledger.proofs.Tests.{true≢false, is-false, eqb-is, ltb-not}
@@ -117,8 +119,8 @@ pub never-leaves : (n : ℕ) (S : Settings) (D : Desk) (r : ℕ) → r < S .port
     → CreditFor S M k
     → roundsBefore (doneFrom (idleTurns n) (λ E. E) D deeds) t + roundsFor S M k ≤ roundsIn (doneFrom (idleTurns n) (λ E. E) D deeds)
     → LeavesSoonFrom (idleTurns n) (λ E. E) S D → ⊥
-never-leaves n S D r hr k deeds f t M at hand h g =
-    let o = g r hr k deeds f t M at hand h in
+never-leaves n S D r hr k deeds f t M stitch-at hand h g =
+    let o = g r hr k deeds f t M stitch-at hand h in
     let e = o .it-does .it-leaves in
     let z : _≡_ {A = ℕ} 0 1 = cc in
     omega arith
@@ -244,3 +246,65 @@ module _ (S : Settings) (L : Ledger) (p : ℕ) (h : List ℕ) (above : 0 < arriv
 
   pub halted-yet-no-node : (N : Ledger) → Wanting S L p h (refused 11, N) → ⊥
   halted-yet-no-node N (no-node f d e) = true≢false (sym (held-is (arriving S L p h .queue) (markOf L p) above held) ∙ f)
+
+-- ---- what the buckets count: a desk that answers right and puts five into port 0's first bucket at each call; and one at which every call
+-- sends a packet and nothing changes
+
+abbrev pub recounted : ℕ → Desk → Desk
+recounted v none = none
+recounted v (has S L) = has S (putIn buckets (bucket# 0 0) v L)
+
+abbrev pub makesUp : ℕ → Desk → Call → Reply × Desk
+makesUp n D c = (desk n D c .0, recounted 5 (desk n D c .1))
+
+abbrev pub firstBucket : Desk → ℕ
+firstBucket none = 0
+firstBucket (has S L) = bucketAt L 0 0
+
+pub count-made-up : (n : ℕ) → BucketsCount (makesUp n) (λ D. D) two (start two) 0 (has two (start two)) (act (ready 0) ∷ []) → ⊥
+unfolding change start bucket#
+count-made-up n k =
+    let e : _≡_ {A = ℕ} 5 0 = ap firstBucket (k .shown) ∙ k .each 0 (omega arith) in
+    omega arith
+
+pub sent-uncounted : BucketsCount (λ D c. (leaves (bare 0) outside, D)) (λ D. D) two (start two) 0 (has two (start two)) (act (turn (at 0) 0) ∷ []) → ⊥
+unfolding start bucket# waitOf bucketOf lib.Count.leadingZeros
+sent-uncounted o =
+    let e : _≡_ {A = ℕ} 0 1 = ap firstBucket (o .shown) ∙ o .each 0 (omega arith) in
+    omega arith
+
+-- ---- sending is as before: a desk whose timed turns are idle
+
+abbrev pub idleTimed : ℕ → Desk → Call → Reply × Desk
+idleTimed n D (setup T) = desk n D (setup T)
+idleTimed n D (act (arrive p h)) = desk n D (act (arrive p h))
+idleTimed n D (act (stitch p)) = desk n D (act (stitch p))
+idleTimed n D (act (prefetch p q)) = desk n D (act (prefetch p q))
+idleTimed n D (act (credit p q k)) = desk n D (act (credit p q k))
+idleTimed n D (act (mapTo d p)) = desk n D (act (mapTo d p))
+idleTimed n D (act (turn untimed p)) = desk n D (act (turn untimed p))
+idleTimed n D (act (turn (at time) p)) = (idle, D)
+idleTimed n D (act (ready p)) = desk n D (act (ready p))
+idleTimed n D (act (whereIs y)) = desk n D (act (whereIs y))
+idleTimed n D (act (clear p)) = desk n D (act (clear p))
+idleTimed n D (act (report p)) = desk n D (act (report p))
+idleTimed n D (act (bucket p b)) = desk n D (act (bucket p b))
+
+pub timed-yet-idle : (n : ℕ) (S : Settings) (L : Ledger) (time p : ℕ) (k : Packet) (t : Side) → step S L (turn untimed p) .0 ≡ leaves k t
+    → TimedAsTurn (idleTimed n) (λ D. D) S time p (has S L) → ⊥
+timed-yet-idle n S L time p k t sends o =
+    let e : idle ≡ leaves k t = o .answer ∙ sends in
+    let z : _≡_ {A = ℕ} 0 1 = cc in
+    omega arith
+
+-- ---- no bucket is read: a desk that answers idle as soon as port 0's first bucket counts something
+
+abbrev pub reader : ℕ → Desk → Call → Reply × Desk
+reader n D c = (cond (eqb (firstBucket D) 0) (desk n D c .0) idle, desk n D c .1)
+
+pub bucket-read : (n : ℕ) → WaitsUnread (reader n) (λ D. D) (has two (start two)) (recounted 1 (has two (start two))) (act (clear 0) ∷ []) → ⊥
+unfolding change start bucket#
+bucket-read n o =
+    let e : done ≡ idle = o .answers .0 refl in
+    let z : _≡_ {A = ℕ} 0 1 = cc in
+    omega arith

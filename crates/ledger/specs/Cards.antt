@@ -216,27 +216,27 @@ unhalting =
 -- A halted port sends, and what it has taken in leaves: its turn, stitch and prefetch go on, with the packets of its halted queues.
 abbrev pub halted-sends : Card
 halted-sends =
-    says (setUp 4 64 1 16 ∷ (brought 1 12 ++ (act (arrive 0 (header 0 0 1 12)) ∷ act (credit 0 1 1) ∷ act (arrive 0 spoilt) ∷ act (turn untimed 0) ∷ act (stitch 0)
-    ∷ act (prefetch 0 1) ∷ act (ready 0) ∷ act (arrive 0 (header 0 0 1 12)) ∷ [])))
+    says (setUp 4 64 1 16 ∷ (brought 1 12 ++ (act (arrive 0 (header 0 0 1 12)) ∷ act (credit 0 1 1) ∷ act (arrive 0 spoilt) ∷ act (turn untimed 0)
+    ∷ act (stitch 0) ∷ act (prefetch 0 1) ∷ act (ready 0) ∷ act (arrive 0 (header 0 0 1 12)) ∷ [])))
     (done ∷ entry 0 ∷ plain-record 1 12 ∷ entry 0 ∷ entry 1 ∷ done ∷ refused 7 ∷ leaves (plain 1 12 1) outside
     ∷ stitched (0 ∷ 1 ∷ 0 ∷ 12 ∷ 1 ∷ 0 ∷ 0 ∷ 0 ∷ 0 ∷ 0 ∷ []) ∷ entry 1 ∷ word 0 0 ∷ refused 10 ∷ [])
 
--- a packet of queue 0 with this timestamp comes in at port 0, and a turn of port 0 at this time sends it
-abbrev pub sentAt : ℕ → ℕ → List Call
-sentAt stamp time =
-    let h = sealed (0 ∷ 0 ∷ 0x30 ∷ stamp / 2 ^ 24 ∷ stamp / 2 ^ 16 % 256 ∷ stamp / 2 ^ 8 % 256 ∷ stamp % 256 ∷ 0 ∷ 0 ∷ []) in
-    act (arrive 0 h) ∷ act (stitch 0) ∷ act (prefetch 0 0) ∷ act (turn (at time) 0) ∷ []
+-- a packet of queue 0 with this timestamp comes in at port r, and a turn of port 0 at this time sends it
+abbrev pub sentAt : ℕ → ℕ → ℕ → List Call
+sentAt r stamp time =
+    let h = sealed (r * 16 ∷ 0 ∷ 0x30 ∷ stamp / 2 ^ 24 ∷ stamp / 2 ^ 16 % 256 ∷ stamp / 2 ^ 8 % 256 ∷ stamp % 256 ∷ 0 ∷ 0 ∷ []) in
+    act (arrive r h) ∷ act (stitch r) ∷ act (prefetch 0 0) ∷ act (turn (at time) 0) ∷ []
 
 -- what these buckets of port p hold
 abbrev pub read : ℕ → List ℕ → List Call
 read p bs = map (λ b. act (bucket p b)) bs
 
 -- Waits of 0, 1, 2, 3, 2 ^ 31 and 2 ^ 32 - 1, then 11 by a clock that passed its end: each in the bucket of its highest bit, at the port that
--- took the turn. A turn that is not timed and a timed one that is idle count nothing. Setup clears.
+-- took the turn, wherever the packet came in. A turn that is not timed and a timed one that is idle count nothing. Setup clears.
 abbrev pub waits : List Call
 waits =
     setUp 2 64 1 0
-    ∷ (sentAt 0 0 ++ (sentAt 0 1 ++ (sentAt 0 2 ++ (sentAt 7 10 ++ (sentAt 0 2147483648 ++ (sentAt 1 0 ++ (sentAt 4294967290 5
+    ∷ (sentAt 0 0 0 ++ (sentAt 0 0 1 ++ (sentAt 0 0 2 ++ (sentAt 1 7 10 ++ (sentAt 0 0 2147483648 ++ (sentAt 0 1 0 ++ (sentAt 0 4294967290 5
     ++ (brought 0 12 ++ (act (turn untimed 0) ∷ act (turn (at 5) 0) ∷ [])))))))))
 
 abbrev pub counting : Card
@@ -258,7 +258,7 @@ stopping =
     let S = settings 1 64 1 0 in
     let sent = leaves (plain 0 12 0) inside in
     from S (putIn buckets (bucket# 0 0) (stop - 2) (start S))
-    (sentAt 0 0 ++ (read 0 (0 ∷ []) ++ (sentAt 0 0 ++ (read 0 (0 ∷ []) ++ (sentAt 0 0 ++ read 0 (0 ∷ 1 ∷ []))))))
+    (sentAt 0 0 0 ++ (read 0 (0 ∷ []) ++ (sentAt 0 0 0 ++ (read 0 (0 ∷ []) ++ (sentAt 0 0 0 ++ read 0 (0 ∷ 1 ∷ []))))))
     (entry 0 ∷ twelve-record ∷ entry 0 ∷ sent ∷ counted 4294967294 ∷ entry 0 ∷ twelve-record ∷ entry 0 ∷ sent ∷ counted 4294967295
     ∷ entry 0 ∷ twelve-record ∷ entry 0 ∷ sent ∷ counted 4294967295 ∷ counted 0 ∷ [])
 
@@ -284,7 +284,8 @@ cards =
     (done ∷ entry 4096 ∷ full-record ∷ entry 4096 ∷ idle ∷ done
     ∷ leaves (record { node = 4096; len = 8191; queue = 23; dest = 1; stamp = 0; poisoned = 0; transaction = 0; price = 128 }) outside
     ∷ entry 4096 ∷ full-record ∷ entry 4096 ∷ idle ∷ [])
-    ∷ says (setUp 1 64 1 16 ∷ act (arrive 0 twelve) ∷ act (arrive 0 twelve) ∷ act (stitch 0) ∷ act (prefetch 0 0) ∷ act (turn untimed 0) ∷ act (arrive 0 twelve) ∷ [])
+    ∷ says (setUp 1 64 1 16 ∷ act (arrive 0 twelve) ∷ act (arrive 0 twelve) ∷ act (stitch 0) ∷ act (prefetch 0 0) ∷ act (turn untimed 0)
+    ∷ act (arrive 0 twelve) ∷ [])
     (done ∷ entry 0 ∷ refused 11 ∷ twelve-record ∷ entry 0 ∷ leaves (plain 0 12 0) inside ∷ entry 0 ∷ [])
     ∷ says (setUp 1 64 1 0 ∷ act (credit 0 1 65535) ∷ act (credit 0 1 0) ∷ act (credit 0 1 1) ∷ [])
     (done ∷ done ∷ done ∷ refused 14 ∷ [])

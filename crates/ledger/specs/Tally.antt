@@ -8,7 +8,7 @@ use Prim.Native.Nat.{ℕ, zero, suc, _+_, _<_}
 use lib.ListN.{length, getD}
 use lib.Dec.{eqb, ltb}
 use Rattle.ledger.specs.Settings.{Settings, bucketCount}
-use Rattle.ledger.specs.Buckets.{Clock, untimed, at, waitOf, bucketOf, stop, oneMore, bucket#}
+use Rattle.ledger.specs.Buckets.{untimed, at, waitOf, bucketOf, stop, oneMore, bucket#}
 use Rattle.ledger.specs.Ledger.{Packet, Column, buckets, Ledger, bucketAt}
 use Rattle.ledger.specs.Ready.{bit}
 use Rattle.ledger.specs.Calls.{Act, arrive, stitch, prefetch, credit, mapTo, turn, ready, whereIs, clear, report, bucket, Side, Reply, leaves}

@@ -18,8 +18,8 @@ use Rattle.ledger.proofs.Tests.{eqb-is, eqb-not, ltb-is, ltb-not}
 use Rattle.ledger.proofs.Lists.{weigh-set, sum-below, All-map, counted}
 use Rattle.ledger.proofs.Places.{row-lt, row-inj, Node, node-of, bit-le}
 use Rattle.layout.specs.declared.Table.{Table}
-use Rattle.layout.specs.declared.Table.the-variants.{Setting, Mapped, Last, Halted, Arrival, Outward, Buckets, Head, Tail, Count, Next, Length, Stamp, Queue, Dest}
-use Rattle.layout.specs.declared.Table.the-variants.{Poisoned, Transaction, Price}
+use Rattle.layout.specs.declared.Table.the-variants.{Setting, Mapped, Last, Halted, Arrival, Outward, Buckets, Head, Tail, Count, Next, Length, Stamp}
+use Rattle.layout.specs.declared.Table.the-variants.{Queue, Dest, Poisoned, Transaction, Price}
 use Rattle.layout.specs.Tables.{turnOf, lists, all, many, get, tableOf}
 use Rattle.layout.specs.Picture.{slot, chain, nodesOf, packetAt, nodeIn, tabulate, ledgerIn, lastD, StateOf}
 use Rattle.memory.specs.Ends.{Tidy, IsRecord, withLists, SameNumbers}

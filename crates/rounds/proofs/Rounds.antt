@@ -73,7 +73,10 @@ module _ {s : Shape} {m₀ : List ℕ} {n : ℕ} where
     told-one l h i e f = record {
       passed = passed-next one (at .passed) l h e;
       room-length = i ∙ at .room-length;
-      told = f ∙ rw (at .told) (told-next rs r room₀ p (as-many-answers (settingsOf s) (turn untimed) p m₀) ∙ ap (λ (x : List Reply). answersIn x room₀) answers-one);
+      told =
+          f
+          ∙ rw (at .told)
+          (told-next rs r room₀ p (as-many-answers (settingsOf s) (turn untimed) p m₀) ∙ ap (λ (x : List Reply). answersIn x room₀) answers-one);
     }
 
     pub told-all : n ≤ p

@@ -1,6 +1,7 @@
-// The twelve calls of the queue manager, turn timed or not, the round, and the night crew's audit, finding and repair, for any memory and any numbers: nothing has
-// to be checked by the caller. Each contract is an equation that fixes answer and memory: (reply, memory after) is M of the call and the memory
-// before; of the round, roundOn of the memory and the room; of the audit auditOn, of the finding brokenIn, of the repair repaired.
+// The twelve calls of the queue manager, turn timed or not, the round, and the night crew's audit, finding and repair, for any memory and any
+// numbers: nothing has to be checked by the caller. Each contract is an equation that fixes answer and memory: (reply, memory after) is M of
+// the call and the memory before; of the round, roundOn of the memory and the room; of the audit auditOn, of the finding brokenIn, of the
+// repair repaired.
 use ledger::Broken;
 use ledger::Bucketed;
 use ledger::Entry;

@@ -1,7 +1,7 @@
 -- What counting a wait, a timed turn and the reading of a bucket come to, with no code. Assumes nothing.
-use mathlib.Core.Path.{_≡_, refl, sym, ap, _∙_}
+use mathlib.Core.Path.{_≡_, refl, sym, ap}
 use mathlib.Core.List.{List}
-use Prim.Native.Nat.{ℕ, suc, _+_, _≤_, _<_}
+use Prim.Native.Nat.{ℕ, _+_, _≤_, _<_}
 use native.Mathlib.Omega.{arith}
 use Rattle.ledger.specs.Settings.{Settings, bucketCount}
 use Rattle.ledger.specs.Ledger.{Packet, bucketAt}
@@ -11,7 +11,7 @@ use Rattle.ledger.specs.declared.Turned.the-variants as turns
 use Rattle.ledger.specs.declared.Sent.{Sent}
 use Rattle.ledger.specs.declared.Exit.{Exit}
 use Rattle.ledger.specs.Answers.{turnReply}
-use Rattle.ledger.specs.Calls.{Side, Reply, refused, idle, leaves, counted, turn, bucket, rules, result}
+use Rattle.ledger.specs.Calls.{Side, Reply, refused, leaves, counted, turn, bucket, rules, result}
 use Rattle.ledger.proofs.Tests.{leb-is, leb-not, leb-no, ltb-is, ltb-not}
 use Rattle.ledger.proofs.Buckets.{bucket-in}
 use Rattle.ledger.proofs.Steps.{guarded}

@@ -1,5 +1,5 @@
 -- `parts::bucket` meets its contract. Assumes nothing.
-use mathlib.Core.Path.{sym, _∙_}
+use mathlib.Core.Path.{sym}
 use borrow.Author.Needs.{needs}
 use Rattle.parts.proofs.Laws.{bucket-is, bucket-reads}
 use Rattle.parts.proofs.bucket.Statement.{statement}

@@ -25,7 +25,8 @@ returns c =
 returns-2 : tie.Need-returns-2
 returns-2 c =
     let a = c .before .before .before .before .args in
-    ap (λ (out : Reply × List ℕ). out .0) (off-state (a .m .now) (sym (c .before .before .test .ensures) ∙ c .enum-told .given .1) (bucket (a .port) (a .number)))
+    ap (λ (out : Reply × List ℕ). out .0)
+    (off-state (a .m .now) (sym (c .before .before .test .ensures) ∙ c .enum-told .given .1) (bucket (a .port) (a .number)))
 
 pub bucket-spec : {M : Type 1} → statement M
 bucket-spec = tie.close (tie.spec (λ c κs. search needs) (λ c. search needs) bucket-requires (λ c. search needs) returns returns-2)

@@ -37,7 +37,8 @@ returns c =
       set .set-bucket .ensures,
       more .one-more .ensures,
       read .bucket .ensures,
-      bucket-is (settingsOf (st .args .s)) (st .args .m .now) (st .args .p) (at .bucket-of .result) (st .pre .port) (bucket-here (st .pre) _ (at .bucket-of .ensures) .bucket),
+      bucket-is (settingsOf (st .args .s)) (st .args .m .now) (st .args .p) (at .bucket-of .result) (st .pre .port)
+          (bucket-here (st .pre) _ (at .bucket-of .ensures) .bucket),
       at .bucket-of .ensures,
     )
 

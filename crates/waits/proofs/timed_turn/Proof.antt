@@ -6,7 +6,7 @@ use native.Mathlib.Omega.{arith}
 use types.Run.{miss}
 use borrow.Author.Needs.{needs}
 use lib.ListN.{length}
-use Rattle.ledger.specs.Buckets.{untimed, waitOf, bucketOf}
+use Rattle.ledger.specs.Buckets.{untimed}
 use Rattle.ledger.specs.Calls.{Reply, leaves, turn}
 use Rattle.ledger.specs.Answers.{sentOf, exitOf, turnReply}
 use Rattle.ledger.specs.declared.Turned.{Turned}
