@@ -76,7 +76,7 @@ enum vr_answer {
     VR_BAD_SETTING = 2,      /* setup, read_header, write_header: a setting not in its row */
     VR_NO_STATE = 3,         /* all but setup, find, read_header, write_header: memory is no switch state; for repair, breaks rule (a) */
     VR_NO_PORT = 4,          /* all with a port: port above the last */
-    VR_NO_QUEUE = 5,         /* prefetch, credit: queue above the last; for credit also 0 */
+    VR_NO_QUEUE = 5,         /* prefetch, credit: queue above the last; for credit also 0; bucket: bucket above 32 */
     VR_HEADER_SIZE = 6,      /* arrive, read_header: header not of its edition's size */
     VR_CHECKSUM = 7,         /* arrive, read_header: checksum differs */
     VR_SOURCE = 8,           /* arrive: header's source isn't the arriving port */
@@ -152,6 +152,18 @@ uint32_t vr_map(uint8_t *mem, size_t len, uint32_t id, uint32_t port);
  * An idle turn writes the kind alone; the other 15 bytes stay. */
 uint32_t vr_turn(uint8_t *mem, size_t len, uint32_t port, uint8_t sent[16]);
 
+/* A turn that is given the time, on the clock of the headers' timestamps: vr_turn, and if a packet leaves, its wait is counted in the buckets
+ * of the port whose turn it is. The wait is now less the timestamp on 32 bits, so a clock that has passed its end still gives it. A wait of 0
+ * counts in bucket 0, any other in the bucket of its highest set bit, counted from 1: of 1 in bucket 1, of 2 and 3 in bucket 2, of 2^31 and
+ * more in bucket 32. A bucket at 4,294,967,295 stays there. An idle turn counts nothing, nor does vr_turn or a round. Writes and answers as
+ * vr_turn does. */
+uint32_t vr_timed_turn(uint8_t *mem, size_t len, uint32_t port, uint32_t now, uint8_t sent[16]);
+
+/* Writes how many packets the port's timed turns sent, since setup or repair, whose wait counts in this bucket, 0 to 32; 4,294,967,295
+ * stands for as many or more. Refused 3, then 4, then 5. Below that stop, the sum of a port's 33 buckets is the number of packets that its
+ * timed turns sent. */
+uint32_t vr_bucket(const uint8_t *mem, size_t len, uint32_t port, uint32_t bucket, uint32_t *count);
+
 /* A round: one stitch at each port, from 0 on; then one prefetch for each port and queue, port by port and queue by queue from 0; then one
  * turn at each port, from 0 on. Memory and turns are as of the same calls one by one, but the memory is tested once. A refusal inside
  * (12, 13) changes nothing and is passed over.
@@ -186,9 +198,9 @@ uint32_t vr_audit(const uint8_t *mem, size_t len, uint8_t *places, size_t places
 void vr_find(const uint8_t *mem, size_t len, uint32_t *rule, uint64_t *item);
 
 /* Writes the starting ledger for the settings that the memory has, and keeps its map, but for entries above the last port, which become 0:
- * also over a sound ledger, whose packets and marks are lost. Refused 3 exactly where rule (a) is broken: a setting not in its row, or
+ * also over a sound ledger, whose packets, marks and buckets are lost. Refused 3 exactly where rule (a) is broken: a setting not in its row, or
  * memory too short for its settings. Not for an image of before the wide headers: set that up afresh, since its older tables could pass for
- * a map. One of before the marks is no state either; in a memory long enough a repair keeps its settings and map. */
+ * a map. One of before the marks or the buckets is no state either; in a memory long enough a repair keeps its settings and map. */
 uint32_t vr_repair(uint8_t *mem, size_t len);
 
 /* Reads a header of a switch of this edition and so many ports and queues, and writes what it says. Source and destination are judged by

@@ -5,7 +5,7 @@ use std::fmt;
 use model::{Call, Reply, Shape, REFUSALS};
 use traffic::{Before, Halts};
 
-const NAMES: [&str; 13] = [
+const NAMES: [&str; 16] = [
     "setup",
     "arrive",
     "stitch",
@@ -19,6 +19,9 @@ const NAMES: [&str; 13] = [
     "round",
     "clear",
     "report",
+    "timed turn",
+    "idle timed turn",
+    "bucket",
 ];
 
 /// The refusals that these calls can be given: 21 is the writer's of headers,
@@ -74,6 +77,9 @@ impl Counts {
             Call::Round { .. } => 10,
             Call::Clear { .. } => 11,
             Call::Report { .. } => 12,
+            Call::TimedTurn { .. } if *reply == Reply::Idle => 14,
+            Call::TimedTurn { .. } => 13,
+            Call::Bucket { .. } => 15,
         };
         self.accepted[kind] += 1;
     }

@@ -232,6 +232,14 @@ fn one_of_each(random: &mut Random, ledger: &Ledger) -> Vec<Call> {
         Call::Report {
             port: wild(port, random),
         },
+        Call::TimedTurn {
+            port: wild(fetched.0, random),
+            now: random.word() as u32,
+        },
+        Call::Bucket {
+            port: wild(port, random),
+            bucket: random.pick(&[0, 1, 32, 33]),
+        },
         Call::Arrive {
             port: wild(port, random),
             header: lying(random, settings, port),

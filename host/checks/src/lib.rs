@@ -56,7 +56,8 @@ pub fn left(bytes: &mut [u8], call: &Call, reply: &Reply) -> bool {
             }
             true
         }
-        (_, Reply::Idle | Reply::Word(..) | Reply::Found(..) | Reply::Mark(_)) => true,
+        (_, Reply::Idle | Reply::Word(..) | Reply::Found(..)) => true,
+        (_, Reply::Mark(_) | Reply::Count(_)) => true,
         _ => false,
     }
 }

@@ -130,6 +130,20 @@ pub fn call(memory: &mut [u8], call: &Call) -> Result<Reply, String> {
                 number => refused(number, mark, 0xA7A7_A7A7),
             }
         }
+        Call::TimedTurn { port, now } => {
+            let mut sent = [FILL; 16];
+            match calls::timed_turn(memory, *port, *now, &mut sent) {
+                0 => turned(&sent),
+                number => refused(number, sent, [FILL; 16]),
+            }
+        }
+        Call::Bucket { port, bucket } => {
+            let mut count = 0xA7A7_A7A7;
+            match calls::bucket(memory, *port, *bucket, &mut count) {
+                0 => Ok(Reply::Count(count)),
+                number => refused(number, count, 0xA7A7_A7A7),
+            }
+        }
         Call::Round { room } => round(memory, room),
     }
 }

@@ -105,6 +105,9 @@ pub fn ledger(memory: &[u8]) -> Result<Ledger, String> {
         let port = p as u32;
         at.last_served = tables.last.get(memory, p);
         at.mark = tables.halted.get(memory, p) as u8;
+        for (b, count) in at.buckets.iter_mut().enumerate() {
+            *count = tables.buckets.get(memory, tables.bucket(p, b));
+        }
         at.free = reader.list(ListKind::Free { port })?;
         at.ingress = reader.list(ListKind::Ingress { port })?;
         for q in 0..tables.queues {

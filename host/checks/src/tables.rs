@@ -1,7 +1,7 @@
 //! Where the elements of a state stand in its bytes, written from docs/LAYOUT.md
 //! alone.
 
-use model::{ListKind, Settings, Shape, DESTINATIONS, ENTRIES_PER_PORT};
+use model::{ListKind, Settings, Shape, BUCKETS, DESTINATIONS, ENTRIES_PER_PORT};
 
 /// A table: where it starts and how wide an element is.
 #[derive(Debug, Clone, Copy)]
@@ -48,6 +48,8 @@ pub struct Tables {
     pub halted: Table,
     pub arrival: Table,
     pub outward: Table,
+    /// Of each port's waits.
+    pub buckets: Table,
     pub head: Table,
     pub tail: Table,
     pub count: Table,
@@ -90,6 +92,7 @@ impl Tables {
             halted: table(1, ports),
             arrival: table(2, credits),
             outward: table(2, credits),
+            buckets: table(4, ports * BUCKETS),
             head: table(2, lists),
             tail: table(2, lists),
             count: table(4, lists),
@@ -108,7 +111,7 @@ impl Tables {
     }
 
     /// All of them, in the memory's order.
-    pub fn in_order(&self) -> [Table; 17] {
+    pub fn in_order(&self) -> [Table; 18] {
         [
             SETTING,
             MAPPED,
@@ -116,6 +119,7 @@ impl Tables {
             self.halted,
             self.arrival,
             self.outward,
+            self.buckets,
             self.head,
             self.tail,
             self.count,
@@ -128,6 +132,11 @@ impl Tables {
             self.transaction,
             self.price,
         ]
+    }
+
+    /// A port's bucket.
+    pub fn bucket(&self, port: usize, bucket: usize) -> usize {
+        port * BUCKETS + bucket
     }
 
     /// How many credit cells there are, of arrival and of outward credit each.

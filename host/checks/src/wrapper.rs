@@ -66,6 +66,12 @@ pub fn call(memory: &mut [u8], call: &Call) -> Result<Reply, String> {
             let mark = halt.map_or(0, |halt| halt.number());
             Reply::Mark(mark as u8)
         }),
+        Call::TimedTurn { port, now } => switch.timed_turn(*port, *now).map(turned),
+        Call::Bucket { port, bucket } => switch.bucket(*port, *bucket).map(|count| {
+            let all = switch.buckets(*port).unwrap();
+            assert_eq!(all[*bucket as usize], count);
+            Reply::Count(count)
+        }),
         // The typed round lends room enough, always.
         Call::Round { room } if room.len() < round_bytes => {
             let mut lent = room.clone();

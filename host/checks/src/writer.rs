@@ -20,6 +20,10 @@ pub fn image(ledger: &Ledger) -> Vec<u8> {
     for (port, at) in ledger.ports.iter().enumerate() {
         tables.last.set(&mut memory, port, at.last_served);
         tables.halted.set(&mut memory, port, at.mark.into());
+        for (b, &count) in at.buckets.iter().enumerate() {
+            let bucket = tables.bucket(port, b);
+            tables.buckets.set(&mut memory, bucket, count);
+        }
         for queue in 1..tables.queues {
             let cell = tables.credit_cell(port, queue);
             tables

@@ -6,8 +6,8 @@ use std::collections::VecDeque;
 
 use crate::header;
 use crate::{
-    price, Choice, ListKind, Packet, Reply, Settings, Side, DESTINATIONS, ENTRIES_PER_PORT,
-    MOST_CREDIT, PLACE_BYTES,
+    price, Choice, ListKind, Packet, Reply, Settings, Side, BUCKETS, DESTINATIONS,
+    ENTRIES_PER_PORT, MOST_CREDIT, PLACE_BYTES,
 };
 
 /// What the ledger holds for one port. Lists run from the oldest (front) to
@@ -26,6 +26,8 @@ pub struct Port {
     pub last_served: u32,
     /// 0, or the number of the refusal that halted the port.
     pub mark: u8,
+    /// What the port's timed turns counted, by the waits' highest bits.
+    pub buckets: [u32; BUCKETS],
     /// By node index; none exactly while the node is free.
     pub packets: Vec<Option<Packet>>,
 }
@@ -68,6 +70,7 @@ impl Port {
             outward_credit: vec![0; queues],
             last_served: settings.queues - 1,
             mark: 0,
+            buckets: [0; BUCKETS],
             packets: vec![None; settings.nodes as usize],
         }
     }
@@ -246,6 +249,26 @@ impl Ledger {
         Ok(Reply::Leaves(packet, side))
     }
 
+    /// A turn; what it sends is counted by how long it waited, at the port that
+    /// takes the turn.
+    pub(crate) fn timed_turn(&mut self, port: u32, now: u32, choice: Choice) -> Result<Reply, u8> {
+        let reply = self.turn(port, choice)?;
+        if let Reply::Leaves(packet, _) = &reply {
+            let bucket = &mut self.ports[port as usize].buckets[bucket_of(now, packet.timestamp)];
+            // A full one stays full.
+            *bucket = bucket.checked_add(1).unwrap_or(*bucket);
+        }
+        Ok(reply)
+    }
+
+    pub(crate) fn bucket(&self, port: u32, bucket: u32) -> Result<Reply, u8> {
+        let buckets = &self.ports[self.port_in_range(port)?].buckets;
+        match buckets.get(bucket as usize) {
+            Some(&count) => Ok(Reply::Count(count)),
+            None => Err(5),
+        }
+    }
+
     pub(crate) fn ready(&self, port: u32) -> Result<Reply, u8> {
         let word = self.ready_word(self.port_in_range(port)?);
         Ok(Reply::Word(word, word.count_ones()))
@@ -383,6 +406,20 @@ fn told_place(entry: u16, kind: ListKind, position: u16) -> [u8; PLACE_BYTES] {
     };
     let ([e0, e1], [p0, p1]) = (entry.to_be_bytes(), position.to_be_bytes());
     [e0, e1, number, port as u8, queue as u8, 0, p0, p1]
+}
+
+/// The bucket of a packet that leaves: 0 if it did not wait, else the place, from
+/// 1, of the highest bit of its wait. The clock has 32 bits and starts again at 0.
+fn bucket_of(now: u32, timestamp: u32) -> usize {
+    let (now, timestamp) = (u64::from(now), u64::from(timestamp));
+    let end = 1u64 << 32;
+    let mut wait = (now + end - timestamp) % end;
+    let mut bits = 0;
+    while wait > 0 {
+        wait /= 2;
+        bits += 1;
+    }
+    bits
 }
 
 /// The lowest set bit above the last served queue or, if there is none, the

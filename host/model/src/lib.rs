@@ -1,5 +1,5 @@
 //! An independent model of the queue manager, written from papers 01 and 02
-//! (requests) alone.
+//! (requests) alone.
 //!
 //! The model keeps plain lists and numbers; it has no memory image. The
 //! caller's memory is only a length here, so that setup can refuse a short one.
@@ -34,6 +34,9 @@ pub const MOST_CREDIT: u32 = 65_535;
 pub const FOOTER: u32 = 2;
 /// The most that 13 bits of length can say.
 pub const LONGEST: u32 = 8191;
+
+/// The buckets of each port.
+pub const BUCKETS: usize = 33;
 
 /// The bytes that an audit writes for each node.
 pub const PLACE_BYTES: usize = 8;
@@ -84,6 +87,16 @@ pub enum Call {
     Report {
         port: u32,
     },
+    /// A turn that is given the time.
+    TimedTurn {
+        port: u32,
+        now: u32,
+    },
+    /// Reads one of the port's buckets.
+    Bucket {
+        port: u32,
+        bucket: u32,
+    },
     /// With the room that is lent for the turns, as it stands before.
     Round {
         room: Vec<u8>,
@@ -101,9 +114,9 @@ pub enum Reply {
     Entry(u16),
     /// Stitch: the ten-byte record.
     Stitched([u8; 10]),
-    /// Turn, with nothing ready.
+    /// Turn, timed or not, with nothing ready.
     Idle,
-    /// Turn: the packet that leaves, and to which side.
+    /// Turn, timed or not: the packet that leaves, and to which side.
     Leaves(Packet, Side),
     /// Ready: the ready word and the ready count.
     Word(u64, u32),
@@ -111,6 +124,8 @@ pub enum Reply {
     Found(ListKind, u32),
     /// Report: the port's mark.
     Mark(u8),
+    /// Bucket: what it holds.
+    Count(u32),
     /// Round: the bytes for each port's turn.
     Turns(Vec<u8>),
 }
@@ -174,9 +189,9 @@ pub fn size(settings: &Settings) -> usize {
     let [ports, queues, nodes] =
         [settings.ports, settings.queues, settings.nodes].map(|number| number as usize);
     let beside = 16 + DESTINATIONS as usize;
-    // The queue last served, and its mark; for each queue above 0 two credits, and
-    // for each list head, tail and count.
-    let each_port = 2 + 4 * (queues - 1) + 8 * (2 + 2 * queues);
+    // The queue last served, and its mark; for each queue above 0 two credits; the
+    // buckets; for each list head, tail and count.
+    let each_port = 2 + 4 * (queues - 1) + 4 * BUCKETS + 8 * (2 + 2 * queues);
     beside + ports * (each_port + 13 * nodes)
 }
 
@@ -285,6 +300,8 @@ impl Model {
             Call::Where { entry } => ledger.find(*entry),
             Call::Clear { port } => ledger.clear(*port),
             Call::Report { port } => ledger.report(*port),
+            Call::TimedTurn { port, now } => ledger.timed_turn(*port, *now, self.choice),
+            Call::Bucket { port, bucket } => ledger.bucket(*port, *bucket),
             Call::Round { room } => ledger.round(room.len(), self.choice),
         }
     }

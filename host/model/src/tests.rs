@@ -534,6 +534,11 @@ fn everything_but_setup_is_refused_before_setup() {
         Call::Where { entry: u32::MAX },
         Call::Clear { port: 9 },
         Call::Report { port: 0 },
+        Call::TimedTurn { port: 9, now: 5 },
+        Call::Bucket {
+            port: 9,
+            bucket: 33,
+        },
     ] {
         assert_eq!(model.call(&call), Reply::Refused(3));
         assert_eq!(model.check(), Ok(()));

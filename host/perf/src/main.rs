@@ -416,6 +416,8 @@ fn quick(memory: &mut [u8], call: &Call) -> u32 {
         Call::Where { entry } => calls::place_of(memory, *entry, &mut [0; 8]),
         Call::Clear { port } => calls::clear(memory, *port),
         Call::Report { port } => calls::report(memory, *port, &mut 0),
+        Call::TimedTurn { port, now } => calls::timed_turn(memory, *port, *now, &mut [0; 16]),
+        Call::Bucket { port, bucket } => calls::bucket(memory, *port, *bucket, &mut 0),
         Call::Round { .. } => calls::round(memory, &mut [0; MOST_TURNS]),
     }
 }

@@ -11,7 +11,7 @@ fn right_length(tag: u8) -> usize {
 }
 
 /// A call's tagged field: tag, length, value. None where no field can say it:
-/// ready, where, a round, clear and report have no tag, a field has no room for
+/// ready, where, a round, clear, report, a timed turn and bucket have no tag, a field has no room for
 /// larger numbers, a setup's is of the ten-byte header, and an arrival's header is
 /// ten bytes.
 pub fn field(call: &Call) -> Option<Vec<u8>> {
@@ -57,7 +57,9 @@ pub fn field(call: &Call) -> Option<Vec<u8>> {
         | Call::Where { .. }
         | Call::Round { .. }
         | Call::Clear { .. }
-        | Call::Report { .. } => return None,
+        | Call::Report { .. }
+        | Call::TimedTurn { .. }
+        | Call::Bucket { .. } => return None,
     };
     Some(tagged(tag, &value))
 }

@@ -20,8 +20,8 @@ use headers::{
 };
 use model::header::Header;
 use model::{
-    size, Call, Ledger, Model, Port, Settings, Shape, DESTINATIONS, ENTRIES_PER_PORT, LONGEST,
-    MOST_CREDIT, MOST_NODES,
+    size, Call, Ledger, Model, Port, Settings, Shape, BUCKETS, DESTINATIONS, ENTRIES_PER_PORT,
+    LONGEST, MOST_CREDIT, MOST_NODES,
 };
 
 /// What kind of traffic.
@@ -107,9 +107,11 @@ enum Step {
     Round,
     Clear,
     Report,
+    TimedTurn,
+    Bucket,
 }
 
-const STEPS: [Step; 11] = [
+const STEPS: [Step; 13] = [
     Step::Arrive,
     Step::Stitch,
     Step::Prefetch,
@@ -121,6 +123,8 @@ const STEPS: [Step; 11] = [
     Step::Round,
     Step::Clear,
     Step::Report,
+    Step::TimedTurn,
+    Step::Bucket,
 ];
 
 // Settings just beyond their rows, and some that a cut to a byte or two would
@@ -138,13 +142,13 @@ impl Phase {
     /// How often each of the steps, in the order of `STEPS`. A clear is made seldom
     /// where no port is halted; where one is, often: else the lies among the calls
     /// would leave nothing but queue 0.
-    fn weights(self) -> [u32; 11] {
+    fn weights(self) -> [u32; 13] {
         match self {
-            Phase::Fill => [40, 24, 14, 5, 3, 5, 4, 5, 1, 8, 2],
-            Phase::Even => [20, 20, 20, 12, 3, 17, 4, 4, 2, 8, 2],
-            Phase::Drain => [5, 20, 25, 16, 1, 27, 3, 3, 2, 8, 2],
-            Phase::Flood => [60, 20, 10, 3, 2, 0, 2, 3, 0, 8, 1],
-            Phase::Ebb => [0, 24, 26, 20, 1, 25, 2, 2, 2, 8, 1],
+            Phase::Fill => [40, 24, 14, 5, 3, 3, 4, 5, 1, 8, 2, 3, 2],
+            Phase::Even => [20, 20, 20, 12, 3, 10, 4, 4, 2, 8, 2, 10, 3],
+            Phase::Drain => [5, 20, 25, 16, 1, 15, 3, 3, 2, 8, 2, 15, 3],
+            Phase::Flood => [60, 20, 10, 3, 2, 0, 2, 3, 0, 8, 1, 0, 1],
+            Phase::Ebb => [0, 24, 26, 20, 1, 14, 2, 2, 2, 8, 1, 14, 1],
         }
     }
 }
@@ -402,6 +406,8 @@ impl Traffic {
             Step::Report => Some(Call::Report {
                 port: self.port_to_ask(ledger),
             }),
+            Step::TimedTurn => Some(self.timed_turn(ledger)),
+            Step::Bucket => Some(self.bucket(ledger)),
         }
     }
 
@@ -641,6 +647,53 @@ impl Traffic {
         }
     }
 
+    /// A timed turn, of a port with something ready mostly. The time is such that a
+    /// packet of its slots has waited for any number of bits' worth, or any.
+    fn timed_turn(&mut self, ledger: &Ledger) -> Call {
+        let port = match self.turn(ledger) {
+            Call::Turn { port } => port,
+            _ => unreachable!(),
+        };
+        let slots = &ledger.ports[port as usize].prefetch;
+        let oldest: Vec<u16> = slots
+            .iter()
+            .filter_map(|list| list.front().copied())
+            .collect();
+        let any = self.random.word() as u32;
+        let stamp = match oldest.is_empty() {
+            true => any,
+            false => ledger
+                .packet(self.random.pick(&oldest))
+                .map_or(any, |packet| packet.timestamp),
+        };
+        let low = any >> self.random.below(32);
+        let wait = match self.random.below(8) {
+            0 => 0,
+            1 => 1 << self.random.below(32),
+            2 => u32::MAX >> self.random.below(32),
+            _ => low,
+        };
+        Call::TimedTurn {
+            port,
+            now: stamp.wrapping_add(wait),
+        }
+    }
+
+    /// A bucket, of one that counts something mostly, if there is such at the port.
+    fn bucket(&mut self, ledger: &Ledger) -> Call {
+        let port = self.random.below(ledger.settings.ports);
+        let counts = &ledger.ports[port as usize].buckets;
+        let some: Vec<u32> = (0..)
+            .zip(counts)
+            .filter_map(|(bucket, &count)| (count > 0).then_some(bucket))
+            .collect();
+        let bucket = match some.is_empty() || self.random.one_in(3) {
+            true => self.random.below(counts.len() as u32),
+            false => self.random.pick(&some),
+        };
+        Call::Bucket { port, bucket }
+    }
+
     /// A round with room enough, and often with more.
     fn round(&mut self, ledger: &Ledger) -> Call {
         let more = self.random.pick(&[0, 0, 1, 3, 4, 20]);
@@ -712,7 +765,7 @@ impl Traffic {
             4 => {
                 let port = self.beyond(ports);
                 let queue = self.random.below(queues);
-                match self.random.below(9) {
+                match self.random.below(11) {
                     0 => Call::Arrive {
                         port,
                         header: self.header(&shape, port % ports, queue, shape.shortest()),
@@ -731,17 +784,30 @@ impl Traffic {
                     5 => Call::Turn { port },
                     6 => Call::Clear { port },
                     7 => Call::Report { port },
+                    8 => Call::TimedTurn {
+                        port,
+                        now: self.random.word() as u32,
+                    },
+                    // Half of these with a bucket that is wrong as well.
+                    9 => Call::Bucket {
+                        port,
+                        bucket: self.random.below(2 * BUCKETS as u32),
+                    },
                     _ => Call::Ready { port },
                 }
             }
             5 => {
                 let queue = self.beyond(queues);
-                match self.random.below(3) {
+                match self.random.below(4) {
                     0 => Call::Prefetch { port, queue },
                     1 => Call::Credit {
                         port,
                         queue,
                         amount: self.random.below(3),
+                    },
+                    2 => Call::Bucket {
+                        port,
+                        bucket: self.beyond(BUCKETS as u32),
                     },
                     _ => Call::Credit {
                         port,
@@ -952,7 +1018,7 @@ impl Traffic {
         } else {
             self.random.below(queues)
         };
-        match self.random.below(15) {
+        match self.random.below(17) {
             0..=4 => {
                 let header = self.any_header(&ledger.settings.shape(), port);
                 Call::Arrive { port, header }
@@ -985,6 +1051,17 @@ impl Traffic {
             }
             12 => Call::Clear { port },
             13 => Call::Report { port },
+            14 => Call::TimedTurn {
+                port,
+                now: self.random.word() as u32,
+            },
+            15 => Call::Bucket {
+                port,
+                bucket: match self.random.one_in(3) {
+                    true => self.beyond(BUCKETS as u32),
+                    false => self.random.below(BUCKETS as u32),
+                },
+            },
             _ => Call::Where {
                 entry: if self.random.one_in(2) {
                     self.no_node(ledger)

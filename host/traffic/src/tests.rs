@@ -33,6 +33,9 @@ fn name(call: &Call, reply: &Reply) -> &'static str {
         (Call::Round { .. }, _) => "round",
         (Call::Clear { .. }, _) => "clear",
         (Call::Report { .. }, _) => "report",
+        (Call::TimedTurn { .. }, Reply::Idle) => "idle timed turn",
+        (Call::TimedTurn { .. }, _) => "timed turn",
+        (Call::Bucket { .. }, _) => "bucket",
     }
 }
 
@@ -421,6 +424,8 @@ fn fields_have_no_room_for_larger_numbers() {
     assert_eq!(field(&Call::Round { room: vec![0; 16] }), None);
     assert_eq!(field(&Call::Clear { port: 0 }), None);
     assert_eq!(field(&Call::Report { port: 0 }), None);
+    assert_eq!(field(&Call::TimedTurn { port: 0, now: 0 }), None);
+    assert_eq!(field(&Call::Bucket { port: 0, bucket: 0 }), None);
     for settings in [
         Settings::wide(4, 24, 1, 64, 1, 0),
         Settings {

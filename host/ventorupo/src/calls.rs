@@ -38,6 +38,14 @@ mod c {
         pub fn vr_where(mem: *const u8, len: usize, entry: u32, place: *mut u8) -> u32;
         pub fn vr_clear(mem: *mut u8, len: usize, port: u32) -> u32;
         pub fn vr_report(mem: *const u8, len: usize, port: u32, mark: *mut u32) -> u32;
+        pub fn vr_timed_turn(mem: *mut u8, len: usize, port: u32, now: u32, sent: *mut u8) -> u32;
+        pub fn vr_bucket(
+            mem: *const u8,
+            len: usize,
+            port: u32,
+            bucket: u32,
+            count: *mut u32,
+        ) -> u32;
         pub fn vr_audit(mem: *const u8, len: usize, places: *mut u8, places_len: usize) -> u32;
         pub fn vr_find(mem: *const u8, len: usize, rule: *mut u32, item: *mut u64);
         pub fn vr_repair(mem: *mut u8, len: usize) -> u32;
@@ -142,6 +150,24 @@ pub fn clear(memory: &mut [u8], port: u32) -> u32 {
 pub fn report(memory: &[u8], port: u32, mark: &mut u32) -> u32 {
     // Sound: the memory is read only; an aligned room, apart from it.
     unsafe { c::vr_report(memory.as_ptr(), memory.len(), port, mark) }
+}
+
+pub fn timed_turn(memory: &mut [u8], port: u32, now: u32, sent: &mut [u8; 16]) -> u32 {
+    // Sound: the slice with its length; the room has the 16 bytes C asks for.
+    unsafe {
+        c::vr_timed_turn(
+            memory.as_mut_ptr(),
+            memory.len(),
+            port,
+            now,
+            sent.as_mut_ptr(),
+        )
+    }
+}
+
+pub fn bucket(memory: &[u8], port: u32, bucket: u32, count: &mut u32) -> u32 {
+    // Sound: the memory is read only; an aligned room, apart from it.
+    unsafe { c::vr_bucket(memory.as_ptr(), memory.len(), port, bucket, count) }
 }
 
 pub fn audit(memory: &[u8], places: &mut [u8]) -> u32 {

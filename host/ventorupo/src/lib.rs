@@ -63,6 +63,7 @@ mod header;
 mod night;
 mod refusal;
 mod settings;
+mod waits;
 
 pub use answers::{
     EntryId, Halt, ListKind, Place, Ready, Record, RoundTurn, Sent, Side, Turn, Turns,
@@ -71,6 +72,7 @@ pub use header::{Form, Header, HeaderBytes};
 pub use night::{audit, find, repair, Finding, Rule};
 pub use refusal::Refusal;
 pub use settings::{size, Settings, MOST_PORTS, TEN_BYTES, WIDE};
+pub use waits::{bucket_of, waits_of, BUCKETS, BUCKET_STOP};
 
 /// The most bytes that a header has, in any form; see [`Form::size`].
 ///
@@ -186,6 +188,64 @@ impl<M: AsRef<[u8]> + AsMut<[u8]>> Switch<M> {
         let mut sent = [0; 16];
         done(calls::turn(self.memory.as_mut(), port, &mut sent))?;
         Ok(Turn::from_bytes(&sent).expect("the library writes kind 0, 1 or 2"))
+    }
+
+    /// A turn that is given the time, on the clock of the headers' timestamps: if
+    /// a packet leaves, its wait, the time less its timestamp on 32 bits, is counted
+    /// in the buckets of this port. All else is as of [`Switch::turn`].
+    ///
+    /// ```
+    /// use ventorupo::{bucket_of, Refusal, Settings, Switch, Turn};
+    ///
+    /// let settings = Settings::ten_bytes(1, 64, 1, 16);
+    /// let memory = vec![0; ventorupo::size(&settings).unwrap()];
+    /// let mut switch = Switch::setup(memory, settings).map_err(|(why, _)| why)?;
+    /// let header = ventorupo::Header { length: 100, timestamp: 4_294_967_290, ..Default::default() };
+    /// switch.arrive(0, &settings.form().write(&header)?)?;
+    /// switch.stitch(0)?;
+    /// switch.prefetch(0, 0)?;
+    /// // Eleven ticks later the clock has passed its end.
+    /// assert!(matches!(switch.timed_turn(0, 5)?, Turn::Sent(_)));
+    /// assert_eq!(bucket_of(11), 4);
+    /// assert_eq!(switch.bucket(0, 4)?, 1);
+    /// assert_eq!(switch.buckets(0)?.iter().sum::<u32>(), 1);
+    /// // An idle turn counts nothing.
+    /// assert_eq!(switch.timed_turn(0, 6)?, Turn::Idle);
+    /// assert_eq!(switch.buckets(0)?.iter().sum::<u32>(), 1);
+    /// # Ok::<(), Refusal>(())
+    /// ```
+    pub fn timed_turn(&mut self, port: u32, now: u32) -> Result<Turn, Refusal> {
+        let mut sent = [0; 16];
+        done(calls::timed_turn(
+            self.memory.as_mut(),
+            port,
+            now,
+            &mut sent,
+        ))?;
+        Ok(Turn::from_bytes(&sent).expect("the library writes kind 0, 1 or 2"))
+    }
+
+    /// How many packets the port's timed turns sent, since setup or repair, whose
+    /// wait counts in this bucket ([`bucket_of`]); [`BUCKET_STOP`] stands for as many
+    /// or more. Refused 5 above 32.
+    pub fn bucket(&self, port: u32, bucket: u32) -> Result<u32, Refusal> {
+        let mut count = 0;
+        done(calls::bucket(
+            self.memory.as_ref(),
+            port,
+            bucket,
+            &mut count,
+        ))?;
+        Ok(count)
+    }
+
+    /// All buckets of the port, bucket 0 first; each is read by a call of its own.
+    pub fn buckets(&self, port: u32) -> Result<[u32; BUCKETS], Refusal> {
+        let mut counts = [0; BUCKETS];
+        for (bucket, count) in (0..).zip(&mut counts) {
+            *count = self.bucket(port, bucket)?;
+        }
+        Ok(counts)
     }
 
     /// A round: one stitch at each port, then one prefetch for each port and
