@@ -8,7 +8,7 @@
 static const struct vr_settings settings = {
     .nodes = 2, .beat = 64, .slots = 1, .credit = 16, .ports = 4, .queues = 24, .edition = VR_TEN_BYTES};
 
-enum { SIZE = 6192, NODES_IN_ALL = 8, MAP = 16, LAST_SERVED = 4112 }; /* vr_size(&settings); docs/LAYOUT.md */
+enum { SIZE = 6720, NODES_IN_ALL = 8, MAP = 16, LAST_SERVED = 4112 }; /* vr_size(&settings); docs/LAYOUT.md */
 
 static uint8_t image[SIZE];
 

@@ -76,7 +76,7 @@ enum vr_answer {
     VR_BAD_SETTING = 2,      /* setup, read_header, write_header: a setting not in its row */
     VR_NO_STATE = 3,         /* all but setup, find, read_header, write_header: memory is no switch state; for repair, breaks rule (a) */
     VR_NO_PORT = 4,          /* all with a port: port above the last */
-    VR_NO_QUEUE = 5,         /* prefetch, credit: queue above the last; for credit also 0; bucket: bucket above 32 */
+    VR_NO_QUEUE = 5,         /* prefetch, credit, bucket: queue above the last; for credit also 0; for bucket, bucket above 32 */
     VR_HEADER_SIZE = 6,      /* arrive, read_header: header not of its edition's size */
     VR_CHECKSUM = 7,         /* arrive, read_header: checksum differs */
     VR_SOURCE = 8,           /* arrive: header's source isn't the arriving port */

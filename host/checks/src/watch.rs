@@ -150,7 +150,11 @@ pub struct Scene<'d, D> {
 /// The port by which an answer says that the node's packet left.
 fn left_by(call: &Call, reply: &Reply, entry: u16) -> Option<u32> {
     match (call, reply) {
-        (Call::Turn { port }, Reply::Leaves(packet, _)) if packet.entry == entry => Some(*port),
+        (Call::Turn { port } | Call::TimedTurn { port, .. }, Reply::Leaves(packet, _))
+            if packet.entry == entry =>
+        {
+            Some(*port)
+        }
         (_, Reply::Turns(turns)) => {
             let [high, low] = entry.to_be_bytes();
             let told = turns

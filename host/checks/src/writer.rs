@@ -151,6 +151,8 @@ mod tests {
         let behind = [
             // Last served; marks; arrival credits, one of three beats less; outward credits.
             &[1, 1, 0, 8, 0, 6, 0, 9, 0, 0, 1, 2][..],
+            // Buckets, 33 a port.
+            &[0; 2 * 33 * 4],
             // Heads, of free, ingress, egress 0 and 1, prefetch 0 and 1 a port.
             &[0, 1, 0, 0, 0, 0, 0, 0, 0, 0, 0, 0],
             &[8, 1, 8, 0, 0, 0, 0, 0, 0, 0, 0, 0],

@@ -169,8 +169,8 @@ fn nodes_per_port() {
         (0, Some(Refusal::BadSetting)),
         (2049, Some(Refusal::BadSetting)),
         // The most that 65,536 bytes are enough for.
-        (1143, None),
-        (1144, Some(Refusal::ShortMemory)),
+        (1133, None),
+        (1134, Some(Refusal::ShortMemory)),
         (2048, Some(Refusal::ShortMemory)),
     ] {
         let settings = Settings { nodes, ..SMALL };
@@ -191,7 +191,7 @@ fn one_queue_holds_every_node() {
         nodes: 2048,
         ..SMALL
     };
-    let mut switch = Switch::setup(vec![0; 112_584], settings).unwrap();
+    let mut switch = Switch::setup(vec![0; 113_112], settings).unwrap();
     for entry in 0..8192 {
         let port = u32::from(entry / 2048);
         let header = plain(0, port, 0, 12);

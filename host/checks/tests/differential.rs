@@ -172,7 +172,7 @@ fn full_pools_of_2048_nodes() {
 fn full_pools_of_every_shape() {
     for shape in SHAPES {
         let nodes = if shape.ports > 8 { 3 } else { 12 };
-        full_pools(Scale { shape, nodes }, 1);
+        full_pools(Scale { shape, nodes }, 2);
     }
 }
 
@@ -307,7 +307,7 @@ fn memory_too_short_for_any_state() {
 #[test]
 fn the_size_is_the_published_formula() {
     let formula = |s: &Settings| {
-        let fixed = 16 + 4096 + 2 * s.ports + 4 * s.ports * (s.queues - 1);
+        let fixed = 16 + 4096 + 2 * s.ports + 4 * s.ports * (s.queues - 1) + 4 * s.ports * 33;
         (fixed + 8 * s.ports * (2 + 2 * s.queues) + 13 * s.ports * s.nodes) as usize
     };
     let agrees = |settings: Settings| {
@@ -403,7 +403,7 @@ const SLIPPERY: Plan = Plan {
     seed: 3,
     profile: Profile::Valid,
     shape: Shape::TEN_BYTES,
-    memory_len: 6088 + 52 * 4,
+    memory_len: 6616 + 52 * 4,
     calls: 20_000,
     ledger_every: 256,
 };

@@ -136,7 +136,7 @@ fn traffic_goes_on_after_a_repair() {
 #[test]
 fn any_bytes_are_found_alike() {
     let mut random = Random::new(11);
-    let lengths = (0..40).chain([4245, 4246, 4247, 6139, 6140, 6141, 65_536]);
+    let lengths = (0..40).chain([4509, 4510, 4511, 6667, 6668, 6669, 65_536]);
     for length in lengths.cycle().take(2000) {
         let mut bytes: Vec<u8> = (0..length).map(|_| random.word() as u8).collect();
         // Settings that are right, and the rest anything: of two editions.

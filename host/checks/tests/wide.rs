@@ -129,7 +129,7 @@ fn queue_63_alone_is_served_after_every_queue() {
 fn two_ports_and_two_queues() {
     let shape = Shape::wide(2, 2);
     let mut pair = begun(Settings::of(shape, 2, 64, 1, 9));
-    assert_eq!(pair.lent(), 4272 + 3);
+    assert_eq!(pair.lent(), 4536 + 3);
     pair.call(&Call::Map { id: 1, port: 1 }).unwrap();
     let header = plain(&shape, 1, 0, 1, 8191);
     let arrive = |port| Call::Arrive {
@@ -290,7 +290,7 @@ fn the_largest_switch_full_and_called_at_its_edges() {
     let ledger = model.ledger().unwrap();
     assert!(ledger.ports.iter().all(|port| port.free.is_empty()));
     let mut pair = Pair::over(&library::call, ledger, 1);
-    assert_eq!(pair.lent(), 897_488);
+    assert_eq!(pair.lent(), 901_712);
     assert_eq!(PROVED.finds(&pair.memory()[..pair.lent()]), Ok(None));
     pair.compare_ledgers().unwrap();
 

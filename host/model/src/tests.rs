@@ -3,6 +3,7 @@
 //! are in `wide`.
 
 mod halts;
+mod waits;
 mod wide;
 
 use crate::bench::bench;
@@ -428,8 +429,8 @@ fn card_nodes_per_port() {
         (0, Reply::Refused(2)),
         (2049, Reply::Refused(2)),
         // The most that 65,536 bytes are enough for.
-        (1143, Reply::Done),
-        (1144, Reply::Refused(1)),
+        (1133, Reply::Done),
+        (1134, Reply::Refused(1)),
         (2048, Reply::Refused(1)),
     ] {
         assert_eq!(desk.setup(Settings { nodes, ..SMALL }), wanted);
@@ -1264,10 +1265,10 @@ fn bench_refused_setup_leaves_the_older_state() {
     assert_eq!(lines(&input), "1 0\n2 2\n3 0 idle\n");
 }
 
-/// 65,536 bytes are enough for 1,143 nodes a port, and not for 1,144 or 2,048.
+/// 65,536 bytes are enough for 1,133 nodes a port, and not for 1,134 or 2,048.
 #[test]
 fn bench_refuses_what_its_memory_has_no_room_for() {
-    let input = "01 0007 0477 0040 01 0010 01 0007 0478 0040 01 0010 01 0007 0800 0040 01 0010";
+    let input = "01 0007 046D 0040 01 0010 01 0007 046E 0040 01 0010 01 0007 0800 0040 01 0010";
     assert_eq!(lines(input), "1 0\n2 1\n3 1\n");
 }
 

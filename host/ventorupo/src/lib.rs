@@ -46,7 +46,7 @@
 //! use ventorupo::{EntryId, Refusal, Settings, Switch};
 //!
 //! let settings = Settings::ten_bytes(1, 64, 1, 16);
-//! let mut switch = Switch::setup([0; 6140], settings).map_err(|(why, _)| why)?;
+//! let mut switch = Switch::setup([0; 6668], settings).map_err(|(why, _)| why)?;
 //! // Destination 0, source 0, queue 0, length 12.
 //! let header = [0, 0, 0x30, 0, 0, 0, 0, 0, 0, 0x72];
 //! assert_eq!(settings.form().read(&header)?.length, 12);
@@ -106,7 +106,7 @@ fn done(number: u32) -> Result<(), Refusal> {
 /// use ventorupo::{Settings, Switch};
 ///
 /// let settings = Settings::ten_bytes(2, 128, 8, 0);
-/// let mut memory = [0; 6192];
+/// let mut memory = [0; 6720];
 /// Switch::setup(&mut memory[..], settings).unwrap();
 /// // The state stays in the bytes.
 /// let mut switch = Switch::over(memory);
@@ -256,7 +256,7 @@ impl<M: AsRef<[u8]> + AsMut<[u8]>> Switch<M> {
     /// use ventorupo::{Refusal, RoundTurn, Settings, Switch};
     ///
     /// let settings = Settings::ten_bytes(1, 64, 1, 16);
-    /// let mut switch = Switch::setup([0; 6140], settings).map_err(|(why, _)| why)?;
+    /// let mut switch = Switch::setup([0; 6668], settings).map_err(|(why, _)| why)?;
     /// // Destination 0, which is mapped to port 0, source 0, queue 0, length 12.
     /// let entry = switch.arrive(0, &[0, 0, 0x30, 0, 0, 0, 0, 0, 0, 0x72])?;
     /// let turns = switch.round()?;
@@ -307,7 +307,7 @@ impl<M: AsRef<[u8]> + AsMut<[u8]>> Switch<M> {
     /// use ventorupo::{Halt, Header, Refusal, Settings, Switch};
     ///
     /// let settings = Settings::ten_bytes(2, 64, 1, 16);
-    /// let mut switch = Switch::setup([0; 6192], settings).map_err(|(why, _)| why)?;
+    /// let mut switch = Switch::setup([0; 6720], settings).map_err(|(why, _)| why)?;
     /// let header = |queue| Header { source: 1, queue, length: 100, ..Header::default() };
     /// let [above, queue_0] = [5, 0].map(|queue| settings.form().write(&header(queue)).unwrap());
     /// // A header that says it comes from port 1 arrives at port 2.
@@ -360,7 +360,7 @@ impl<M: AsRef<[u8]> + AsMut<[u8]>> Switch<M> {
     /// use ventorupo::{EntryId, ListKind, Refusal, Settings, Switch};
     ///
     /// let settings = Settings::ten_bytes(2, 64, 1, 16);
-    /// let mut switch = Switch::setup([0; 6192], settings).map_err(|(why, _)| why)?;
+    /// let mut switch = Switch::setup([0; 6720], settings).map_err(|(why, _)| why)?;
     /// switch.arrive(0, &[0, 0, 0x30, 0, 0, 0, 0, 0, 0, 0x72])?;
     /// let places = switch.audit()?;
     /// assert_eq!(places.len(), 8);

@@ -79,7 +79,7 @@ impl fmt::Display for Finding {
 /// use ventorupo::{find, Rule, Settings, Switch};
 ///
 /// let settings = Settings::ten_bytes(2, 64, 1, 16);
-/// let mut image = Switch::setup([0; 6192], settings).unwrap().into_memory();
+/// let mut image = Switch::setup([0; 6720], settings).unwrap().into_memory();
 /// assert_eq!(find(&image), None);
 /// // Port 1 has served queue 200.
 /// image[4113] = 200;
@@ -108,13 +108,13 @@ pub fn find(memory: &[u8]) -> Option<Finding> {
 /// use ventorupo::{audit, Refusal, Settings, Switch};
 ///
 /// let settings = Settings::ten_bytes(2, 64, 1, 16);
-/// let image = Switch::setup([0; 6192], settings).unwrap().into_memory();
+/// let image = Switch::setup([0; 6720], settings).unwrap().into_memory();
 /// let mut room = [9; 4 * 2 * 8 + 1];
 /// assert_eq!(audit(&image, &mut room[..63]), Err(Refusal::ShortRoom));
 /// assert_eq!(audit(&image, &mut room), Ok(()));
 /// // Port 3, node 1: second of its free list.
 /// assert_eq!(room[56..], [24, 1, 0, 3, 0, 0, 0, 1, 9]);
-/// assert_eq!(audit(&[0; 6192], &mut []), Err(Refusal::NoState));
+/// assert_eq!(audit(&[0; 6720], &mut []), Err(Refusal::NoState));
 /// ```
 pub fn audit(memory: &[u8], room: &mut [u8]) -> Result<(), Refusal> {
     done(calls::audit(memory, room))
@@ -129,14 +129,14 @@ pub fn audit(memory: &[u8], room: &mut [u8]) -> Result<(), Refusal> {
 /// use ventorupo::{find, repair, Refusal, Settings, Switch};
 ///
 /// let settings = Settings::ten_bytes(2, 64, 1, 16);
-/// let mut image = Switch::setup([9; 6192 + 1], settings).unwrap().into_memory();
+/// let mut image = Switch::setup([9; 6720 + 1], settings).unwrap().into_memory();
 /// image[16] = 3; // Destination 0 goes to port 3.
 /// image[4113] = 200;
 /// repair(&mut image)?;
 /// assert_eq!(find(&image), None);
 /// assert_eq!(image[16], 3);
-/// assert_eq!(image[6192], 9);
-/// assert_eq!(repair(&mut [0; 6192]), Err(Refusal::NoState));
+/// assert_eq!(image[6720], 9);
+/// assert_eq!(repair(&mut [0; 6720]), Err(Refusal::NoState));
 /// # Ok::<(), Refusal>(())
 /// ```
 pub fn repair(memory: &mut [u8]) -> Result<(), Refusal> {

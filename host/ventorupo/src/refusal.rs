@@ -32,7 +32,7 @@ refusals! {
     BadSetting = 2, "setup, read_header, write_header", "a setting not in its row";
     NoState = 3, "all but setup, find, read_header, write_header", "memory is no switch state; for repair, breaks rule (a)";
     NoPort = 4, "all with a port", "port above the last";
-    NoQueue = 5, "prefetch, credit", "queue above the last; for credit also 0";
+    NoQueue = 5, "prefetch, credit, bucket", "queue above the last; for credit also 0; for bucket, bucket above 32";
     HeaderSize = 6, "arrive, read_header", "header not of its edition's size";
     Checksum = 7, "arrive, read_header", "checksum differs";
     Source = 8, "arrive", "header's source isn't the arriving port";

@@ -112,11 +112,11 @@ impl Settings {
 /// ```
 /// use ventorupo::{size, Settings};
 ///
-/// assert_eq!(size(&Settings::ten_bytes(256, 64, 1, 16)), Some(19_400));
+/// assert_eq!(size(&Settings::ten_bytes(256, 64, 1, 16)), Some(19_928));
 /// assert_eq!(size(&Settings::ten_bytes(2049, 64, 1, 16)), None);
-/// assert_eq!(size(&Settings::wide(8, 16, 4, 64, 1, 16)), Some(7200));
+/// assert_eq!(size(&Settings::wide(8, 16, 4, 64, 1, 16)), Some(8256));
 /// // The largest.
-/// assert_eq!(size(&Settings::wide(32, 64, 2048, 64, 1, 16)), Some(897_488));
+/// assert_eq!(size(&Settings::wide(32, 64, 2048, 64, 1, 16)), Some(901_712));
 /// ```
 pub fn size(settings: &Settings) -> Option<usize> {
     match calls::size(&settings.numbers()) {

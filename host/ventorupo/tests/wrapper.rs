@@ -8,7 +8,7 @@ use ventorupo::{
 const SETTINGS: Settings = Settings::ten_bytes(1, 512, 8, 3);
 
 /// The bytes of its state.
-const SIZE: usize = 6140;
+const SIZE: usize = 6668;
 
 /// Where its map, its last served queues and its marks start (docs/LAYOUT.md).
 const MAP: usize = 16;
@@ -60,7 +60,7 @@ fn memory_of_every_kind() {
 fn bytes(s: &Settings) -> usize {
     let [ports, queues, nodes] = [s.ports, s.queues, s.nodes].map(|n| n as usize);
     let (credits, lists) = (ports * (queues - 1), ports * (2 + 2 * queues));
-    16 + 4096 + 2 * ports + 4 * credits + 8 * lists + 13 * ports * nodes
+    16 + 4096 + 2 * ports + 4 * credits + 4 * 33 * ports + 8 * lists + 13 * ports * nodes
 }
 
 #[test]

@@ -50,11 +50,11 @@ fn main() {
     }
     let count: u64 = words[2].parse().expect("a number of streams");
     let first: u64 = words[3].parse().expect("a seed");
-    // 65,536 bytes are enough for 1,143 nodes a port; 2,049 are in no row.
-    let said = run(&words[1], &setups(&[1143, 1144, 2048, 2049]));
+    // 65,536 bytes are enough for 1,133 nodes a port; 2,049 are in no row.
+    let said = run(&words[1], &setups(&[1133, 1134, 2048, 2049]));
     if said != b"1 0\n2 1\n3 1\n4 2\n" {
         let said = String::from_utf8_lossy(&said);
-        eprintln!("streams: setups of 1,143, 1,144, 2,048 and 2,049 nodes: {said}");
+        eprintln!("streams: setups of 1,133, 1,134, 2,048 and 2,049 nodes: {said}");
         exit(1);
     }
     let mut lines = 0;

@@ -299,13 +299,13 @@ fn editions_ports_and_queues_have_their_rows() {
 #[test]
 fn sizes_of_some_switches() {
     for (settings, wanted) in [
-        (Settings::ten_bytes(1, 64, 1, 0), 6140),
-        (Settings::wide(4, 24, 1, 64, 1, 0), 6140),
-        (Settings::ten_bytes(256, 64, 1, 0), 19_400),
-        (Settings::ten_bytes(2048, 64, 1, 0), 112_584),
-        (Settings::wide(2, 2, 1, 64, 1, 0), 4246),
-        (Settings::wide(8, 16, 100, 64, 1, 0), 17_184),
-        (Settings::wide(32, 64, 2048, 64, 1, 0), 897_488),
+        (Settings::ten_bytes(1, 64, 1, 0), 6668),
+        (Settings::wide(4, 24, 1, 64, 1, 0), 6668),
+        (Settings::ten_bytes(256, 64, 1, 0), 19_928),
+        (Settings::ten_bytes(2048, 64, 1, 0), 113_112),
+        (Settings::wide(2, 2, 1, 64, 1, 0), 4510),
+        (Settings::wide(8, 16, 100, 64, 1, 0), 18_240),
+        (Settings::wide(32, 64, 2048, 64, 1, 0), 901_712),
     ] {
         assert_eq!(size(&settings), wanted, "{settings:?}");
     }
