@@ -1,5 +1,6 @@
 /* A port manager in C: packets arrive at two ports, go to port 3 by way of the map, and leave it: one is taken through by single calls,
- * the others by rounds. Then a header is wrong, and its port is halted until it is cleared. Each step is printed. */
+ * the others by rounds. Then a header is wrong, and its port is halted until it is cleared. The last packets leave by turns that are
+ * given the time, and how long they waited is counted. Each step is printed. */
 #include <inttypes.h>
 #include <stdio.h>
 #include <stdlib.h>
@@ -104,16 +105,38 @@ static void show_place(uint32_t entry)
         printf("where: entry %" PRIu32 ": %s of port %u, queue %u, position %" PRIu32 "\n", be(at, 2), kinds[at[2]], at[3], at[4], be(at + 6, 2));
 }
 
-/* A single turn, with all that is recorded for the packet. */
-static void turn(void)
+/* What a single turn has sent, with all that is recorded for the packet. */
+static void show_sent(const uint8_t s[16])
 {
-    uint8_t s[16];
-    if (!done("turn", vr_turn(mem, len, OUT, s))) return;
     if (s[0] == 0)
         puts("turn: idle");
     else
         printf("turn: %s: queue %u, entry %" PRIu32 ", length %" PRIu32 ", destination %" PRIu32 ", time %" PRIu32 ", transaction %u, price %" PRIu32 "\n",
                s[0] == 1 ? "inside" : "outside", s[1], be(s + 2, 2), be(s + 4, 2), be(s + 6, 2), be(s + 8, 4), s[13], be(s + 14, 2));
+}
+
+static void turn(void)
+{
+    uint8_t s[16];
+    if (done("turn", vr_turn(mem, len, OUT, s))) show_sent(s);
+}
+
+/* The same at this time, of the clock that the timestamps are of. */
+static void timed_turn(uint32_t now)
+{
+    uint8_t s[16];
+    if (done("timed turn", vr_timed_turn(mem, len, OUT, now, s))) show_sent(s);
+}
+
+/* How long those waited that left by timed turns: bucket b counts the waits whose highest set bit is the b-th. */
+static void show_waits(void)
+{
+    for (uint32_t b = 0; b <= 32; b++) {
+        uint32_t count;
+        if (!done("bucket", vr_bucket(mem, len, OUT, b, &count)) || count == 0) continue;
+        uint32_t least = b == 0 ? 0 : UINT32_C(1) << (b - 1);
+        printf("waits: %" PRIu32 " of %" PRIu32 " to %" PRIu32 "\n", count, least, b == 0 ? 0 : least + (least - 1));
+    }
 }
 
 int main(void)
@@ -149,7 +172,16 @@ int main(void)
     arrive((struct vr_header){.destination = 1, .source = 2, .queue = 0, .length = 77}); /* queue 0 goes on */
     clear_if_halted(0);
     clear_if_halted(2);
-    arrive((struct vr_header){.destination = 1, .source = 2, .queue = 5, .length = 77});
+    arrive((struct vr_header){.destination = 1, .source = 2, .queue = 5, .length = 77, .timestamp = 4294967290});
+    stitch(2);
+    stitch(2);
+    fetch(0);
+    fetch(5);
+    if (!done("credit", vr_credit(mem, len, OUT, 5, 2))) return 1;
+    timed_turn(1); /* the mark is at queue 5, so queue 0 is next; it was stamped at 0 */
+    timed_turn(5); /* the clock has passed its end: a wait of 11 */
+    timed_turn(6); /* idle: nothing is counted */
+    show_waits();
     free(mem);
     return 0;
 }

@@ -206,7 +206,7 @@ fn the_test_for_a_state(shape: Shape) {
     println!();
 }
 
-const NAMES: [&str; 12] = [
+const NAMES: [&str; 14] = [
     "setup",
     "arrive",
     "stitch",
@@ -219,6 +219,8 @@ const NAMES: [&str; 12] = [
     "map",
     "clear",
     "report",
+    "timed turn",
+    "bucket",
 ];
 
 /// Nanoseconds a call of each kind, on a switch that is filled and emptied.
@@ -302,10 +304,24 @@ fn each_call(shape: Shape, nodes: u32) -> Vec<(&'static str, f64)> {
                 assert_eq!(calls::report(m, port, &mut 0), 0);
             }
         });
-        phase(5, headers.len(), &mut |m| {
+        phase(13, ports as usize, &mut |m| {
+            for port in 0..ports {
+                assert_eq!(calls::bucket(m, port, 9, &mut 0), 0);
+            }
+        });
+        // The first half leaves by turns, the rest by timed ones.
+        let (first, rest) = headers.split_at(headers.len() / 2);
+        phase(5, first.len(), &mut |m| {
             let mut sent = [0; 16];
-            for (port, ..) in &headers {
+            for (port, ..) in first {
                 assert_eq!((calls::turn(m, *port, &mut sent), sent[0]), (0, 2));
+            }
+        });
+        phase(12, rest.len(), &mut |m| {
+            let mut sent = [0; 16];
+            for (port, ..) in rest {
+                let number = calls::timed_turn(m, *port, 1000, &mut sent);
+                assert_eq!((number, sent[0]), (0, 2));
             }
         });
     }
