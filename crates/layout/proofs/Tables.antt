@@ -10,7 +10,7 @@ use native.Mathlib.Omega.{arith}
 use lib.ListN.{length, getD, take, drop, set, replicate, length-drop, length-set, List·getD-append}
 use lib.Seq.{take-all, take-nil, set-append-left, getD-drop, ext-getD}
 use Rattle.numbers.specs.Bytes.{number, store}
-use Rattle.numbers.proofs.Bytes.{number-lt, length-store, byte-apart, number-same, number-apart, number-stored-small}
+use Rattle.numbers.proofs.Bytes.{number-lt, length-store, byte-apart, number-same, number-apart, number-stored-small, store-back}
 use Rattle.ledger.specs.Settings.{Settings, settingCount, size}
 use Rattle.ledger.specs.Ledger.{owner, index}
 use Rattle.ledger.specs.Sound.{sum}
@@ -134,6 +134,12 @@ get-lt S m t i = number-lt (width t) m (place S t i)
 pub get-put : (S : Settings) (m : List ℕ) (t : Table) (i v : ℕ) → size S ≤ length m → i < many S t → v < 256 ^ width t → get S (put S t i v m) t i ≡ v
 unfolding get put
 get-put S m t i v long h small = number-stored-small (width t) m (place S t i) v (omega (arith, within S t i h)) small
+
+-- an element that was there, put back
+pub put-back : (S : Settings) (m : List ℕ) (t : Table) (i v : ℕ) → ((j : ℕ) → getD m j 0 < 256) → size S ≤ length m → i < many S t
+    → put S t i (get S m t i) (put S t i v m) ≡ m
+unfolding get put
+put-back S m t i v small long h = store-back (width t) m (place S t i) v small (omega (arith, within S t i h))
 
 -- where an element is a byte, storing one sets it
 pub put-byte : (S : Settings) (t : Table) (i v : ℕ) (m : List ℕ) → width t ≡ 1 → v < 256 → put S t i v m ≡ set m (startOf S t + i) v

@@ -13,26 +13,26 @@ use Rattle.ledger.specs.Ledger.{Packet, Column, arrival, buckets, tall, 
 use Rattle.ledger.specs.Buckets.{Clock, untimed, at, waitOf, bucketOf, stop, oneMore, bucket#}
 use Rattle.ledger.specs.Calls.{ticked}
 use Rattle.ledger.specs.Sound.{Orderly, Roomy}
-use Rattle.ledger.proofs.Tests.{ltb-yes, ltb-is}
+use Rattle.ledger.proofs.Tests.{ltb-yes}
 use Rattle.ledger.proofs.Columns.{change-other}
 use Rattle.ledger.proofs.Keep.{keep-put}
 
 -- ---- waits and their buckets
-
-pub wait-in : (time stamp : ℕ) → waitOf time stamp < 2 ^ 32
-unfolding waitOf
-wait-in time stamp = mod-lt (time + (2 ^ 32 - stamp)) (omega arith)
 
 -- "so a clock that passes its end still gives the wait": the time d that went by since the timestamp
 pub wait-is : (stamp d : ℕ) → stamp < 2 ^ 32 → d < 2 ^ 32 → waitOf ((stamp + d) % 2 ^ 32) stamp ≡ d
 unfolding waitOf
 wait-is stamp d h k = omega arith
 
+pub wait-in : (time stamp : ℕ) → waitOf time stamp < 2 ^ 32
+unfolding waitOf
+wait-in time stamp = mod-lt (time + (2 ^ 32 - stamp)) (omega arith)
+
 pub bucket-in : (wait : ℕ) → bucketOf wait < bucketCount
 unfolding bucketOf
 bucket-in wait = omega arith
 
--- "a wait falls in the bucket of its highest set bit, counted from 1": bit j of bucket j + 1 is set, and no bit above it
+-- "a wait falls in the bucket of its highest set bit, counted from 1": of a wait in bucket j + 1 bit j is set, and no bit above it
 pub bucket-of-some : (wait : ℕ) → 0 < wait → wait < 2 ^ 32 → (j : ℕ) × (bucketOf wait ≡ suc j) × (2 ^ j ≤ wait) × (wait < 2 ^ suc j)
 unfolding bucketOf
 bucket-of-some wait some low =
@@ -56,18 +56,7 @@ bucket-apart p r b d hb hd e = (omega arith, omega arith)
 
 -- ---- one more
 
-pub one-more-in : (n : ℕ) → n < suc stop → oneMore n < suc stop
-unfolding oneMore
-one-more-in n h = go (ltb n stop) refl
-  where
-    go : (b : Bool) → ltb n stop ≡ b → cond b (suc n) n < suc stop
-    go true e = let l = ltb-yes n stop e in omega arith
-    go false e = h
-
-pub one-more : (n : ℕ) → n < stop → oneMore n ≡ suc n
-unfolding oneMore
-one-more n h = rw (ltb-is n stop h)
-
+-- it never falls
 pub one-more-le : (n : ℕ) → n ≤ oneMore n
 unfolding oneMore
 one-more-le n = go (ltb n stop)
@@ -75,6 +64,14 @@ one-more-le n = go (ltb n stop)
     go : (b : Bool) → n ≤ cond b (suc n) n
     go true = omega arith
     go false = omega arith
+
+pub one-more-in : (n : ℕ) → n < suc stop → oneMore n < suc stop
+unfolding oneMore
+one-more-in n h = go (ltb n stop) refl
+  where
+    go : (b : Bool) → ltb n stop ≡ b → cond b (suc n) n < suc stop
+    go true e = let l = ltb-yes n stop e in omega arith
+    go false e = h
 
 -- ---- what a tick leaves: the ledger, or one bucket of it changed
 

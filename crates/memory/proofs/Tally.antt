@@ -1,11 +1,11 @@
 -- How long they wait (paper 02, Q-13), on memory: what a timed turn makes of a turn's bytes, what the buckets count over calls, and that no
 -- bucket is read. Assumes nothing.
-use mathlib.Core.Path.{_≡_, refl, sym, ap, _∙_, subst}
+use mathlib.Core.Path.{_≡_, refl, sym, ap, subst}
 use mathlib.Core.Bool.{Bool, true, false, cond}
 use mathlib.Core.List.{List}
-use Prim.Native.Nat.{ℕ, _<_}
+use Prim.Native.Nat.{ℕ, _≤_, _<_}
 use native.Mathlib.Omega.{arith}
-use lib.ListN.{length}
+use lib.ListN.{length, set}
 use lib.Dec.{eqb}
 use Rattle.ledger.specs.Settings.{Settings, size}
 use Rattle.ledger.specs.Ledger.{Packet, prefetched, buckets, tall, bound, Ledger, listAt, lastOf, change, putIn}
@@ -14,7 +14,7 @@ use Rattle.ledger.specs.Ready.{readyWord, pick}
 use Rattle.ledger.specs.Calls.{turn, Reply, refused, idle, leaves, done, sideOf, isEmpty, firstOf, serve, rules, result}
 use Rattle.ledger.specs.Desk.{has, Call, setup, act, setupRules, SetupsRefused}
 use Rattle.ledger.specs.Sound.{Sound, Roomy}
-use Rattle.ledger.specs.Tally.{TimedAsTurn, BucketsCount, ButBuckets, AgreeBut, both-have}
+use Rattle.ledger.specs.Tally.{TimedAsTurn, BucketsCount, ButBuckets, AgreeBut, both-none, both-have}
 use Rattle.ledger.proofs.Tests.{leb-no, ltb-no}
 use Rattle.ledger.proofs.Columns.{change-other}
 use Rattle.ledger.proofs.Rows.{roomy}
@@ -24,7 +24,8 @@ use Rattle.ledger.proofs.Steps.{guarded, guarded-both, picked-some}
 use Rattle.ledger.proofs.Tally.{timed-as-turn, buckets-count}
 use Rattle.ledger.proofs.Unread.{waits-unread}
 use Rattle.layout.specs.declared.Table.the-variants.{Buckets}
-use Rattle.layout.specs.Tables.{put}
+use Rattle.layout.specs.Tables.{get, put}
+use Rattle.layout.proofs.Tables.{get-lt, length-put, put-back, settings-put}
 use Rattle.layout.specs.Picture.{settingsIn, packetAt, ledgerIn, StateOf, State}
 use Rattle.memory.specs.Writes.{headOf, serveMem, tickMem, write, refusedMem}
 use Rattle.memory.specs.Image.{setupMem}
@@ -34,7 +35,7 @@ use Rattle.memory.specs.Tally.{asTimed, TimedBytes, BucketsFree, WaitsUn
 use Rattle.memory.proofs.Chains.{state-tidy}
 use Rattle.memory.proofs.Paint.{column-kept, column-paint}
 use Rattle.memory.proofs.Image.{setup-length}
-use Rattle.memory.proofs.Picture.{picture-state, picture-is}
+use Rattle.memory.proofs.Picture.{picture-state, picture-none, picture-is}
 use Rattle.memory.proofs.Square.{j-is, past-kept}
 use Rattle.memory.proofs.Demands.{pictured-state, memory-faithful}
 
@@ -107,36 +108,71 @@ pub waits-unread-in-memory : WaitsUnreadInMemory
 unfolding WaitsUnreadInMemory
 waits-unread-in-memory m n same o cs = waits-unread onMemory picture length memory-faithful steady m n same o cs
 
-free-at : (m : List ℕ) → State m → (i v : ℕ) → i < tall (settingsIn m) buckets → v < bound (settingsIn m) buckets
-    → AgreeBut (picture m) (picture (put (settingsIn m) Buckets i v m))
-free-at m t i v hi hv =
+-- a number in a bucket of a switch state: what it is then
+record Recounted (m : List ℕ) (i v : ℕ) (n : List ℕ) : Type 0 where
+  settings : settingsIn n ≡ settingsIn m
+  state : StateOf (settingsIn m) n
+  shows : ledgerIn (settingsIn m) n ≡ putIn buckets i v (ledgerIn (settingsIn m) m)
+
+recounted : (m : List ℕ) → State m → (i v : ℕ) → i < tall (settingsIn m) buckets → v < bound (settingsIn m) buckets
+    → Recounted m i v (put (settingsIn m) Buckets i v m)
+recounted m t i v hi hv =
     let S : Settings = settingsIn m in
     let L : Ledger = ledgerIn S m in
-    let N : Ledger = putIn buckets i v L in
     let ok = roomy S (t .sound .rows) in
     let tidy = state-tidy S m t in
     let kept = column-kept S ok m tidy buckets i v hi in
-    let shows : ledgerIn S (put S Buckets i v m) ≡ N = column-paint S ok m tidy buckets i v hi hv in
-    let sound : Sound S N = record {
+    let shows : ledgerIn S (put S Buckets i v m) ≡ putIn buckets i v L = column-paint S ok m tidy buckets i v hi hv in
+    let sound : Sound S (putIn buckets i v L) = record {
       rows = t .sound .rows;
       orderly = keep-put S ok L (t .sound .orderly) buckets not-arrival i v hv;
       marked = unfold change in (t .sound .marked);
     } in
-    let state : StateOf S (put S Buckets i v m) = record {
-      long = omega (arith, t .long, kept .same-length);
-      hangs = kept .tidy .hangs;
-      sound = subst (Sound S) (sym shows) sound;
-    } in
-    let but : ButBuckets L N = record {
-      same-lists = unfold change in refl;
-      same-numbers = λ c n. change-other buckets (λ xs. lib.ListN.set xs i v) L c (λ j. n (sym j));
-    } in
-    rw (picture-state m t, picture-is S (put S Buckets i v m) N (kept .settings) state shows) (both-have S L N but)
+    record {
+      settings = kept .settings;
+      state = record {
+        long = omega (arith, t .long, kept .same-length);
+        hangs = kept .tidy .hangs;
+        sound = subst (Sound S) (sym shows) sound;
+      };
+      shows = shows;
+    }
+
+still-state : (m : List ℕ) → State m → (i v : ℕ) → i < tall (settingsIn m) buckets → v < bound (settingsIn m) buckets
+    → State (put (settingsIn m) Buckets i v m)
+still-state m t i v hi hv =
+    let r = recounted m t i v hi hv in
+    subst (λ (T : Settings). StateOf T (put (settingsIn m) Buckets i v m)) (sym (r .settings)) (r .state)
 
 pub buckets-free : BucketsFree
 unfolding BucketsFree
-buckets-free m S L e i v hi hv =
-    let t = pictured-state m S L e .0 in
-    let shown = sym (picture-state m t) ∙ e in
-    let same : settingsIn m ≡ S = cc in
-    subst (λ (T : Settings). i < tall T buckets → v < bound T buckets → AgreeBut (picture m) (picture (put T Buckets i v m))) same (free-at m t i v) hi hv
+buckets-free m small i v hi hv = go (state-dec m)
+  where
+    S : Settings
+    S = settingsIn m
+
+    n : List ℕ
+    n = put S Buckets i v m
+
+    same : settingsIn n ≡ S
+    same = settings-put S m Buckets i v hi (λ e. let z : _≡_ {A = ℕ} 0 1 = cc in omega arith)
+
+    -- the number that stood there, put back, makes m of n
+    back : State n → State m
+    back t =
+        let long : size S ≤ length m = omega (arith, rw same at (t .long), length-put S Buckets i v m) in
+        let old : ℕ = get S m Buckets i in
+        let u : State (put (settingsIn n) Buckets i old n) = still-state n t i old (rw same hi) (get-lt S m Buckets i) in
+        subst State (put-back S m Buckets i v small long hi) (rw same at u)
+
+    go : Dec (State m) → AgreeBut (picture m) (picture n)
+    go (yes t) =
+        let L : Ledger = ledgerIn S m in
+        let N : Ledger = putIn buckets i v L in
+        let r = recounted m t i v hi hv in
+        let but : ButBuckets L N = record {
+          same-lists = unfold change in refl;
+          same-numbers = λ c d. change-other buckets (λ xs. set xs i v) L c (λ j. d (sym j));
+        } in
+        rw (picture-state m t, picture-is S n N (r .settings) (r .state) (r .shows)) (both-have S L N but)
+    go (no f) = rw (picture-none m f, picture-none n (λ t. f (back t))) both-none

@@ -2,12 +2,12 @@
 use mathlib.Core.Path.{_≡_}
 use mathlib.Core.List.{List}
 use Prim.Native.Nat.{ℕ, _<_}
-use lib.ListN.{length}
+use lib.ListN.{length, getD}
 use Rattle.ledger.specs.Settings.{Settings}
-use Rattle.ledger.specs.Ledger.{Ledger, buckets, tall, bound}
+use Rattle.ledger.specs.Ledger.{buckets, tall, bound}
 use Rattle.ledger.specs.Buckets.{untimed, at}
 use Rattle.ledger.specs.Calls.{turn, Reply}
-use Rattle.ledger.specs.Desk.{has, Call, act}
+use Rattle.ledger.specs.Desk.{Call, act}
 use Rattle.ledger.specs.Order.{named}
 use Rattle.ledger.specs.Tally.{AgreeBut, WaitsUnread}
 use Rattle.layout.specs.declared.Table.the-variants.{Buckets}
@@ -25,11 +25,11 @@ asTimed S time p out = (out .0, named (out .1) (λ x. out .1) (λ b. out .1) (λ
 unfoldable pub TimedBytes : Type 0
 TimedBytes = (m : List ℕ) (time p : ℕ) → M (act (turn (at time) p)) m ≡ asTimed (settingsIn m) time p (M (act (turn untimed p)) m)
 
--- whatever number stands in a bucket of a switch state, it is one, and differs in buckets alone
+-- whatever number is put in a bucket: a switch state is one still, any other memory isn't, and what they picture differs in buckets alone
 unfoldable pub BucketsFree : Type 0
 BucketsFree =
-    (m : List ℕ) (S : Settings) (L : Ledger) → picture m ≡ has S L → (i v : ℕ) → i < tall S buckets → v < bound S buckets
-    → AgreeBut (picture m) (picture (put S Buckets i v m))
+    (m : List ℕ) → ((j : ℕ) → getD m j 0 < 256) → (i v : ℕ) → i < tall (settingsIn m) buckets → v < bound (settingsIn m) buckets
+    → AgreeBut (picture m) (picture (put (settingsIn m) Buckets i v m))
 
 -- and memories that differ so answer every call but the reading one alike, and go on differing so
 unfoldable pub WaitsUnreadInMemory : Type 0

@@ -2,15 +2,16 @@
 use mathlib.Core.Path.{_≡_, refl, sym, ap, ap₂, _∙_}
 use mathlib.Core.Logic.{_⊎_, inl, inr}
 use mathlib.Core.List.{List, [], _∷_, _++_}
-use Prim.Native.Nat.{ℕ, zero, suc, _+_, _*_, _/_, _%_, _^_, _≤_, _<_}
+use Prim.Native.Nat.{ℕ, zero, suc, _+_, _-_, _*_, _/_, _%_, _^_, _≤_, _<_}
 use native.Mathlib.Nat.{mod-lt, mod-mod, mod-eq-of-lt, div-one, div-add-mod', div-div-eq-div-mul, mul-add-div-right, mul-add-mod-self-right}
 use native.Mathlib.Nat.{one-le-pow, zero-lt-suc, pow-suc, pow-succ', zero-add, add-zero, suc-add, add-suc, add-comm, mul-suc, mul-assoc, add-mul}
-use native.Mathlib.Nat.{add-assoc}
+use native.Mathlib.Nat.{add-assoc, not-suc-le-zero}
+use native.Mathlib.Decide.{decLe}
 use native.Mathlib.Omega.{arith}
 use lib.Arith.{digits-lt, digits-div, mod-mul}
 use lib.ListN.{length, getD, set, take, drop, length-set}
 use lib.Pow.{pow-add}
-use lib.Seq.{drop-cons, getD-append-add, getD-set-same, getD-set-other}
+use lib.Seq.{drop-cons, getD-append-add, getD-set-same, getD-set-other, getD-take, getD-drop, ext-getD}
 use Rattle.numbers.specs.Bytes.{number, store, digits}
 
 -- the byte of v that has k bytes below it: the first of suc k bytes
@@ -167,6 +168,44 @@ digits-number-at (suc k) h at small room =
     ap (λ (n : ℕ). byte k (n * 256 ^ k + r) ∷ digits k (n * 256 ^ k + r)) whole
     ∙ ap₂ (λ (c : ℕ) (cs : List ℕ). c ∷ cs) first (digits-above k b r ∙ digits-number-at k h (suc at) small (omega arith))
     ∙ sym (ap (take (suc k)) (drop-cons h at 0 (omega arith)))
+
+-- byte j of what was stored
+stored-byte : (k : ℕ) (m : List ℕ) (at v j : ℕ) → at + k ≤ length m → j < k → getD (store k m at v) (at + j) 0 ≡ getD (digits k v) j 0
+unfolding store digits
+stored-byte zero m at v j room h = absurd (not-suc-le-zero h)
+stored-byte (suc k) m at v zero room h =
+    ap (λ (i : ℕ). getD (store k (set m at (byte k v)) (suc at) v) i 0) (add-zero at)
+    ∙ byte-apart k (set m at (byte k v)) (suc at) v at (inl (omega arith))
+    ∙ getD-set-same m at (byte k v) 0 (omega arith)
+stored-byte (suc k) m at v (suc j) room h =
+    ap (λ (i : ℕ). getD (store k (set m at (byte k v)) (suc at) v) i 0) (let e : at + suc j ≡ suc at + j = omega arith in e)
+    ∙ stored-byte k (set m at (byte k v)) (suc at) v j (omega (arith, length-set m at (byte k v))) (omega arith)
+
+-- a number stored over another, and the first one stored back
+pub store-back : (k : ℕ) (m : List ℕ) (at v : ℕ) → ((i : ℕ) → getD m i 0 < 256) → at + k ≤ length m → store k (store k m at v) at (number k m at) ≡ m
+store-back k m at v small room =
+    ext-getD 0 back m (length-store k n at (number k m at) ∙ length-store k m at v) (λ i h. at-byte i (decLe at i) (decLe (suc i) (at + k)))
+  where
+    n : List ℕ
+    n = store k m at v
+
+    back : List ℕ
+    back = store k n at (number k m at)
+
+    beside : (i : ℕ) → (i < at) ⊎ (at + k ≤ i) → getD back i 0 ≡ getD m i 0
+    beside i h = byte-apart k n at (number k m at) i h ∙ byte-apart k m at v i h
+
+    at-byte : (i : ℕ) → Dec (at ≤ i) → Dec (suc i ≤ at + k) → getD back i 0 ≡ getD m i 0
+    at-byte i (no a) d = beside i (inl (omega arith))
+    at-byte i (yes a) (no b) = beside i (inr (omega arith))
+    at-byte i (yes a) (yes b) =
+        let j : ℕ = i - at in
+        let is : i ≡ at + j = omega arith in
+        rw is
+        (stored-byte k n at (number k m at) j (omega (arith, length-store k m at v)) (omega arith)
+        ∙ ap (λ (l : List ℕ). getD l j 0) (digits-number-at k m at small room)
+        ∙ getD-take k (drop at m) j 0 (omega arith)
+        ∙ getD-drop at m j 0)
 
 pub digits-number : (k : ℕ) (h : List ℕ) → ((i : ℕ) → getD h i 0 < 256) → k ≤ length h → digits k (number k h 0) ≡ take k h
 digits-number k h small room = digits-number-at k h 0 small (omega arith)
