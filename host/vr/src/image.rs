@@ -239,7 +239,7 @@ mod tests {
             assert_eq!(image.get(Mapped, 2), (end == 19).then_some(1));
             assert_eq!(image.get(Mapped, 3), None);
             // Ports, queues and nodes say it; the edition comes behind them.
-            assert_eq!(image.needed(), (end >= 6).then_some(6992));
+            assert_eq!(image.needed(), (end >= 6).then_some(8048));
             assert_eq!(image.get(Price, 7), None);
         }
     }
@@ -247,7 +247,7 @@ mod tests {
     /// Ports, queues, nodes and edition, the others as they should be.
     fn image(settings: [u8; 4]) -> Vec<u8> {
         let [ports, queues, nodes, edition] = settings;
-        let mut memory = vec![0; 7000];
+        let mut memory = vec![0; 8100];
         let bytes = [
             0, ports, 0, queues, 0, nodes, 0, 64, 0, 1, 0, 16, 0, edition,
         ];
@@ -279,16 +279,16 @@ mod tests {
     #[test]
     fn counts_are_the_images_own() {
         for (settings, needed) in [
-            ([4, 24, 2, 0], 6192),
-            ([4, 24, 2, 1], 6192),
-            ([2, 2, 1, 1], 4246),
-            ([8, 16, 2, 1], 6992),
-            ([32, 64, 1, 1], 45_936),
+            ([4, 24, 2, 0], 6720),
+            ([4, 24, 2, 1], 6720),
+            ([2, 2, 1, 1], 4510),
+            ([8, 16, 2, 1], 8048),
+            ([32, 64, 1, 1], 50_160),
             // Whatever the edition, also where it has other rows or is none.
-            ([8, 16, 2, 0], 6992),
-            ([5, 24, 2, 0], 6712),
-            ([4, 23, 2, 0], 6112),
-            ([8, 16, 2, 2], 6992),
+            ([8, 16, 2, 0], 8048),
+            ([5, 24, 2, 0], 7372),
+            ([4, 23, 2, 0], 6640),
+            ([8, 16, 2, 2], 8048),
         ] {
             let memory = image(settings);
             let image = Image::new(&memory);

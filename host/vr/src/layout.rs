@@ -5,6 +5,8 @@
 pub const SETTINGS_BYTES: usize = 16;
 /// Entries of the map, one for each destination id.
 pub const IDS: usize = 4096;
+/// Buckets of a port, in which its timed turns count how long packets waited.
+pub const BUCKETS: usize = 33;
 
 /// A setting's name and row, in words and as a test.
 pub struct Row {
@@ -103,6 +105,7 @@ pub enum Table {
     Halted,
     Arrival,
     Outward,
+    Buckets,
     Head,
     Tail,
     Count,
@@ -118,13 +121,14 @@ pub enum Table {
 
 use Table::*;
 
-pub const TABLES: [Table; 17] = [
+pub const TABLES: [Table; 18] = [
     Setting,
     Mapped,
     Last,
     Halted,
     Arrival,
     Outward,
+    Buckets,
     Head,
     Tail,
     Count,
@@ -142,7 +146,7 @@ impl Table {
     /// Bytes of an element.
     pub fn width(self) -> usize {
         match self {
-            Count | Stamp => 4,
+            Buckets | Count | Stamp => 4,
             Setting | Arrival | Outward | Head | Tail | Next | Length => 2,
             Mapped | Last | Halted | Queue | Dest | Poisoned | Transaction | Price => 1,
         }
@@ -190,6 +194,7 @@ impl Shape {
             Mapped => IDS,
             Last | Halted => self.ports,
             Arrival | Outward => self.cells(),
+            Buckets => self.ports * BUCKETS,
             Head | Tail | Count => self.lists(),
             _ => self.all_nodes(),
         }
@@ -214,10 +219,16 @@ pub fn size_before_wide(nodes: usize) -> usize {
     1988 + 52 * nodes
 }
 
-/// The bytes of a state by the build before the marks, which had all the other
+/// The bytes of a state by the build before the buckets, which had all the other
 /// tables.
+pub fn size_before_buckets(shape: Shape) -> usize {
+    shape.size() - Buckets.width() * shape.elements(Buckets)
+}
+
+/// The bytes of a state by the build before the marks, which had no buckets
+/// either.
 pub fn size_before_marks(shape: Shape) -> usize {
-    shape.size() - shape.ports
+    size_before_buckets(shape) - shape.ports
 }
 
 #[cfg(test)]
@@ -330,12 +341,12 @@ mod tests {
                         nodes,
                     };
                     let ends = 4 * ports * (queues - 1) + 8 * ports * (2 + 2 * queues);
-                    let size = 16 + 4096 + 2 * ports + ends + 13 * ports * nodes;
+                    let size = 16 + 4096 + 2 * ports + 132 * ports + ends + 13 * ports * nodes;
                     assert_eq!(shape.size(), size);
                     assert!(size <= Shape::MOST.size());
                 }
             }
         }
-        assert_eq!(Shape::MOST.size(), 897_488);
+        assert_eq!(Shape::MOST.size(), 901_712);
     }
 }

@@ -161,7 +161,7 @@ fn huge_files() {
     let said = on("dump", &path);
     assert!(said
         .out
-        .contains("\nbytes: 8589934592 there, 6192 needed\n"));
+        .contains("\nbytes: 8589934592 there, 6720 needed\n"));
     assert_eq!(said.status, Some(0));
     let nothing = folder.path("nothing");
     File::create(&nothing).unwrap().set_len(1 << 33).unwrap();

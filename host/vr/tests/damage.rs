@@ -178,14 +178,14 @@ fn any_bytes_at_all() {
 #[test]
 fn findings_that_are_not_there() {
     let sound = small();
-    for memory in [&sound[..], &[], &sound[..6191], &[0; 8000]] {
+    for memory in [&sound[..], &[], &sound[..6719], &[0; 8000]] {
         for rule in Rule::ALL {
             for item in (0..300).chain([4096, 4097, 4198, 6145, 65_536, u64::MAX]) {
                 let view = View::new(memory, 0, Some(Finding { rule, item }));
                 let seen = !vr::explain(&view).text.contains(UNSEEN);
                 // Too short, or zero settings: that alone is so.
                 let so = match memory.len() {
-                    6192 => false,
+                    6720 => false,
                     8000 => rule == Rule::A && item < 5,
                     _ => rule == Rule::A && item == 8,
                 };

@@ -199,7 +199,7 @@ fn an_image_cut_anywhere() {
         let (table, dump) = (vr::table::table(&view), Json::read(&vr::json::json(&view)));
         let ends = match there {
             0..=15 => "the image ends within the settings".to_string(),
-            _ => format!("the image ends at byte {there} of 6192"),
+            _ => format!("the image ends at byte {there} of 6720"),
         };
         assert!(table.starts_with("(a) the image is too short: "));
         assert!(table.ends_with(&format!("\nreading stops: {ends}\n")));

@@ -134,14 +134,14 @@ fn rule_a_too_short() {
         format!("a state of {ports} ports, {queues} queues and {nodes} a port takes {bytes}")
     };
     for there in [16, 100, at::SIZE - 1] {
-        short(&small()[..there], &state(4, 24, "2 nodes", 6192));
+        short(&small()[..there], &state(4, 24, "2 nodes", 6720));
     }
     let one = changed(&[two(0, 2, 1)]);
-    short(&one[..6139], &state(4, 24, "1 node", 6140));
+    short(&one[..6667], &state(4, 24, "1 node", 6668));
     let most = changed(&[two(0, 2, 2048)]);
-    short(&most, &state(4, 24, "2048 nodes", 112_584));
+    short(&most, &state(4, 24, "2048 nodes", 113_112));
     let wide = changed(&[two(0, 0, 32), two(0, 1, 64), two(0, 2, 2048), two(0, 6, 1)]);
-    short(&wide, &state(32, 64, "2048 nodes", 897_488));
+    short(&wide, &state(32, 64, "2048 nodes", 901_712));
 }
 
 #[test]
@@ -353,19 +353,19 @@ fn a_wide_image() {
     let folder = Folder::new("explain-wide");
     let file = folder.file("image", &wide());
     assert_eq!(on("explain", &file).out, "a sound state\n");
-    // Starts: last 4112, halted 4117, arrival 4122, head 4162, count 4322, length 4492, queue 4522, dest 4527, price 4542.
+    // Starts: last 4112, halted 4117, arrival 4122, buckets 4162, head 4822, count 4982, length 5152, queue 5182, dest 5187, price 5202.
     let ingress = "(f) node 0 of port 0 (entry id 0) at position 0 of the ingress list of port 0: ";
     let prefetch = "(f) node 0 of port 4 (entry id 8192) at position 0 of the prefetch list of port 3, queue 2: ";
     for (at, number, item, words) in [
         (4116, 3, 4, "(b) port 4: last served queue 3 is none of 3".to_string()),
         (16 + 4095, 5, 5 + 4095, "(b) destination id 4095: mapped port 5 is none of 5".into()),
-        (4322 + 4 * 39 + 3, 2, 5 + 4096 + 14, "(b) port 4, queue 2: the prefetch list has 2 nodes, its slots are 1".into()),
-        (4162 + 2, 40, 1, "(c) ingress list of port 0: entry id 10240 at position 0 is no node: port 5 is none of 5".into()),
-        (4492 + 1, 12, 0, format!("{ingress}length 12 is under 13")),
-        (4522, 3, 0, format!("{ingress}queue 3 is none of 3")),
-        (4527, 8, 0, format!("{ingress}destination id 8 is above 7")),
-        (4527 + 4, 200, 8192, format!("{prefetch}destination id 200 is above 7")),
-        (4542 + 4, 1, 8192, format!("{prefetch}price 1 is wrong, length 65 at beat 64 costs 2")),
+        (4982 + 4 * 39 + 3, 2, 5 + 4096 + 14, "(b) port 4, queue 2: the prefetch list has 2 nodes, its slots are 1".into()),
+        (4822 + 2, 40, 1, "(c) ingress list of port 0: entry id 10240 at position 0 is no node: port 5 is none of 5".into()),
+        (5152 + 1, 12, 0, format!("{ingress}length 12 is under 13")),
+        (5182, 3, 0, format!("{ingress}queue 3 is none of 3")),
+        (5187, 8, 0, format!("{ingress}destination id 8 is above 7")),
+        (5187 + 4, 200, 8192, format!("{prefetch}destination id 200 is above 7")),
+        (5202 + 4, 1, 8192, format!("{prefetch}price 1 is wrong, length 65 at beat 64 costs 2")),
         (4122 + 2 * 9 + 1, 15, 9, "(g) port 4, queue 2: arrival credit 15 and prices outstanding 2 are 17 together, not 16".into()),
         (4117, 19, 0, "(i) port 0: mark 19 is none of 0, 7, 8 and 18".into()),
         (4117 + 4, 9, 4, "(i) port 4: mark 9 is none of 0, 7, 8 and 18".into()),
@@ -408,7 +408,7 @@ const HINT: &str = "hint: it is as long as an image of 2 nodes a port by the bui
 fn an_image_of_an_older_build() {
     let folder = Folder::new("explain-older");
     for (map, words) in [
-        ([0; 4], "(a) the image is too short: it has 2092 bytes, a state of 4 ports, 24 queues and 2 nodes a port takes 6192"),
+        ([0; 4], "(a) the image is too short: it has 2092 bytes, a state of 4 ports, 24 queues and 2 nodes a port takes 6720"),
         ([0, 1, 2, 3], "(a) setting packets: 515 is not in its row (0)"),
         ([3, 2, 1, 0], "(a) setting edition: 770 is not in its row (0 or 1)"),
     ] {
@@ -418,7 +418,7 @@ fn an_image_of_an_older_build() {
         assert!(said.ends_with(&format!("\n{HINT}")), "{said}");
         assert_eq!(said.lines().count(), 3);
         let table = on("dump", &file).out;
-        let bytes = "\nbytes: 2092 there, 6192 needed\n";
+        let bytes = "\nbytes: 2092 there, 6720 needed\n";
         assert!(table.contains(&format!("{bytes}{HINT}\nport ")), "{table}");
         let json = vr(&["dump".as_ref(), "--json".as_ref(), file.as_os_str()]).out;
         let hint = HINT.trim_end().trim_start_matches("hint: ");
@@ -439,17 +439,23 @@ fn hint_of_marks(shape: &str) -> String {
     )
 }
 
-/// So is one that has all but the marks, whatever its shape.
+/// The bytes of an image without some of them.
+fn without(mut bytes: Vec<u8>, at: usize, many: usize) -> Vec<u8> {
+    bytes.drain(at..at + many);
+    bytes
+}
+
+/// So is one that has all but the marks and the buckets, whatever its shape.
 #[test]
 fn an_image_of_the_build_before_the_marks() {
     let folder = Folder::new("explain-marks");
-    let older = |mut bytes: Vec<u8>, at: usize, ports: usize| {
-        bytes.drain(at..at + ports);
-        bytes
+    let older = |bytes: Vec<u8>, buckets: usize, marks: usize, ports: usize| {
+        let bytes = without(bytes, buckets, 132 * ports);
+        without(bytes, marks, ports)
     };
-    let file = folder.file("image", &older(small(), at::HALTED, 4));
+    let file = folder.file("image", &older(small(), at::BUCKETS, at::HALTED, 4));
     let said = on("explain", &file).out;
-    let top = "(a) the image is too short: it has 6188 bytes, a state of 4 ports, 24 queues and 2 nodes a port takes 6192\n";
+    let top = "(a) the image is too short: it has 6188 bytes, a state of 4 ports, 24 queues and 2 nodes a port takes 6720\n";
     let hint = hint_of_marks("4 ports, 24 queues and 2 nodes a port");
     assert!(said.starts_with(top) && said.ends_with(&hint), "{said}");
     assert_eq!(said.lines().count(), 3);
@@ -466,11 +472,15 @@ fn an_image_of_the_build_before_the_marks() {
         "{said}"
     );
     assert!(!new.exists());
-    let said = on("explain", &folder.file("wide", &older(wide(), 4117, 5))).out;
+    let said = on(
+        "explain",
+        &folder.file("wide", &older(wide(), 4162, 4117, 5)),
+    )
+    .out;
     let hint = hint_of_marks("5 ports, 3 queues and 1 node a port");
     assert!(said.ends_with(&hint), "{said}");
     // A byte more or less is just too short.
-    for there in [at::SIZE - 5, at::SIZE - 3, at::SIZE - 1] {
+    for there in [6187, 6189, at::SIZE - 1] {
         let said = on("explain", &folder.file("image", &small()[..there])).out;
         assert!(said.starts_with("(a) ") && !said.contains("hint"), "{said}");
     }
@@ -487,9 +497,9 @@ fn no_image_of_an_older_build() {
         let said = on("explain", &folder.file("image", &bytes)).out;
         assert!(said.starts_with("(a) ") && !said.contains("hint"), "{said}");
     }
-    // 2 ports, 2 queues and 90 nodes take 6560 bytes.
-    let mut state = switch(Settings::wide(2, 2, 90, 64, 1, 16)).into_memory();
-    state.resize(1988 + 52 * 90, 0);
+    // 2 ports, 2 queues and 100 nodes take 7084 bytes.
+    let mut state = switch(Settings::wide(2, 2, 100, 64, 1, 16)).into_memory();
+    state.resize(1988 + 52 * 100, 0);
     let said = |state: &[u8]| on("explain", &folder.file("image", state)).out;
     assert_eq!(said(&state), "a sound state\n");
     state[4112] = 2;

@@ -13,16 +13,17 @@ pub mod at {
     pub const HALTED: usize = 4116;
     pub const ARRIVAL: usize = 4120;
     pub const OUTWARD: usize = 4304;
-    pub const HEAD: usize = 4488;
-    pub const TAIL: usize = 4888;
-    pub const COUNT: usize = 5288;
-    pub const NEXT: usize = 6088;
-    pub const LENGTH: usize = 6104;
-    pub const QUEUE: usize = 6152;
-    pub const DEST: usize = 6160;
-    pub const POISONED: usize = 6168;
-    pub const PRICE: usize = 6184;
-    pub const SIZE: usize = 6192;
+    pub const BUCKETS: usize = 4488;
+    pub const HEAD: usize = 5016;
+    pub const TAIL: usize = 5416;
+    pub const COUNT: usize = 5816;
+    pub const NEXT: usize = 6616;
+    pub const LENGTH: usize = 6632;
+    pub const QUEUE: usize = 6680;
+    pub const DEST: usize = 6688;
+    pub const POISONED: usize = 6696;
+    pub const PRICE: usize = 6712;
+    pub const SIZE: usize = 6720;
 }
 
 pub const SMALL: Settings = Settings::ten_bytes(2, 64, 1, 16);
