@@ -327,6 +327,7 @@ mod tests {
                 nodes,
             };
             assert_eq!(size_before_marks(shape) - size, 2 * 2 + 4096 - 4);
+            assert_eq!(size_before_buckets(shape), 6088 + 52 * nodes);
         }
     }
 

@@ -4,7 +4,8 @@ use std::collections::BTreeMap;
 
 use crate::image::Image;
 use crate::layout::{
-    size_before_marks, size_before_wide, Table, IDS, NODES, PORTS, QUEUES, ROWS, SETTINGS_BYTES,
+    size_before_buckets, size_before_marks, size_before_wide, Table, IDS, NODES, PORTS, QUEUES,
+    ROWS, SETTINGS_BYTES,
 };
 use crate::lists::Lists;
 use crate::words;
@@ -60,16 +61,23 @@ impl<'m> View<'m> {
                  which is to be set up afresh, not repaired (docs/DECISIONS.md, 79)"
             ));
         }
-        let shape = self.image.shape;
-        let older = self.image.needed().is_some() && long(size_before_marks(shape));
+        let (needed, shape) = (self.image.needed()?, self.image.shape);
+        let older = [
+            (size_before_buckets(shape), "buckets of waits", ""),
+            (
+                size_before_marks(shape),
+                "marks of halted ports",
+                " (docs/DECISIONS.md, 89)",
+            ),
+        ];
+        let (bytes, what, where_told) = older.into_iter().find(|&(bytes, ..)| long(bytes))?;
         let (ports, queues) = (shape.ports, shape.queues);
-        older.then(|| {
-            format!(
-                "it is as long as an image of {ports} ports, {queues} queues and {a_port} \
-                 by the build before the marks of halted ports, which is to be set up \
-                 afresh, or repaired once it is a byte a port longer (docs/DECISIONS.md, 89)"
-            )
-        })
+        let longer = (needed - bytes) / ports;
+        Some(format!(
+            "it is as long as an image of {ports} ports, {queues} queues and {a_port} \
+             by the build before the {what}, which is to be set up afresh, or repaired \
+             once it is {longer} bytes a port longer{where_told}"
+        ))
     }
 
     /// A line for the hint, if there is one.

@@ -4,7 +4,10 @@ mod common;
 #[path = "common/images.rs"]
 mod images;
 
-use common::{on, vr, Folder};
+use std::fs;
+use std::path::{Path, PathBuf};
+
+use common::{on, vr, Folder, Said};
 use images::{at, changed, small, switch, wide, Change};
 use ventorupo::Settings;
 use vr::args::Topic;
@@ -434,15 +437,81 @@ fn an_image_of_an_older_build() {
 fn hint_of_marks(shape: &str) -> String {
     format!(
         "\nhint: it is as long as an image of {shape} by the build before the marks of halted ports, \
-         which is to be set up afresh, or repaired once it is a byte a port longer \
+         which is to be set up afresh, or repaired once it is 133 bytes a port longer \
          (docs/DECISIONS.md, 89)\n"
     )
+}
+
+/// The hint for an image of this shape by the build before the buckets.
+fn hint_of_buckets(shape: &str) -> String {
+    format!(
+        "\nhint: it is as long as an image of {shape} by the build before the buckets of waits, \
+         which is to be set up afresh, or repaired once it is 132 bytes a port longer\n"
+    )
+}
+
+/// A repair of an image, and the file that it is to write.
+fn repair(folder: &Folder, file: &Path) -> (Said, PathBuf) {
+    let new = folder.path("new");
+    let words = [
+        "repair".as_ref(),
+        file.as_os_str(),
+        "-o".as_ref(),
+        new.as_os_str(),
+    ];
+    (vr(&words), new)
+}
+
+/// Made so much longer, an image of the small one's settings and map is repaired:
+/// these stood where they stand.
+fn is_repaired_longer(folder: &Folder, mut bytes: Vec<u8>, a_port: usize) {
+    bytes.resize(bytes.len() + 4 * a_port, 0);
+    assert_eq!(bytes.len(), at::SIZE);
+    let (said, new) = repair(folder, &folder.file("longer", &bytes));
+    assert_eq!(said.status, Some(0), "{}", said.out);
+    let written = fs::read(&new).unwrap();
+    assert_eq!(written[..at::LAST], small()[..at::LAST]);
+    assert_eq!(on("explain", &new).out, "a sound state\n");
+    fs::remove_file(&new).unwrap();
 }
 
 /// The bytes of an image without some of them.
 fn without(mut bytes: Vec<u8>, at: usize, many: usize) -> Vec<u8> {
     bytes.drain(at..at + many);
     bytes
+}
+
+/// As it is, it is refused, with its hint, and nothing is written.
+fn is_not_repaired(folder: &Folder, file: &Path, hint: &str) {
+    let (said, new) = repair(folder, file);
+    let told = format!("nothing was written{hint}");
+    assert!(said.out.ends_with(&told), "{}", said.out);
+    assert_eq!(said.status, Some(1));
+    assert!(!new.exists());
+}
+
+/// So is one that has all but the buckets, whatever its shape.
+#[test]
+fn an_image_of_the_build_before_the_buckets() {
+    let folder = Folder::new("explain-buckets");
+    let bytes = without(small(), at::BUCKETS, 528);
+    let file = folder.file("image", &bytes);
+    let said = on("explain", &file).out;
+    let top = "(a) the image is too short: it has 6192 bytes, a state of 4 ports, 24 queues and 2 nodes a port takes 6720\n";
+    let hint = hint_of_buckets("4 ports, 24 queues and 2 nodes a port");
+    assert!(said.starts_with(top) && said.ends_with(&hint), "{said}");
+    assert_eq!(said.lines().count(), 3);
+    is_not_repaired(&folder, &file, &hint);
+    is_repaired_longer(&folder, bytes, 132);
+    let file = folder.file("wide", &without(wide(), 4162, 660));
+    let hint = hint_of_buckets("5 ports, 3 queues and 1 node a port");
+    let said = on("explain", &file).out;
+    assert!(said.ends_with(&hint), "{said}");
+    // A byte more or less is just too short.
+    for there in [6191, 6193] {
+        let said = on("explain", &folder.file("image", &small()[..there])).out;
+        assert!(said.starts_with("(a) ") && !said.contains("hint"), "{said}");
+    }
 }
 
 /// So is one that has all but the marks and the buckets, whatever its shape.
@@ -453,25 +522,15 @@ fn an_image_of_the_build_before_the_marks() {
         let bytes = without(bytes, buckets, 132 * ports);
         without(bytes, marks, ports)
     };
-    let file = folder.file("image", &older(small(), at::BUCKETS, at::HALTED, 4));
+    let bytes = older(small(), at::BUCKETS, at::HALTED, 4);
+    let file = folder.file("image", &bytes);
     let said = on("explain", &file).out;
     let top = "(a) the image is too short: it has 6188 bytes, a state of 4 ports, 24 queues and 2 nodes a port takes 6720\n";
     let hint = hint_of_marks("4 ports, 24 queues and 2 nodes a port");
     assert!(said.starts_with(top) && said.ends_with(&hint), "{said}");
     assert_eq!(said.lines().count(), 3);
-    let new = folder.path("new");
-    let words = [
-        "repair".as_ref(),
-        file.as_os_str(),
-        "-o".as_ref(),
-        new.as_os_str(),
-    ];
-    let said = vr(&words).out;
-    assert!(
-        said.ends_with(&format!("nothing was written{hint}")),
-        "{said}"
-    );
-    assert!(!new.exists());
+    is_not_repaired(&folder, &file, &hint);
+    is_repaired_longer(&folder, bytes, 133);
     let said = on(
         "explain",
         &folder.file("wide", &older(wide(), 4162, 4117, 5)),
