@@ -3,7 +3,7 @@
 use std::fmt;
 
 use crate::layout::Table::{self, *};
-use crate::layout::{Shape, NODES, PORTS, QUEUES, ROWS, TABLES};
+use crate::layout::{Shape, BUCKETS, NODES, PORTS, QUEUES, ROWS, TABLES};
 
 /// The step between the entry ids of two ports.
 const IDS_PER_PORT: usize = 2048;
@@ -185,6 +185,12 @@ impl<'m> Image<'m> {
     pub fn credit(&self, table: Table, port: usize, queue: usize) -> Option<u32> {
         let cell = port * (self.shape.queues.saturating_sub(1)) + queue.checked_sub(1)?;
         self.get(table, cell)
+    }
+
+    /// What a bucket of a port counts.
+    pub fn bucket(&self, port: usize, bucket: usize) -> Option<u32> {
+        let element = port * BUCKETS + bucket;
+        self.get(Buckets, element).filter(|_| bucket < BUCKETS)
     }
 }
 

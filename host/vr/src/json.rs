@@ -2,6 +2,7 @@
 
 use ventorupo::{Form, Header};
 
+use crate::buckets::Waits;
 use crate::header::{told, Shown};
 use crate::image::{Entry, Image, Kind};
 use crate::layout::{Table, IDS, ROWS};
@@ -14,6 +15,10 @@ pub fn json(view: &View) -> String {
     let mapped = (0..IDS).map(|id| number(image.get(Table::Mapped, id)));
     let last = (0..ports).map(|port| number(image.get(Table::Last, port)));
     let marks = (0..ports).map(|port| number(image.get(Table::Halted, port)));
+    let buckets = Waits::of_all(image);
+    let buckets = buckets
+        .iter()
+        .map(|waits| row(waits.counts.iter().copied().map(number)));
     let walks = view.lists.walks.iter().map(|walk| list(image, walk));
     let nowhere = view.lists.nowhere(image);
     let needed = image.needed();
@@ -31,6 +36,7 @@ pub fn json(view: &View) -> String {
         ("map", block(mapped)),
         ("last_served", row(last)),
         ("marks", row(marks)),
+        ("buckets", lines(buckets)),
         ("credits", lines(credits(image))),
         ("lists", lines(walks)),
         (

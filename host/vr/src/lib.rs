@@ -6,6 +6,7 @@
 #![forbid(unsafe_code)]
 
 pub mod args;
+pub mod buckets;
 mod fields;
 mod files;
 mod header;

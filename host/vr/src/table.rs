@@ -1,12 +1,13 @@
 //! An image as a table that a person can read.
 
+use crate::buckets::{named_range, Packets, Waits};
 use crate::image::{Entry, Image, Kind};
 use crate::layout::Table;
 use crate::lists::Walk;
 use crate::view::{counted, map_by_port, number, View};
 use crate::words::marked;
 
-/// A line of ids gets no longer than about this.
+/// A line of ids or of buckets gets no longer than about this.
 const WIDE: usize = 96;
 /// So many ports' credits stand beside each other, and so many last served
 /// queues: what a page is wide.
@@ -133,6 +134,7 @@ fn port_lists(view: &View, port: usize) -> String {
     if let Some(mark) = view.image.get(Table::Halted, port).filter(|&mark| mark > 0) {
         text += &format!("  {}\n", marked(mark));
     }
+    text += &waits(&Waits::of(&view.image, port));
     for walk in &walks {
         // Of an empty list nothing is said, and of others what can be read.
         if walk.count != Some(0) && walk.head.is_some() {
@@ -144,6 +146,21 @@ fn port_lists(view: &View, port: usize) -> String {
         text += &format!("  lists cut off: {cut}\n");
     }
     text
+}
+
+/// The buckets that count something, over as many lines as needed.
+fn waits(waits: &Waits) -> String {
+    let filled = waits.filled();
+    if filled.is_empty() {
+        return String::new();
+    }
+    let mut lines = vec![format!("waits: {};", waits.in_words())];
+    for (i, &(bucket, count)) in filled.iter().enumerate() {
+        let (waits, packets) = (named_range(bucket), Packets::in_bucket(count));
+        let part = format!("bucket {bucket} ({waits}) {packets}");
+        push_part(&mut lines, part, i + 1 == filled.len());
+    }
+    format!("  {}\n", lines.join("\n    "))
 }
 
 fn list(image: &Image, walk: &Walk) -> String {
@@ -253,9 +270,14 @@ fn push_run(lines: &mut Vec<String>, first: u32, last: u32, ends: bool) {
         1 => format!("{first}, {last}"),
         _ => format!("{first} to {last}"),
     };
+    push_part(lines, run, ends);
+}
+
+/// A part more, with a comma behind it unless it ends the lines.
+fn push_part(lines: &mut Vec<String>, part: String, ends: bool) {
     let comma = if ends { "" } else { "," };
     match lines.last_mut() {
-        Some(line) if line.len() + run.len() < WIDE => *line += &format!(" {run}{comma}"),
-        _ => lines.push(run + comma),
+        Some(line) if line.len() + part.len() < WIDE => *line += &format!(" {part}{comma}"),
+        _ => lines.push(part + comma),
     }
 }

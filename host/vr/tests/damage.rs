@@ -13,7 +13,7 @@ use std::collections::BTreeMap;
 use std::ops::Range;
 
 use common::{on, vr, Folder};
-use dumps::{nodes_of_json, stored_of_json, stored_of_table};
+use dumps::{buckets_of_json, buckets_of_table, nodes_of_json, stored_of_json, stored_of_table};
 use images::{busy, busy_of, in_every_shape, largest, roomy, small};
 use reading::Json;
 use traffic::{Random, SHAPES};
@@ -93,6 +93,7 @@ fn looked_at(memory: &[u8]) -> Option<Rule> {
     assert!(table.starts_with(&format!("{top}\n\n")));
     let dump = Json::read(&json(&view));
     assert_eq!(stored_of_table(&table), stored_of_json(&dump));
+    assert_eq!(buckets_of_table(&table), buckets_of_json(&dump));
     let flaws = view
         .lists
         .walks
@@ -142,6 +143,7 @@ fn any_bytes_behind_good_settings() {
         Table::Last,
         Table::Halted,
         Table::Arrival,
+        Table::Buckets,
         Table::Head,
         Table::Count,
         Table::Next,
@@ -161,6 +163,19 @@ fn any_bytes_behind_good_settings() {
             memory.truncate(random.pick(&some).min(memory.len()));
             looked_at(&memory);
         }
+    }
+}
+
+/// Any four bytes are a bucket: no rule speaks of them.
+#[test]
+fn any_buckets_are_sound() {
+    let mut random = Random::new(15);
+    for settings in in_every_shape(3) {
+        let mut memory = busy_of(settings, 50, 4).into_memory();
+        for at in bytes_of(shape(settings), Table::Buckets) {
+            memory[at] = random.below(256) as u8;
+        }
+        assert_eq!(looked_at(&memory), None);
     }
 }
 

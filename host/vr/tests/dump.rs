@@ -15,10 +15,12 @@ use std::path::Path;
 
 use common::{on, vr, Folder, Said};
 use dumps::{
-    nodes_of_json, nodes_of_table, stored_of_json, stored_of_table, Nodes, Stands, Stored,
+    buckets_of_json, buckets_of_table, nodes_of_json, nodes_of_table, stored_of_json,
+    stored_of_table, Nodes, Stands, Stored,
 };
 use images::{
-    at, busy, busy_of, changed, in_every_shape, largest, roomy, small, switch, wide, SMALL,
+    at, bucket, busy, busy_of, changed, in_every_shape, largest, roomy, small, switch, wide,
+    Change, SMALL,
 };
 use reading::Json;
 use ventorupo::Settings;
@@ -461,6 +463,87 @@ fn halted_ports() {
     let said = json(&folder.file("cut", cut)).out;
     assert!(
         said.contains("\n  \"marks\": [8, 0, null, null],\n"),
+        "{said}"
+    );
+}
+
+/// The waits of the ports that counted some, in words; in the JSON as they stand.
+#[test]
+fn waits() {
+    let folder = Folder::new("dump-waits");
+    let shown = |changes: &[Change]| {
+        let file = folder.file("image", &changed(changes));
+        let (table, json) = (on("dump", &file), json(&file));
+        assert_eq!((table.status, json.status), (Some(0), Some(0)));
+        let dump = Json::read(&json.out);
+        let told = buckets_of_json(&dump);
+        assert_eq!(told.len(), changes.len());
+        assert_eq!(buckets_of_table(&table.out), told);
+        assert_eq!(nodes_of_table(&table.out), nodes_of_json(&dump));
+        (table.out, json.out)
+    };
+    let (table, _) = shown(&[]);
+    assert!(!table.contains("waits"), "{table}");
+    let (table, json) = shown(&[bucket(1, 0, 1), bucket(1, 3, 2), bucket(3, 32, u32::MAX)]);
+    for lines in [
+        "\nport 0\n  empty lists: 50\n",
+        "\nport 1\n  waits: 3 packets; bucket 0 (wait 0) 1, bucket 3 (waits 4 to 7) 2\n  free: ",
+        "\nport 2\n  ingress: ",
+        "\nport 3\n  waits: 4294967295 or more packets; bucket 32 (waits 2147483648 to 4294967295) 4294967295 or more\n  free: ",
+    ] {
+        assert!(table.contains(lines), "{lines}: {table}");
+    }
+    let zeros = ", 0".repeat(29);
+    let row = format!("\n    [1, 0, 0, 2{zeros}],\n");
+    assert!(json.contains(&row), "{json}");
+    assert!(json.contains(", 0, 4294967295]\n  ],\n"), "{json}");
+    // All buckets of a port take some lines.
+    let mut changes: Vec<Change> = (0..33).map(|b| bucket(0, b, b as u32 + 1)).collect();
+    changes.extend((0..33).map(|b| bucket(2, b, u32::MAX)));
+    let (table, _) = shown(&changes);
+    let lines = table.lines().skip_while(|line| *line != "port 0");
+    let lines: Vec<&str> = lines.take_while(|line| !line.is_empty()).collect();
+    assert!(
+        lines[1].starts_with("  waits: 561 packets; bucket 0 (wait 0) 1, bucket 1 (wait 1) 2, ")
+    );
+    assert!(lines[2].starts_with("    bucket "), "{table}");
+    assert!(lines.iter().all(|line| line.len() < 110), "{table}");
+    let sum = "\n  waits: 141733920735 or more packets; bucket 0 (wait 0) 4294967295 or more,\n";
+    assert!(table.contains(sum), "{table}");
+}
+
+/// An image that ends within the buckets: those that are there are shown.
+#[test]
+fn waits_that_are_cut() {
+    let folder = Folder::new("dump-waits-cut");
+    let whole = changed(&[
+        bucket(0, 32, 9),
+        bucket(1, 0, 3),
+        bucket(1, 1, 5),
+        bucket(3, 0, 8),
+    ]);
+    let cut = &whole[..at::BUCKETS + 4 * 34 + 3];
+    let file = folder.file("cut", cut);
+    let (table, json) = (on("dump", &file).out, json(&file).out);
+    for line in [
+        "\n  waits: 9 packets; bucket 32 (waits 2147483648 to 4294967295) 9\n",
+        "\n  waits: 3 packets, and what could not be read in 32 buckets; bucket 0 (wait 0) 3\n",
+    ] {
+        assert!(table.contains(line), "{table}");
+    }
+    assert_eq!(table.matches("waits: ").count(), 2);
+    let dump = Json::read(&json);
+    assert_eq!(buckets_of_table(&table), buckets_of_json(&dump));
+    let nulls = |port: usize| {
+        let counts = dump.of("buckets").elements()[port].elements();
+        counts.iter().filter(|&count| *count == Json::Null).count()
+    };
+    assert_eq!([0, 1, 2, 3].map(nulls), [0, 32, 33, 33]);
+    // Without its ports nothing has a place.
+    let file = folder.file("ports", &changed(&[(0, 2, 77), bucket(0, 0, 1)]));
+    let said = vr(&["dump".as_ref(), "--json".as_ref(), file.as_os_str()]).out;
+    assert!(
+        said.contains("\n  \"marks\": [],\n  \"buckets\": [],\n"),
         "{said}"
     );
 }

@@ -7,7 +7,7 @@ mod images;
 use std::process::Command;
 
 use common::{program, Folder, Said};
-use images::{at, changed};
+use images::{at, bucket, changed};
 
 /// The commands of a session, each with what it must say.
 fn session(number: usize) -> Vec<(String, String)> {
@@ -59,10 +59,13 @@ fn is_as_written(number: usize, commands: usize, folder: &Folder) {
 #[test]
 fn the_session_is_as_written() {
     let folder = Folder::new("readme");
-    folder.file(
-        "image",
-        &changed(&[(at::LAST, 1, 200), (at::HALTED + 3, 1, 7)]),
-    );
+    let changes = [
+        (at::LAST, 1, 200),
+        (at::HALTED + 3, 1, 7),
+        bucket(3, 0, 1),
+        bucket(3, 3, 2),
+    ];
+    folder.file("image", &changed(&changes));
     is_as_written(0, 4, &folder);
 }
 

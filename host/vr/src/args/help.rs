@@ -21,7 +21,7 @@ const EXPLAIN: &str = "    \
 ";
 
 const DUMP: &str = "    \
-    vr dump IMAGE [--json]   shows settings, map, credits, halted ports and every list with its packets
+    vr dump IMAGE [--json]   shows settings, map, credits, halted ports, waits, every list with its packets
 ";
 
 const REPAIR: &str = "    \

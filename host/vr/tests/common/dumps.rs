@@ -90,9 +90,10 @@ pub fn nodes_of_table(dump: &str) -> Nodes {
 }
 
 /// A list's heading: `egress, queue 5: 2 nodes`. Before the lists may stand what
-/// the port's mark says.
+/// the port's mark says, and its waits.
 fn begin(list: &mut Stands, heading: &str) {
-    if heading.starts_with("halted by ") || heading.starts_with("mark ") {
+    let others = ["halted by ", "mark ", "waits: "];
+    if others.iter().any(|other| heading.starts_with(other)) {
         return;
     }
     let (name, _) = heading.split_once(':').unwrap();
@@ -105,8 +106,11 @@ fn begin(list: &mut Stands, heading: &str) {
     list.position = 0;
 }
 
-/// A packet's line, or a line of a free list's entry ids.
+/// A packet's line, or a line of a free list's entry ids, or more waits.
 fn put_row(nodes: &mut Nodes, list: &mut Stands, row: &str) {
+    if row.starts_with("bucket ") {
+        return;
+    }
     if list.kind > 0 {
         if row.trim_start().starts_with("position") {
             return;
@@ -189,4 +193,54 @@ fn heading(line: &str) -> Option<(&str, [Option<u64>; 3])> {
     let (head, tail) = ends.split_once(", tail ")?;
     let count = many.split(' ').next()?;
     Some((name, [count, head, tail].map(|number| number.parse().ok())))
+}
+
+/// By port and bucket, how many packets a bucket counts; empty ones are left out.
+pub type Counts = BTreeMap<(u64, u64), u64>;
+
+/// The buckets of a dump in JSON.
+// Not every test needs it.
+#[allow(dead_code)]
+pub fn buckets_of_json(dump: &Json) -> Counts {
+    let mut counts = Counts::new();
+    for (port, buckets) in (0..).zip(dump.of("buckets").elements()) {
+        assert_eq!(buckets.elements().len(), 33);
+        for (bucket, count) in (0..).zip(buckets.elements()) {
+            match count {
+                Json::Null | Json::Number(0) => {}
+                count => drop(counts.insert((port, bucket), count.number())),
+            }
+        }
+    }
+    counts
+}
+
+/// The same of a dump as a table.
+// Not every test needs it.
+#[allow(dead_code)]
+pub fn buckets_of_table(dump: &str) -> Counts {
+    let mut counts = Counts::new();
+    let mut port = 0;
+    let start = dump.find("\nport 0\n").unwrap_or(dump.len());
+    for line in dump[start..].lines() {
+        if let Some(number) = line.strip_prefix("port ") {
+            port = number.parse().unwrap();
+        } else if line.starts_with("  waits: ") || line.starts_with("    bucket ") {
+            for part in line.split("bucket ").skip(1) {
+                let (bucket, count) = counted(part);
+                assert_eq!(counts.insert((port, bucket), count), None);
+            }
+        }
+    }
+    counts
+}
+
+/// What stands behind `bucket`: `3 (waits 4 to 7) 2, `.
+fn counted(part: &str) -> (u64, u64) {
+    let (bucket, said) = part.split_once(" (wait").unwrap();
+    let (_, count) = said.split_once(") ").unwrap();
+    let count = count.trim_end_matches([',', ' ']);
+    let digits = count.trim_end_matches(" or more");
+    assert_eq!(digits == "4294967295", count != digits, "{part}");
+    (bucket.parse().unwrap(), digits.parse().unwrap())
 }

@@ -117,6 +117,13 @@ pub fn small() -> Vec<u8> {
 /// A number changed: where, how many bytes, and what.
 pub type Change = (usize, usize, u32);
 
+/// A bucket of a port of the small image that counts so many.
+// Not every test needs it.
+#[allow(dead_code)]
+pub fn bucket(port: usize, bucket: usize, count: u32) -> Change {
+    (at::BUCKETS + 4 * (33 * port + bucket), 4, count)
+}
+
 /// The small image with numbers changed.
 // Not every test needs it.
 #[allow(dead_code)]
