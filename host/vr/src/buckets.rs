@@ -4,6 +4,7 @@ use std::fmt;
 
 use crate::image::Image;
 use crate::layout::BUCKETS;
+use crate::table::runs;
 use crate::view::counted;
 
 /// Where a bucket stops: it then stands for as many or more.
@@ -109,6 +110,11 @@ impl Waits {
         self.counts.iter().filter(|count| count.is_none()).count()
     }
 
+    /// Whether it has counted anything, by the buckets that were read.
+    pub fn any(&self) -> bool {
+        self.packets().count > 0
+    }
+
     /// The packets in words, with what could not be read.
     pub fn in_words(&self) -> String {
         let packets = self.packets().in_words();
@@ -120,6 +126,13 @@ impl Waits {
             }
         }
     }
+}
+
+/// Ports by their numbers: `port 3`, `ports 0, 2 to 5`.
+pub fn ports(waits: &[&Waits]) -> String {
+    let numbers: Vec<u32> = waits.iter().map(|waits| waits.port as u32).collect();
+    let name = if numbers.len() == 1 { "port" } else { "ports" };
+    format!("{name} {}", runs(&numbers).join(" "))
 }
 
 #[cfg(test)]

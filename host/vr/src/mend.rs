@@ -1,5 +1,6 @@
 //! What a repair keeps and drops, told.
 
+use crate::buckets::{ports, Packets, Waits};
 use crate::image::{Image, Kind};
 use crate::layout::{Table, IDS};
 use crate::lists::Walk;
@@ -22,7 +23,10 @@ pub fn told(before: &View, after: &Image) -> String {
     lines.push(packets(before));
     lines.push(outward(&before.image));
     lines.extend(marks(&before.image));
-    lines.push("as after setup: free lists, arrival credits, last served queues, marks".into());
+    lines.extend(waits(&before.image));
+    lines.push(
+        "as after setup: free lists, arrival credits, last served queues, marks, buckets".into(),
+    );
     lines.join("\n") + "\n"
 }
 
@@ -89,4 +93,16 @@ fn marks(before: &Image) -> Option<String> {
         many => format!("{many} marks, the first"),
     };
     Some(format!("dropped: {which} of port {port}, {}", marked(mark)))
+}
+
+/// The waits that are forgotten.
+fn waits(before: &Image) -> Option<String> {
+    let all = Waits::of_all(before);
+    let some: Vec<&Waits> = all.iter().filter(|waits| waits.any()).collect();
+    let packets = some.iter().map(|waits| waits.packets());
+    let packets = packets.reduce(Packets::with)?.in_words();
+    Some(format!(
+        "dropped: the waits of {packets} ({})",
+        ports(&some)
+    ))
 }

@@ -249,7 +249,7 @@ fn entries(indent: &str, nodes: &[Entry]) -> String {
 }
 
 /// Ids in their order, those that count up joined, in lines.
-fn runs(ids: &[u32]) -> Vec<String> {
+pub fn runs(ids: &[u32]) -> Vec<String> {
     let mut runs: Vec<(u32, u32)> = Vec::new();
     for &id in ids {
         match runs.last_mut() {

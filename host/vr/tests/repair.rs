@@ -11,7 +11,9 @@ use std::path::Path;
 use std::process::Command;
 
 use common::{command, full, on, vr, Folder, Said};
-use images::{at, busy_of, changed, in_every_shape, largest, small, switch, wide, Change, SMALL};
+use images::{
+    at, bucket, busy_of, changed, in_every_shape, largest, small, switch, wide, Change, SMALL,
+};
 use ventorupo::Settings;
 
 fn repair(image: &Path, new: &Path) -> Said {
@@ -40,6 +42,7 @@ fn what_is_kept_and_dropped() {
         (at::LAST, 1, 200),
         (at::MAPPED + 2, 1, 9),
         (at::HALTED + 1, 1, 8),
+        bucket(1, 7, 11),
     ]);
     bytes.extend([7; 10]);
     let (image, new) = (folder.file("image", &bytes), folder.path("new"));
@@ -53,7 +56,8 @@ fn what_is_kept_and_dropped() {
          dropped: 4 packets (ingress 2, egress 1, prefetch 1)\n\
          dropped: outward credit 65635 (of 2 queues)\n\
          dropped: the mark of port 1, halted by 8 (header's source isn't the arriving port)\n\
-         as after setup: free lists, arrival credits, last served queues, marks\n\
+         dropped: the waits of 11 packets (port 1)\n\
+         as after setup: free lists, arrival credits, last served queues, marks, buckets\n\
          written: {}; {} is as it was\n",
         new.display(),
         image.display()
@@ -104,6 +108,36 @@ fn marks_are_lifted() {
     }
     let (image, new) = (folder.file("image", &small()), folder.path("new"));
     assert!(!repair(&image, &new).out.contains("dropped: the mark"));
+}
+
+/// The waits are told of by their packets and ports; where there are none,
+/// nothing is.
+#[test]
+fn waits_are_forgotten() {
+    let folder = Folder::new("repair-waits");
+    let cases: [(&[Change], &str); 4] = [
+        (
+            &[bucket(2, 0, 1)],
+            "\ndropped: the waits of 1 packet (port 2)\n",
+        ),
+        (
+            &[bucket(0, 32, 4), bucket(2, 1, 5), bucket(2, 2, 6)],
+            "\ndropped: the waits of 15 packets (ports 0, 2)\n",
+        ),
+        (
+            &[bucket(1, 5, u32::MAX), bucket(2, 5, 2), bucket(3, 9, 1)],
+            "\ndropped: the waits of 4294967298 or more packets (ports 1 to 3)\n",
+        ),
+        (&[], ""),
+    ];
+    for (changes, wanted) in cases {
+        let (image, new) = (folder.file("image", &changed(changes)), folder.path("new"));
+        let said = repair(&image, &new);
+        assert!(said.out.contains(wanted), "{}", said.out);
+        assert_eq!(said.out.contains("the waits"), !changes.is_empty());
+        assert_eq!(fs::read(&new).unwrap(), fresh([0, 1, 2, 3]));
+        fs::remove_file(&new).unwrap();
+    }
 }
 
 #[test]

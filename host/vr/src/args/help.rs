@@ -51,9 +51,9 @@ written ./-name.
 ";
 
 const REPAIRS: &str = "\
-A repair drops every packet, all outward credit and every port's mark, also of a sound state; bytes of IMAGE
-past the state go to NEW as they are. It is refused where a setting is not in its row or the image is too
-short, and then NEW is not made.
+A repair drops every packet, all outward credit and every port's mark and waits, also of a sound state;
+bytes of IMAGE past the state go to NEW as they are. It is refused where a setting is not in its row or the
+image is too short, and then NEW is not made.
 ";
 
 const NEW: &str = "\
