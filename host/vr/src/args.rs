@@ -27,6 +27,10 @@ pub enum Command {
         image: PathBuf,
         new: PathBuf,
     },
+    Waits {
+        image: PathBuf,
+        svg: Option<PathBuf>,
+    },
     Make {
         form: Form,
         header: Header,
@@ -47,6 +51,9 @@ pub enum Given {
     /// Standard input.
     Input,
 }
+
+/// The options that have a new file's name behind them.
+const NAMING: [&str; 2] = ["-o", "--svg"];
 
 /// The words behind a command.
 #[derive(Default)]
@@ -82,6 +89,11 @@ pub fn command(words: impl Iterator<Item = OsString>) -> Result<Command, Trouble
             let new = rest.new.ok_or_else(|| bad("repair needs -o NEW".into()))?;
             Ok(Command::Repair { image, new })
         }
+        Some("waits") => {
+            let rest = rest(words, &["--svg"])?;
+            let (image, svg) = (named(rest.image)?, rest.new);
+            Ok(Command::Waits { image, svg })
+        }
         Some("header") => header::command(words),
         _ => Err(bad(format!("{} is no command", quoted(&name)))),
     }
@@ -97,6 +109,7 @@ fn topic(name: &OsStr, words: &[OsString]) -> Option<Topic> {
         ("explain", _) => Some(Topic::Explain),
         ("dump", _) => Some(Topic::Dump),
         ("repair", _) => Some(Topic::Repair),
+        ("waits", _) => Some(Topic::Waits),
         ("header", Some("make")) => Some(Topic::Make),
         ("header", Some("show")) => Some(Topic::Show),
         ("header", _) => Some(Topic::Header),
@@ -121,20 +134,23 @@ fn rest(words: Vec<OsString>, options: &[&str]) -> Result<Rest, Trouble> {
     let mut rest = Rest::default();
     while let Some(word) = words.next() {
         let taken = |option: &&str| options.contains(option);
+        let joined = |option: &&str| taken(option) && name_joined(&word, option).is_some();
         match word.to_str().filter(taken) {
             Some("--json") => rest.json = true,
-            Some(_) => rest.put_new(words.next())?,
-            None if taken(&"-o") && name_joined(&word).is_some() => return Err(unknown(&word)),
-            None => rest.put_image(word)?,
+            Some(option) => rest.put_new(option, words.next())?,
+            None => match NAMING.into_iter().find(joined) {
+                Some(option) => return Err(unknown(&word, option)),
+                None => rest.put_image(word)?,
+            },
         }
     }
     Ok(rest)
 }
 
 impl Rest {
-    fn put_new(&mut self, name: Option<OsString>) -> Result<(), Trouble> {
-        match self.new.replace(name_behind_o(name)?) {
-            Some(_) => Err(twice("-o")),
+    fn put_new(&mut self, option: &str, name: Option<OsString>) -> Result<(), Trouble> {
+        match self.new.replace(name_behind(option, name)?) {
+            Some(_) => Err(twice(option)),
             None => Ok(()),
         }
     }
@@ -151,15 +167,14 @@ impl Rest {
     }
 }
 
-/// The name of a new file, which stands behind -o.
-fn name_behind_o(name: Option<OsString>) -> Result<PathBuf, Trouble> {
+/// The name of a new file, which stands behind an option.
+fn name_behind(option: &str, name: Option<OsString>) -> Result<PathBuf, Trouble> {
+    let needs = format!("{option} needs a name behind it");
     let name = name.filter(|name| !name.is_empty());
-    let name = name.ok_or_else(|| bad("-o needs a name behind it".into()))?;
+    let name = name.ok_or_else(|| bad(needs.clone()))?;
     if is_dashed(&name) {
         let (word, file) = (quoted(&name), file_named(&name));
-        return Err(bad(format!(
-            "-o needs a name behind it, not {word}; {file}"
-        )));
+        return Err(bad(format!("{needs}, not {word}; {file}")));
     }
     Ok(name.into())
 }
@@ -169,15 +184,17 @@ fn twice(option: &str) -> Trouble {
 }
 
 /// The name that is written as in `-o=name`.
-fn name_joined(word: &OsStr) -> Option<String> {
+fn name_joined(word: &OsStr, option: &str) -> Option<String> {
     let word = word.to_string_lossy();
-    word.strip_prefix("-o=").map(String::from)
+    let behind = word.strip_prefix(option)?.strip_prefix('=');
+    behind.map(String::from)
 }
 
-/// A word where a command that has -o takes no name, so that none is meant.
-fn unknown(word: &OsStr) -> Trouble {
-    let name = name_joined(word);
-    let write = name.map_or_else(String::new, |name| format!("; write `-o {name}`"));
+/// A word where a command that has this option takes no name, so that none is
+/// meant.
+fn unknown(word: &OsStr, option: &str) -> Trouble {
+    let name = name_joined(word, option);
+    let write = name.map_or_else(String::new, |name| format!("; write `{option} {name}`"));
     bad(format!("{} is no option here{write}", quoted(word)))
 }
 
@@ -238,6 +255,16 @@ mod tests {
             let (image, new) = (image(), PathBuf::from("n"));
             assert_eq!(told(line), Ok(Command::Repair { image, new }));
         }
+        let svg = Some(PathBuf::from("n"));
+        for (line, svg) in [
+            ("waits i", None),
+            ("waits i --svg n", svg.clone()),
+            ("waits --svg n i", svg),
+            ("waits --svg ./--svg i", Some("./--svg".into())),
+        ] {
+            let image = image();
+            assert_eq!(told(line), Ok(Command::Waits { image, svg }));
+        }
         // Such names as they are to be written.
         for line in ["repair ./-i -o ./--json", "repair -o ./--json ./-i"] {
             let (image, new) = (PathBuf::from("./-i"), PathBuf::from("./--json"));
@@ -256,6 +283,8 @@ mod tests {
             ("dump i --json --help", Topic::Dump),
             ("repair --help", Topic::Repair),
             ("repair i -o --help", Topic::Repair),
+            ("waits --help", Topic::Waits),
+            ("waits i --svg -h", Topic::Waits),
             ("header --help", Topic::Header),
             ("header mak --help", Topic::Header),
             ("header make -h", Topic::Make),
@@ -323,6 +352,36 @@ mod tests {
                 "`-o=n` is no option here; for a file of that name write `./-o=n`",
             ),
             ("repair i n", "`n` is one name too many"),
+            ("waits", "no image is named"),
+            ("waits --svg n", "no image is named"),
+            ("waits i j", "`j` is one name too many"),
+            ("waits i --svg n j", "`j` is one name too many"),
+            ("waits i --svg", "--svg needs a name behind it"),
+            (
+                "waits --svg -n i",
+                "--svg needs a name behind it, not `-n`; for a file of that name write `./-n`",
+            ),
+            ("waits i --svg n --svg n", "--svg is there twice"),
+            (
+                "waits i --svg=n",
+                "`--svg=n` is no option here; write `--svg n`",
+            ),
+            (
+                "waits i -o n",
+                "`-o` is no option here; for a file of that name write `./-o`",
+            ),
+            (
+                "waits i --json",
+                "`--json` is no option here; for a file of that name write `./--json`",
+            ),
+            (
+                "repair i -o n --svg m",
+                "`--svg` is no option here; for a file of that name write `./--svg`",
+            ),
+            (
+                "dump i --json=n",
+                "`--json=n` is no option here; for a file of that name write `./--json=n`",
+            ),
         ] {
             let wanted = format!("{what} (`vr help` tells the commands)");
             assert_eq!(told(line), Err(wanted));

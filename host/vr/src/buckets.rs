@@ -98,6 +98,18 @@ impl Waits {
         some.filter(|&(_, count)| count > 0).collect()
     }
 
+    /// The buckets from the first to the last that counts something, and what
+    /// they count.
+    pub fn rows(&self) -> Vec<(usize, u32)> {
+        let filled = self.filled();
+        let (first, last) = match (filled.first(), filled.last()) {
+            (Some(first), Some(last)) => (first.0, last.0),
+            _ => return Vec::new(),
+        };
+        let row = |bucket: usize| Some((bucket, self.counts[bucket]?));
+        (first..=last).filter_map(row).collect()
+    }
+
     /// How many packets its timed turns sent, by the buckets that were read.
     pub fn packets(&self) -> Packets {
         let counts = self.counts.iter().copied().flatten();

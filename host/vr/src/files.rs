@@ -118,6 +118,17 @@ impl Start {
         whole(path, written)
     }
 
+    /// Write other bytes to a new file, which those may read and write who may the
+    /// image, and nobody may run.
+    pub fn write_beside(&self, path: &Path, bytes: &[u8]) -> Result<(), Trouble> {
+        let mode = self.mode & 0o666;
+        let mut new = create(path, mode)?;
+        // As above.
+        let _ = new.set_permissions(Permissions::from_mode(mode));
+        let written = new.write_all(bytes).and_then(|()| new.sync_all());
+        whole(path, written)
+    }
+
     fn fill(&mut self, new: &mut File) -> io::Result<()> {
         new.write_all(&self.bytes)?;
         io::copy(&mut self.rest, new)?;

@@ -1,6 +1,6 @@
 //! `vr`, the night crew's tool over images of a switch's state, and over headers.
 //! What an image or a header is worth is said by the proved library; what an
-//! image holds, in words, tables and JSON, and why a header is none, by readers
+//! image holds, in words, tables, bars and JSON, and why a header is none, by readers
 //! of this crate's own, written from docs/LAYOUT.md and include/ventorupo.h.
 
 #![forbid(unsafe_code)]
@@ -16,9 +16,11 @@ pub mod json;
 pub mod layout;
 pub mod lists;
 mod mend;
+pub mod svg;
 pub mod table;
 mod trouble;
 pub mod view;
+pub mod waits;
 pub mod words;
 
 use std::ffi::OsString;
@@ -29,6 +31,7 @@ use files::Start;
 use image::Image;
 pub use trouble::Trouble;
 use view::View;
+use waits::Drawing;
 
 /// What is said of a repair that the library refuses.
 const REFUSED: &str = "repair refused (3): it needs settings in their rows and an image long enough for them; nothing was written";
@@ -65,6 +68,7 @@ pub fn answer(words: impl Iterator<Item = OsString>) -> Result<Answer, Trouble> 
         Command::Explain { image } => Ok(explain(&view(&files::read(&image)?))),
         Command::Dump { image, json } => Ok(dump(&view(&files::read(&image)?), json)),
         Command::Repair { image, new } => repair(&image, &new),
+        Command::Waits { image, svg } => waits(&image, svg.as_deref()),
         Command::Make { form, header, new } => header::make(form, &header, new.as_deref()),
         Command::Show { form, given, json } => header::show(form, given, json),
     }
@@ -109,13 +113,32 @@ fn repair(path: &Path, new: &Path) -> Result<Answer, Trouble> {
     }
     let mut text = mend::told(&was, &Image::new(&start.bytes));
     start.write(new)?;
-    text += &format!(
-        "written: {}; {} is as it was\n",
-        new.display(),
-        path.display()
-    );
+    text += &written(new, path);
     Ok(Answer {
         written: Some(new.into()),
         ..Answer::new(text, 0)
     })
+}
+
+/// The line that says what was written, and what was not.
+fn written(new: &Path, image: &Path) -> String {
+    format!(
+        "written: {}; {} is as it was\n",
+        new.display(),
+        image.display()
+    )
+}
+
+/// The waits drawn, and in a new file if one is named.
+fn waits(path: &Path, new: Option<&Path>) -> Result<Answer, Trouble> {
+    let start = files::read(path)?;
+    let view = view(&start);
+    let drawing = Drawing::of(&view);
+    let mut answer = Answer::new(drawing.text(), view.status());
+    if let Some(new) = new {
+        start.write_beside(new, svg::picture(&drawing).as_bytes())?;
+        answer.text += &format!("\n{}", written(new, path));
+        answer.written = Some(new.into());
+    }
+    Ok(answer)
 }

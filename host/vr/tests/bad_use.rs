@@ -54,6 +54,27 @@ fn wrong_command_lines() {
             "repair one -o=new",
             "`-o=new` is no option here; write `-o new`",
         ),
+        ("waits", "no image is named"),
+        ("waits --svg new", "no image is named"),
+        ("waits one two", "`two` is one name too many"),
+        ("waits one --svg", "--svg needs a name behind it"),
+        ("waits one --svg a --svg b", "--svg is there twice"),
+        (
+            "waits one --svg=new",
+            "`--svg=new` is no option here; write `--svg new`",
+        ),
+        (
+            "waits one --json",
+            "`--json` is no option here; for a file of that name write `./--json`",
+        ),
+        (
+            "waits one -o new",
+            "`-o` is no option here; for a file of that name write `./-o`",
+        ),
+        (
+            "waits one --svg --json",
+            "--svg needs a name behind it, not `--json`; for a file of that name write `./--json`",
+        ),
     ] {
         let words: Vec<&str> = line.split_whitespace().collect();
         let said = vr(&words);
@@ -62,6 +83,11 @@ fn wrong_command_lines() {
     }
     let said = vr(&["repair", "one", "-o", ""]);
     assert_eq!(said.err, format!("vr: -o needs a name behind it{HINT}\n"));
+    let said = vr(&["waits", "one", "--svg", ""]);
+    assert_eq!(
+        said.err,
+        format!("vr: --svg needs a name behind it{HINT}\n")
+    );
 }
 
 /// An option behind -o is not taken for a name: no file is made of it.
@@ -91,11 +117,13 @@ fn names_that_look_like_options() {
 /// Each command on a file that cannot be read.
 fn unreadable(folder: &Folder, file: &Path, why: &str) {
     let new = folder.path("new");
-    let words: [&[&OsStr]; 4] = [
+    let words: [&[&OsStr]; 6] = [
         &[OsStr::new("explain")],
         &[OsStr::new("dump")],
         &[OsStr::new("dump"), OsStr::new("--json")],
         &[OsStr::new("repair"), OsStr::new("-o"), new.as_os_str()],
+        &[OsStr::new("waits")],
+        &[OsStr::new("waits"), OsStr::new("--svg"), new.as_os_str()],
     ];
     for words in words {
         let said = vr(&[words, &[file.as_os_str()]].concat());

@@ -576,6 +576,8 @@ fn help_is_no_trouble() {
         ("dump --help", Topic::Dump),
         ("dump image --json -h", Topic::Dump),
         ("repair --help", Topic::Repair),
+        ("waits --help", Topic::Waits),
+        ("waits image --svg -h", Topic::Waits),
         ("header --help", Topic::Header),
         ("header make --help", Topic::Make),
         ("header show -h", Topic::Show),

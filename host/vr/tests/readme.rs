@@ -70,6 +70,15 @@ fn the_session_is_as_written() {
 }
 
 #[test]
+fn the_session_of_waits_is_as_written() {
+    let folder = Folder::new("readme-waits");
+    let counts = [(0, 1), (1, 3), (2, 40), (5, 7)];
+    let changes = counts.map(|(number, count)| bucket(1, number, count));
+    folder.file("image", &changed(&changes));
+    is_as_written(1, 2, &folder);
+}
+
+#[test]
 fn the_session_of_headers_is_as_written() {
-    is_as_written(1, 7, &Folder::new("readme-headers"));
+    is_as_written(2, 7, &Folder::new("readme-headers"));
 }

@@ -6,7 +6,7 @@ use std::path::PathBuf;
 
 use ventorupo::{Form, Header, TEN_BYTES, WIDE};
 
-use super::{bad, file_named, is_dashed, name_behind_o, no_option, quoted, twice, unknown};
+use super::{bad, file_named, is_dashed, name_behind, no_option, quoted, twice, unknown};
 use super::{Command, Given};
 use crate::hex::{self, NoBytes};
 use crate::trouble::Trouble;
@@ -49,7 +49,7 @@ fn make(words: impl Iterator<Item = OsString>) -> Result<Command, Trouble> {
     let numbers = [&COUNTS[..], &NEEDED, &OTHERS].concat();
     let words = Words::read(words, &numbers, &["--edition", "-o"])?;
     if let Some(word) = words.plain.first() {
-        return Err(unknown(word));
+        return Err(unknown(word, "-o"));
     }
     let needed = |option| {
         let number = words.numbers.get(option).copied();
@@ -139,7 +139,7 @@ impl Words {
     }
 
     fn put_new(&mut self, word: Option<OsString>) -> Result<(), Trouble> {
-        match self.new.replace(name_behind_o(word)?) {
+        match self.new.replace(name_behind("-o", word)?) {
             Some(_) => Err(twice("-o")),
             None => Ok(()),
         }

@@ -7,13 +7,14 @@ pub enum Topic {
     Explain,
     Dump,
     Repair,
+    Waits,
     Header,
     Make,
     Show,
 }
 
 const TOP: &str = "\
-vr: images of a switch's state, explained, shown and repaired; headers made and shown
+vr: images of a switch's state, explained, shown, drawn and repaired; headers made and shown
 ";
 
 const EXPLAIN: &str = "    \
@@ -26,6 +27,12 @@ const DUMP: &str = "    \
 
 const REPAIR: &str = "    \
     vr repair IMAGE -o NEW   writes NEW: IMAGE with the starting state of its settings, the map kept
+";
+
+const WAITS: &str = "    \
+    vr waits IMAGE [--svg NEW]
+                             draws how long each port's packets waited, in bars; with --svg, writes the
+                             drawing to NEW too, as an SVG picture
 ";
 
 const MAKE: &str = "    \
@@ -54,6 +61,13 @@ const REPAIRS: &str = "\
 A repair drops every packet, all outward credit and every port's mark and waits, also of a sound state;
 bytes of IMAGE past the state go to NEW as they are. It is refused where a setting is not in its row or the
 image is too short, and then NEW is not made.
+";
+
+const DRAWN: &str = "\
+A bar is of a bucket, in which a port's timed turns count the packets that they send by their wait: the time
+of the turn less the packet's timestamp, on 32 bits, so in ticks of the headers' clock; how long a tick is,
+IMAGE does not say. A bucket that counts anything has a bar, however small its share; one that has stopped
+at 4294967295 stands for as many or more.
 ";
 
 const NEW: &str = "\
@@ -97,12 +111,13 @@ impl Topic {
     fn parts(self) -> (&'static [&'static str], &'static [&'static str]) {
         match self {
             Topic::All => (
-                &[EXPLAIN, DUMP, REPAIR, MAKE, SHOW, OTHERS],
-                &[IMAGES, REPAIRS, NEW, HEADERS, FORMS, NUMBERS],
+                &[EXPLAIN, DUMP, REPAIR, WAITS, MAKE, SHOW, OTHERS],
+                &[IMAGES, REPAIRS, DRAWN, NEW, HEADERS, FORMS, NUMBERS],
             ),
             Topic::Explain => (&[EXPLAIN], &[IMAGES]),
             Topic::Dump => (&[DUMP], &[IMAGES]),
             Topic::Repair => (&[REPAIR], &[IMAGES, REPAIRS, NEW]),
+            Topic::Waits => (&[WAITS], &[IMAGES, DRAWN, NEW]),
             Topic::Header => (&[MAKE, SHOW], &[HEADERS, FORMS, NUMBERS, NEW]),
             Topic::Make => (&[MAKE], &[FORMS, NUMBERS, NEW]),
             Topic::Show => (&[SHOW], &[HEADERS, FORMS, NUMBERS]),
@@ -120,6 +135,7 @@ mod tests {
             (Topic::Explain, "vr explain"),
             (Topic::Dump, "vr dump"),
             (Topic::Repair, "vr repair"),
+            (Topic::Waits, "vr waits"),
             (Topic::Make, "vr header make"),
             (Topic::Show, "vr header show"),
         ];
@@ -141,6 +157,7 @@ mod tests {
         let topics = [
             (Topic::Explain, &["IMAGE"][..]),
             (Topic::Repair, &["IMAGE", "NEW"]),
+            (Topic::Waits, &["IMAGE", "NEW"]),
             (Topic::Header, &["HEADER", "FORM", "NEW"]),
             (Topic::Make, &["FORM", "NEW"]),
             (Topic::Show, &["HEADER", "FORM"]),

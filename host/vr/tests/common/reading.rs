@@ -48,6 +48,8 @@ impl Json {
         }
     }
 
+    // Not every test needs it.
+    #[allow(dead_code)]
     pub fn text(&self) -> &str {
         match self {
             Json::Text(text) => text,
