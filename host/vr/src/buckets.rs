@@ -30,7 +30,9 @@ pub fn named_range(bucket: usize) -> String {
 /// So many packets, or more where a bucket has stopped.
 #[derive(Debug, Clone, Copy, Default, PartialEq, Eq)]
 pub struct Packets {
+    /// How many at least.
     pub count: u64,
+    /// Whether there may be more.
     pub more: bool,
 }
 
@@ -70,6 +72,7 @@ impl fmt::Display for Packets {
 /// The buckets of a port.
 #[derive(Debug, Clone, PartialEq, Eq)]
 pub struct Waits {
+    /// The port's number.
     pub port: usize,
     /// What each counts; none where the image ends before it does.
     pub counts: [Option<u32>; BUCKETS],

@@ -1,4 +1,4 @@
-//! Damaged images: whatever the bytes, explain and dump end without a panic,
+//! Damaged images: whatever the bytes, explain, dump and waits end without a panic,
 //! and vr's own reader sees what the library found.
 
 mod common;
@@ -8,6 +8,8 @@ mod dumps;
 mod images;
 #[path = "common/reading.rs"]
 mod reading;
+#[path = "common/xml.rs"]
+mod xml;
 
 use std::collections::BTreeMap;
 use std::ops::Range;
@@ -20,9 +22,12 @@ use traffic::{Random, SHAPES};
 use ventorupo::{Finding, Rule, Settings};
 use vr::json::json;
 use vr::layout::{Shape, Table, TABLES};
+use vr::svg::picture;
 use vr::table::table;
 use vr::view::View;
+use vr::waits::Drawing;
 use vr::words::UNSEEN;
+use xml::Element;
 
 /// The tables of a state.
 fn shape(settings: Settings) -> Shape {
@@ -82,7 +87,7 @@ fn change_over(memory: &mut [u8], settings: Settings, random: &mut Random) {
     }
 }
 
-/// Explain and dump, in this process; answers the rule found.
+/// Explain, dump and waits, in this process; answers the rule found.
 fn looked_at(memory: &[u8]) -> Option<Rule> {
     let view = View::new(memory, memory.len() as u64, ventorupo::find(memory));
     let said = vr::explain(&view);
@@ -91,6 +96,9 @@ fn looked_at(memory: &[u8]) -> Option<Rule> {
     let top = said.text.lines().next().unwrap();
     let table = table(&view);
     assert!(table.starts_with(&format!("{top}\n\n")));
+    let drawing = Drawing::of(&view);
+    assert!(drawing.text().starts_with(&format!("{top}\n")));
+    assert_eq!(Element::read(&picture(&drawing)).name, "svg");
     let dump = Json::read(&json(&view));
     assert_eq!(stored_of_table(&table), stored_of_json(&dump));
     assert_eq!(buckets_of_table(&table), buckets_of_json(&dump));
@@ -224,6 +232,7 @@ fn damaged_files() {
         for said in [
             on("explain", &file),
             on("dump", &file),
+            on("waits", &file),
             vr(&["dump".as_ref(), file.as_os_str(), "--json".as_ref()]),
         ] {
             assert_eq!((said.status, said.err.as_str()), (Some(status), ""));

@@ -20,16 +20,22 @@ impl Element {
         element
     }
 
+    // Not every test needs it.
+    #[allow(dead_code)]
     pub fn of(&self, name: &str) -> &str {
         &self.attributes[name]
     }
 
     /// The elements of a name in it, in their order.
+    // Not every test needs it.
+    #[allow(dead_code)]
     pub fn named<'e>(&'e self, name: &'e str) -> impl Iterator<Item = &'e Element> + 'e {
         self.elements.iter().filter(move |inner| inner.name == name)
     }
 
     /// It and all that are in it.
+    // Not every test needs it.
+    #[allow(dead_code)]
     pub fn all(&self) -> Vec<&Element> {
         let inner = self.elements.iter().flat_map(Element::all);
         std::iter::once(self).chain(inner).collect()
