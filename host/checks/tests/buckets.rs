@@ -270,6 +270,35 @@ fn nothing_but_the_reading_call_reads_a_bucket() {
     assert!(readings > 50, "{readings}");
 }
 
+/// A state without the table of buckets, as the build before had it, and also one
+/// without the marks, in a memory that is long enough: no state. That it is never
+/// one is not proved (docs/DECISIONS.md, 89 and 95).
+#[test]
+fn images_of_the_builds_before_are_no_states() {
+    let mut random = Random::new(8);
+    for shape in SHAPES {
+        for seed in 0..60 {
+            let profile = random.pick(&Profile::ALL);
+            let (memory, model) = after(seed, profile, shape, 30 + 9 * seed as usize);
+            if model.ledger().is_none() {
+                continue;
+            }
+            let tables = Tables::of(&reader::settings(&memory));
+            let (from, to) = (tables.buckets.start, tables.head.start);
+            let (mark, credits) = (tables.halted.start, tables.arrival.start);
+            let before = [&memory[..from], &memory[to..tables.size]].concat();
+            let before_marks = [&before[..mark], &before[credits..]].concat();
+            for image in [before, before_marks] {
+                for fill in [0, 1, 0xFF] {
+                    let mut longer = image.clone();
+                    longer.resize(tables.size + random.below(40) as usize, fill);
+                    assert!(PROVED.finds(&longer).unwrap().is_some(), "{shape:?}");
+                }
+            }
+        }
+    }
+}
+
 /// Any bytes in the buckets of a state.
 fn spoil(random: &mut Random, memory: &mut [u8]) {
     let tables = Tables::of(&reader::settings(memory));

@@ -63,7 +63,11 @@ impl<'m> View<'m> {
         }
         let (needed, shape) = (self.image.needed()?, self.image.shape);
         let older = [
-            (size_before_buckets(shape), "buckets of waits", ""),
+            (
+                size_before_buckets(shape),
+                "buckets of waits",
+                " (docs/DECISIONS.md, 95)",
+            ),
             (
                 size_before_marks(shape),
                 "marks of halted ports",

@@ -446,7 +446,8 @@ fn hint_of_marks(shape: &str) -> String {
 fn hint_of_buckets(shape: &str) -> String {
     format!(
         "\nhint: it is as long as an image of {shape} by the build before the buckets of waits, \
-         which is to be set up afresh, or repaired once it is 132 bytes a port longer\n"
+         which is to be set up afresh, or repaired once it is 132 bytes a port longer \
+         (docs/DECISIONS.md, 95)\n"
     )
 }
 
