@@ -26,6 +26,8 @@ static void turn(void) { uint8_t sent[16]; vr_turn(memory, memory_len, 0, sent);
 static void round_(void) { vr_round(memory, memory_len, lent, lent_len); }
 static void clear(void) { vr_clear(memory, memory_len, 0); }
 static void report(void) { uint32_t mark; vr_report(memory, memory_len, 0, &mark); }
+static void timed_turn(void) { uint8_t sent[16]; vr_timed_turn(memory, memory_len, 0, 7, sent); }
+static void bucket(void) { uint32_t count; vr_bucket(memory, memory_len, 0, 3, &count); }
 static void audit(void) { vr_audit(memory, memory_len, lent, lent_len); }
 static void find(void) { uint32_t rule; uint64_t item; vr_find(memory, memory_len, &rule, &item); }
 static void repair(void) { vr_repair(memory, memory_len); }
@@ -72,7 +74,8 @@ int main(void) {
         setup();
         printf("  setup %zu, arrive %zu, turn %zu, round %zu, audit %zu", taken(setup) - bare, taken(arrive) - bare, taken(turn) - bare,
                taken(round_) - bare, taken(audit) - bare);
-        printf(", clear %zu, report %zu, find %zu", taken(clear) - bare, taken(report) - bare, taken(find) - bare);
+        printf(", clear %zu, report %zu, timed turn %zu, bucket %zu, find %zu", taken(clear) - bare, taken(report) - bare,
+               taken(timed_turn) - bare, taken(bucket) - bare, taken(find) - bare);
         memory[memory_len / 2] ^= 0x55;
         memory[memory_len - 9] ^= 0x55;
         printf(", find on a broken one %zu, repair %zu\n", taken(find) - bare, taken(repair) - bare);

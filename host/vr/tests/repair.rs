@@ -3,6 +3,8 @@
 mod common;
 #[path = "common/images.rs"]
 mod images;
+#[path = "common/taken.rs"]
+mod taken;
 
 use std::ffi::OsStr;
 use std::fs::{self, Permissions};
@@ -14,6 +16,7 @@ use common::{command, full, on, vr, Folder, Said};
 use images::{
     at, bucket, busy_of, changed, in_every_shape, largest, small, switch, wide, Change, SMALL,
 };
+use taken::overwrites_nothing;
 use ventorupo::Settings;
 
 fn repair(image: &Path, new: &Path) -> Said {
@@ -212,44 +215,9 @@ fn rule_a_is_refused() {
     }
 }
 
-/// A name that is taken is never written: the image's own, another file's, a
-/// link to nothing, a folder's.
 #[test]
 fn nothing_is_overwritten() {
-    let folder = Folder::new("repair-taken");
-    let image = folder.file("image", &small());
-    let other = folder.file("other", b"mine");
-    let link = folder.path("link");
-    std::os::unix::fs::symlink(folder.path("nowhere"), &link).unwrap();
-    let same = folder.path("same");
-    fs::hard_link(&image, &same).unwrap();
-    let inside = folder.path("inside");
-    fs::create_dir(&inside).unwrap();
-    for new in [&image, &other, &link, &same, &inside] {
-        let said = repair(&image, new);
-        let wanted = format!(
-            "vr: {}: is there already, and vr overwrites nothing\n",
-            new.display()
-        );
-        assert_eq!(said.err, wanted);
-        assert_eq!((said.status, said.out.as_str()), (Some(2), ""));
-    }
-    assert_eq!(fs::read(&image).unwrap(), small());
-    assert_eq!(fs::read(&other).unwrap(), b"mine");
-    assert!(!folder.path("nowhere").exists());
-}
-
-#[test]
-fn a_place_that_is_not_there() {
-    let folder = Folder::new("repair-place");
-    let image = folder.file("image", &small());
-    let new = folder.path("no/such/folder");
-    let said = repair(&image, &new);
-    let wanted = format!(
-        "vr: {}: No such file or directory (os error 2)\n",
-        new.display()
-    );
-    assert_eq!((said.status, said.err), (Some(2), wanted));
+    overwrites_nothing("repair-taken", &small(), repair);
 }
 
 /// Who may read the image may read the copy, and nobody else.

@@ -5,6 +5,8 @@ mod common;
 mod images;
 #[path = "common/reading.rs"]
 mod reading;
+#[path = "common/taken.rs"]
+mod taken;
 #[path = "common/xml.rs"]
 mod xml;
 
@@ -18,6 +20,7 @@ use std::process::Command;
 use common::{command, full, on, vr, Folder, Said};
 use images::{arrive, at, bucket, busy_of, changed, in_every_shape, small, switch, wide, Change};
 use reading::Json;
+use taken::overwrites_nothing;
 use traffic::Random;
 use ventorupo::{Header, Settings, Switch, Turn};
 use xml::Element;
@@ -607,37 +610,9 @@ fn pictures_of_other_images() {
     }
 }
 
-/// A name that is taken is never written: the image's own, another file's, a
-/// link to nothing, a folder's.
 #[test]
 fn nothing_is_overwritten() {
-    let folder = Folder::new("waits-taken");
-    let image = folder.file("image", &small());
-    let other = folder.file("other", b"mine");
-    let link = folder.path("link");
-    std::os::unix::fs::symlink(folder.path("nowhere"), &link).unwrap();
-    let same = folder.path("same");
-    fs::hard_link(&image, &same).unwrap();
-    let inside = folder.path("inside");
-    fs::create_dir(&inside).unwrap();
-    for new in [&image, &other, &link, &same, &inside] {
-        let said = drawn(&image, new);
-        let wanted = format!(
-            "vr: {}: is there already, and vr overwrites nothing\n",
-            new.display()
-        );
-        assert_eq!(said.err, wanted);
-        assert_eq!((said.status, said.out.as_str()), (Some(2), ""));
-    }
-    assert_eq!(fs::read(&image).unwrap(), small());
-    assert_eq!(fs::read(&other).unwrap(), b"mine");
-    assert!(!folder.path("nowhere").exists());
-    let new = folder.path("no/such/folder");
-    let wanted = format!(
-        "vr: {}: No such file or directory (os error 2)\n",
-        new.display()
-    );
-    assert_eq!(drawn(&image, &new).err, wanted);
+    overwrites_nothing("waits-taken", &small(), drawn);
 }
 
 /// Who may read the image may read the picture, and nobody else; nobody may run
