@@ -38,7 +38,8 @@ pub record Shaped (S : Settings) (L : Ledger) : Type 0 where
   pub lists-long : length (L .lists) ≡ S .ports * row S
   pub numbers-long : (c : Column) → length (L .numbers c) ≡ tall S c
 
--- (b) last served queues, map entries and credits are in range and no prefetch list exceeds D (of a mark, that it is a byte)
+-- (b) last served queues, map entries and credits are in range and no prefetch list exceeds D (of a mark, that it is a byte; of a bucket,
+-- that it is four)
 pub record InRange (S : Settings) (L : Ledger) : Type 0 where
   pub numbers-in : (c : Column) (i : ℕ) → i < tall S c → getD (L .numbers c) i 0 < bound S c
   pub slots-in : (p q : ℕ) → p < S .ports → q < S .queues → length (listAt S L (prefetched p q)) ≤ S .slots

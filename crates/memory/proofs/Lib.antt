@@ -17,5 +17,6 @@ pub mod Judged
 pub mod Rounds
 pub mod Door
 pub mod Audit
+pub mod Unread
 pub mod Deeds
 pub mod Afresh

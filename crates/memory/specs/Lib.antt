@@ -4,9 +4,9 @@ pub mod Image
 pub mod Memory
 pub mod Marks
 pub mod Demands
-pub mod Tally
 pub mod Audit
 pub mod Repair
 pub mod Rounds
+pub mod Tally
 pub mod Deeds
 pub mod Judged

@@ -16,6 +16,8 @@ use Rattle.layout.specs.Picture.{settingsIn}
 use Rattle.memory.specs.Writes.{tickMem}
 use Rattle.memory.specs.Memory.{picture, M}
 use Rattle.memory.specs.Demands.{onMemory}
+use Rattle.memory.specs.Rounds.{roundOn}
+use Rattle.memory.specs.Audit.{auditOn}
 
 -- what a turn of port p answers and leaves, with the wait of the packet that it sent counted
 abbrev pub asTimed : Settings → ℕ → ℕ → Reply × List ℕ → Reply × List ℕ
@@ -35,3 +37,12 @@ BucketsFree =
 unfoldable pub WaitsUnreadInMemory : Type 0
 WaitsUnreadInMemory =
     (m n : List ℕ) → length m ≡ length n → AgreeBut (picture m) (picture n) → (cs : List Call) → WaitsUnread onMemory picture m n cs
+
+-- nor do rounds and audits: a round answers alike, its room included, and leaves memories that differ so; an audit's answer and room are one
+unfoldable pub RoundsUnread : Type 0
+RoundsUnread =
+    (m n : List ℕ) → length m ≡ length n → AgreeBut (picture m) (picture n) → (room : List ℕ)
+    → (roundOn m room .0 ≡ roundOn n room .0) × (roundOn m room .2 ≡ roundOn n room .2) × AgreeBut (picture (roundOn m room .1)) (picture (roundOn n room .1))
+
+unfoldable pub AuditsUnread : Type 0
+AuditsUnread = (m n : List ℕ) → length m ≡ length n → AgreeBut (picture m) (picture n) → (room : List ℕ) → auditOn m room ≡ auditOn n room
