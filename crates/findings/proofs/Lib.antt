@@ -1,3 +1,4 @@
 pub mod Items
 pub mod Shows
 pub mod Findings
+pub mod Unread

@@ -8,12 +8,13 @@ use lib.ListN.{length, getD, take}
 use Rattle.ledger.specs.declared.Broken.{Broken}
 use Rattle.ledger.specs.declared.Broken.the-variants.{Nothing, A, B, C, D, E, F, G, I}
 use Rattle.ledger.specs.Settings.{Settings, settingCount, inRow, ids, size}
-use Rattle.ledger.specs.Ledger.{isNode, Packet, Place, prefetched, placeOf, Ledger, listAt, arrivalOf, lastOf, mapOf, markOf}
+use Rattle.ledger.specs.Ledger.{isNode, Packet, Place, prefetched, placeOf, buckets, tall, Ledger, listAt, arrivalOf, lastOf, mapOf, markOf}
 use Rattle.ledger.specs.Halt.{isMark}
 use Rattle.ledger.specs.Ready.{bit}
 use Rattle.ledger.specs.Sound.{All, Everywhere, weigh, InRange, one, Once, OwnPort, OwnQueue, WellRecorded, owed, Marked}
 use Rattle.ledger.specs.Audit.{nodeAt}
-use Rattle.layout.specs.Tables.{cells, lists, all}
+use Rattle.layout.specs.declared.Table.the-variants.{Buckets}
+use Rattle.layout.specs.Tables.{cells, lists, all, put}
 use Rattle.layout.specs.Picture.{settingsIn, opens, ledgerIn, Hangs, State}
 
 -- ---- the rules, by their letters
@@ -133,3 +134,9 @@ Means (E i) m = Finds rule-e i m
 Means (F i) m = Finds rule-f i m
 Means (G i) m = Finds rule-g i m
 Means (I i) m = Finds rule-i i m
+
+-- ---- no bucket is read (paper 02, Q-13)
+
+-- whatever number is put in a bucket, the same is found, of every memory
+unfoldable pub FindingsUnread : (List ℕ → Broken) → Type 0
+FindingsUnread find = (m : List ℕ) (i v : ℕ) → i < tall (settingsIn m) buckets → find (put (settingsIn m) Buckets i v m) ≡ find m

@@ -154,6 +154,13 @@ pub get-put-else : (S : Settings) (m : List ℕ) (t : Table) (i v : ℕ) (r : Ta
 unfolding get put
 get-put-else S m t i v r j hi hj ne = number-apart (width r) (width t) m (place S t i) v (place S r j) (apart S t i r j hi hj ne)
 
+-- what is put in a table isn't read in one behind it, at whatever index
+pub get-put-behind : (S : Settings) (m : List ℕ) (t : Table) (i v : ℕ) (r : Table) (j : ℕ)
+    → i < many S t → turnOf t < turnOf r → get S (put S t i v m) r j ≡ get S m r j
+unfolding get put
+get-put-behind S m t i v r j hi h =
+    number-apart (width r) (width t) m (place S t i) v (place S r j) (inr (omega (arith, element-within S t i hi, tables-apart S t r h)))
+
 -- what is read goes by the bytes below the size
 pub get-same : (S : Settings) (m n : List ℕ) (t : Table) (i : ℕ) → i < many S t → ((j : ℕ) → j < size S → getD m j 0 ≡ getD n j 0) → get S m t i ≡ get S n t i
 unfolding get

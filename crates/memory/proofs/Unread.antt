@@ -1,18 +1,20 @@
 -- Neither rounds nor audits read a bucket (paper 02, Q-13): a round is calls none of which is a reading, and an audit tells what where answers.
+-- Nor do repairs, which write over them all.
 -- Assumes nothing.
 use mathlib.Core.Path.{_≡_, refl, sym, ap, ap₂, _∙_, subst}
-use mathlib.Core.Bool.{false}
+use mathlib.Core.Bool.{Bool, true, false, cond}
 use mathlib.Core.List.{List, [], _∷_, _++_, map}
-use Prim.Native.Nat.{ℕ, _*_}
+use Prim.Native.Nat.{ℕ, _*_, _<_}
 use native.Mathlib.Omega.{arith}
 use lib.ListN.{length, drop}
-use Rattle.ledger.specs.Settings.{Settings}
+use Rattle.ledger.specs.Settings.{Settings, ids}
 use Rattle.ledger.specs.Rules.{guard}
 use Rattle.ledger.specs.Ledger.{Ledger}
 use Rattle.ledger.specs.Buckets.{untimed}
 use Rattle.ledger.specs.Calls.{Act, stitch, prefetch, turn, whereIs, Reply, refused, done}
 use Rattle.ledger.specs.Desk.{Desk, none, has, Call, act, afterCalls, answersOf}
 use Rattle.ledger.specs.Sound.{All}
+use Rattle.ledger.specs.Repair.{mended}
 use Rattle.ledger.specs.Audit.{nodeAt, placeRoom, auditRules}
 use Rattle.ledger.specs.Rounds.{each, stitches, prefetches, turns, roundActs, roundRules, roundReply, answersIn, round, Carried, nothing, wholeRound, doneBy}
 use Rattle.ledger.specs.Rounds.{turnAnswers}
@@ -20,17 +22,22 @@ use Rattle.ledger.specs.Tally.{AgreeBut, both-none, both-have, isReading, isRea
 use Rattle.ledger.proofs.Lists.{All-append}
 use Rattle.ledger.proofs.Chances.{all-each}
 use Rattle.ledger.proofs.Steps.{guarded}
-use Rattle.layout.specs.Tables.{all}
-use Rattle.layout.specs.Picture.{settingsIn, StateOf}
+use Rattle.layout.specs.declared.Table.the-variants.{Mapped, Buckets}
+use Rattle.layout.specs.Tables.{all, get, put}
+use Rattle.layout.specs.Picture.{settingsIn, opens, StateOf}
+use Rattle.layout.proofs.Tables.{length-put, get-put-else, drop-put, settings-put}
 use Rattle.memory.specs.Memory.{picture, M}
 use Rattle.memory.specs.Demands.{onMemory}
 use Rattle.memory.specs.Rounds.{roundOn, roundCalls, RoundIsCalls}
 use Rattle.memory.specs.Audit.{block, placeTold, audited, auditOn}
-use Rattle.memory.specs.Tally.{WaitsUnreadInMemory, RoundsUnread, AuditsUnread}
+use Rattle.memory.specs.Image.{setupMem}
+use Rattle.memory.specs.Repair.{repairMem, repaired}
+use Rattle.memory.specs.Tally.{WaitsUnreadInMemory, RoundsUnread, AuditsUnread, RepairsUnread}
 use Rattle.memory.proofs.Picture.{picture-state}
 use Rattle.memory.proofs.Demands.{pictured-state, on-settings}
 use Rattle.memory.proofs.Tally.{waits-unread-in-memory}
 use Rattle.memory.proofs.Rounds.{round-is-calls}
+use Rattle.memory.proofs.Repair.{fill-ext}
 use Rattle.memory.proofs.Audit.{joined-same, audit-on, audit-off}
 
 -- ---- rounds
@@ -137,3 +144,30 @@ audits-unread m n same o room = go (picture m) refl (picture n) refl o
         (ap (λ (bytes : List ℕ). guard (auditRules S (length room)) (λ i. (refused i, room)) (done, bytes ++ drop (8 * all S) room))
         (joined-same (placeTold S m room) (placeTold S n room) (all S) (λ i h. block-same S L N e f i)))
         ∙ audit-on n room S (t .0) (t .1)
+
+-- ---- repairs
+
+twice : {A : Type 0} (b : Bool) (x y z : A) → cond b x z ≡ cond b (cond b x y) z
+twice true x y z = refl
+twice false x y z = refl
+
+pub repairs-unread : RepairsUnread
+unfolding RepairsUnread repaired repairMem setupMem
+repairs-unread m i v hi = rw (same, length-put S Buckets i v m, mended-alike) (twice (opens m) (done, repairMem S m) (refused 3, m) (refused 3, n))
+  where
+    S : Settings
+    S = settingsIn m
+
+    n : List ℕ
+    n = put S Buckets i v m
+
+    same : settingsIn n ≡ S
+    same = settings-put S m Buckets i v hi (λ e. let z : _≡_ {A = ℕ} 0 1 = cc in omega arith)
+
+    entry : (d : ℕ) → d < ids → get S n Mapped d ≡ get S m Mapped d
+    entry d h = get-put-else S m Buckets i v Mapped d hi h (λ e o. let z : _≡_ {A = ℕ} 0 1 = cc in omega arith)
+
+    mended-alike : repairMem S n ≡ repairMem S m
+    mended-alike =
+        rw (drop-put S Buckets i v m hi)
+        (fill-ext S Mapped (λ d. d) (λ d. mended S (get S n Mapped d)) (λ d. mended S (get S m Mapped d)) ids (setupMem S m) (λ d h. ap (mended S) (entry d h)))

@@ -1,23 +1,25 @@
 -- Paper 02, Q-13, on memory: what a timed turn makes of a turn's bytes, and that no bucket is read. Assumes nothing.
 use mathlib.Core.Path.{_≡_}
+use mathlib.Core.Bool.{cond}
 use mathlib.Core.List.{List}
 use Prim.Native.Nat.{ℕ, _<_}
 use lib.ListN.{length, getD}
 use Rattle.ledger.specs.Settings.{Settings}
 use Rattle.ledger.specs.Ledger.{buckets, tall, bound}
 use Rattle.ledger.specs.Buckets.{untimed, at}
-use Rattle.ledger.specs.Calls.{turn, Reply}
+use Rattle.ledger.specs.Calls.{turn, Reply, refused}
 use Rattle.ledger.specs.Desk.{Call, act}
 use Rattle.ledger.specs.Order.{named}
 use Rattle.ledger.specs.Tally.{AgreeBut, WaitsUnread}
 use Rattle.layout.specs.declared.Table.the-variants.{Buckets}
 use Rattle.layout.specs.Tables.{put}
-use Rattle.layout.specs.Picture.{settingsIn}
+use Rattle.layout.specs.Picture.{settingsIn, opens}
 use Rattle.memory.specs.Writes.{tickMem}
 use Rattle.memory.specs.Memory.{picture, M}
 use Rattle.memory.specs.Demands.{onMemory}
 use Rattle.memory.specs.Rounds.{roundOn}
 use Rattle.memory.specs.Audit.{auditOn}
+use Rattle.memory.specs.Repair.{repaired}
 
 -- what a turn of port p answers and leaves, with the wait of the packet that it sent counted
 abbrev pub asTimed : Settings → ℕ → ℕ → Reply × List ℕ → Reply × List ℕ
@@ -46,3 +48,9 @@ RoundsUnread =
 
 unfoldable pub AuditsUnread : Type 0
 AuditsUnread = (m n : List ℕ) → length m ≡ length n → AgreeBut (picture m) (picture n) → (room : List ℕ) → auditOn m room ≡ auditOn n room
+
+-- nor do repairs: whatever number is put in a bucket, the answer is the same, and where the repair is done, so is every byte after it
+unfoldable pub RepairsUnread : Type 0
+RepairsUnread =
+    (m : List ℕ) (i v : ℕ) → i < tall (settingsIn m) buckets
+    → let n = put (settingsIn m) Buckets i v m in repaired n ≡ cond (opens m) (repaired m) (refused 3, n)

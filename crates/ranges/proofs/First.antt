@@ -76,6 +76,15 @@ module _ (ok : ℕ → Bool) where
           let each = first-all n .0 e in
           first-all k .1 (λ i l. either i l (decLt i n) (each i))
 
+-- tests that agree find the same
+pub first-same : (f g : ℕ → Bool) (n : ℕ) → ((k : ℕ) → k < n → f k ≡ g k) → first f n ≡ first g n
+unfolding firstFrom
+first-same f g n same = go n 0 (λ k low high. same k (omega arith))
+  where
+    go : (n i : ℕ) → ((k : ℕ) → i ≤ k → k < i + n → f k ≡ g k) → firstFrom f i n ≡ firstFrom g i n
+    go zero i h = refl
+    go (suc n) i h = rw (h i (omega arith) (omega arith), go n (suc i) (λ k low high. h k (omega arith) (omega arith)))
+
 -- where a search below n stands at i
 pub record Searching (ok : ℕ → Bool) (n i : ℕ) : Type 0 where
   pub low : i ≤ n
