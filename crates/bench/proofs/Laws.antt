@@ -8,7 +8,8 @@ use Rattle.output.specs.Buffer.{decimal, queued}
 use Rattle.fields.specs.declared.Order.{Order}
 use Rattle.fields.specs.declared.Read.{Read}
 use Rattle.fields.specs.declared.Read.the-variants as reads
-use Rattle.orders.specs.Orders.{headerIn, callIn, carried}
+use Rattle.fields.specs.Orders.{headerIn, callIn}
+use Rattle.orders.specs.Orders.{carried}
 use Rattle.bench.specs.Lines.{answerText, lineText, lastText}
 use Rattle.bench.specs.Steps.{answered}
 use Rattle.orders.specs.declared.Said.{Said}

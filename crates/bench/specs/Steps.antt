@@ -10,7 +10,8 @@ use Rattle.fields.specs.Calls.{orderAt}
 use Rattle.fields.specs.declared.Read.{Read}
 use Rattle.fields.specs.declared.Read.the-variants.{Call, Bad, End}
 use Rattle.input.specs.Inputs.{Kept}
-use Rattle.orders.specs.Orders.{headerIn, callIn, carried}
+use Rattle.fields.specs.Orders.{headerIn, callIn}
+use Rattle.orders.specs.Orders.{carried}
 use Rattle.bench.specs.Lines.{lineText, lastText}
 use Rattle.bench.specs.declared.Progress.{Progress}
 

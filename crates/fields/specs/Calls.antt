@@ -45,8 +45,11 @@ unfoldable pub callOf : List ℕ → ℕ → ℕ → ℕ → Read
 callOf s tag v next = getD (Bad ∷ calls s v next) tag Bad
 
 -- a whole field tells its tag's call if its value has the right length
+abbrev pub wholeTold : List ℕ → ℕ → ℕ → ℕ → ℕ → Read
+wholeTold s tag v len next = cond (eqb len (sizeOf tag)) (callOf s tag v next) Bad
+
 abbrev pub toldBy : List ℕ → Field → Read
-toldBy s (field.Whole tag v len next) = cond (eqb len (sizeOf tag)) (callOf s tag v next) Bad
+toldBy s (field.Whole tag v len next) = wholeTold s tag v len next
 toldBy s field.Cut = Bad
 toldBy s field.End = End
 

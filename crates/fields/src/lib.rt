@@ -4,7 +4,7 @@ ghost use Prim.Native.Nat.{_+_, _≤_};
 ghost use lib.ListN.{length};
 ghost use Rattle.numbers.specs.Bytes.{number};
 ghost use Rattle.fields.specs.Field.{fieldAt};
-ghost use Rattle.fields.specs.Calls.{setupAt, creditAt, sizeOf, callOf, orderAt};
+ghost use Rattle.fields.specs.Calls.{setupAt, creditAt, sizeOf, callOf, wholeTold, orderAt};
 
 // What stands at a place of the bytes.
 pub enum Field {
@@ -189,6 +189,17 @@ fn call_of(s: &[u8], tag: u8, v: usize, next: usize) -> Read
     }
 }
 
+// The call of a whole field, whose value is the len bytes from v on: told if the length is its tag's.
+pub fn order_of(s: &[u8], tag: u8, v: usize, len: usize, next: usize) -> Read
+    requires { ⌜ v + len ≤ length (now s) ⌝ }
+    ensures { λ r. ⌜ r ≡ wholeTold (now (s .entry)) tag v len next ⌝ }
+{
+    if len == size_of(tag) {
+        return call_of(s, tag, v, next);
+    }
+    Read::Bad
+}
+
 // The call that the field at a place tells.
 pub fn order_at(s: &[u8], at: usize) -> Read
     ensures { λ r. ⌜ r ≡ orderAt (now (s .entry)) at ⌝ }
@@ -199,13 +210,7 @@ pub fn order_at(s: &[u8], at: usize) -> Read
             start,
             len,
             next,
-        } => {
-            if len == size_of(tag) {
-                call_of(s, tag, start, next)
-            } else {
-                Read::Bad
-            }
-        }
+        } => order_of(s, tag, start, len, next),
         Field::Cut => Read::Bad,
         Field::End => Read::End,
     }

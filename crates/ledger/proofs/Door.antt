@@ -16,7 +16,7 @@ use Rattle.ledger.specs.Calls.{Act, stitch, turn, ready, Reply, isEmpty}
 use Rattle.ledger.specs.Calls.{step, run}
 use Rattle.ledger.specs.Desk.{Desk, has, Call, act, desk, afterCalls, SetupsRefused}
 use Rattle.ledger.specs.Sound.{All, Orderly, Roomy}
-use Rattle.ledger.specs.Rounds.{roundActs, roundRules, Deed, one, round, look, Carried, nothing, wholeRound, doneBy}
+use Rattle.ledger.specs.Rounds.{roundActs, roundRules, Deed, one, round, runs, look, Carried, nothing, wholeRound, doneBy}
 use Rattle.ledger.specs.Door.{lineOf, lineFor, roundsFor, callsOf, roundsIn, roundsBefore, doneFrom}
 use Rattle.ledger.specs.Door.{ShowsIngress, ShowsLine, LeavesAt, LeavesWithinRounds}
 use Rattle.ledger.specs.Door.{StitchedSoonFrom, LeavesSoonFrom, DoorToDoorFrom, NobodyStarvesInRoundsFrom}
@@ -139,6 +139,7 @@ RoundOrNot S d = (d .a-round ≡ false) ⊎ (d ≡ wholeRound S)
 round-or-not : (S : Settings) (L : Ledger) (d : Deed) → RoundOrNot S (doneBy (has S L) d)
 round-or-not S L (one c) = inl refl
 round-or-not S L (round n) = guarded (RoundOrNot S) (roundRules S n) (λ r. nothing) (wholeRound S) (λ r. inl refl) (λ c. inr refl)
+round-or-not S L (runs f) = inl refl
 round-or-not S L look = inl refl
 
 module _ {X : Type 0} (call : X → Call → Reply × X) (shows : X → Desk) (long : X → ℕ) (faithful : Faithful call shows long)

@@ -63,12 +63,13 @@ bytesOf (r ∷ rs) = answerBytes r ++ bytesOf rs
 unfoldable pub answersIn : List Reply → List ℕ → List ℕ
 answersIn rs room = bytesOf rs ++ drop (4 * length rs) room
 
--- ---- what is done at a desk: a call, a round with so many bytes lent for its turns, or a look, which changes nothing: an audit, a
--- finding, a repair that is refused
+-- ---- what is done at a desk: a call, a round with so many bytes lent for its turns, a run, by the acts that its fields ask of a switch
+-- of these settings (paper 02, Q-10), or a look, which changes nothing: an audit, a finding, a repair that is refused
 
 pub data Deed : Type 0 where
   one : Call → Deed
   round : ℕ → Deed
+  runs : (Settings → List Act) → Deed
   look : Deed
 
 -- the calls that a deed is, one by one; and whether it is a round, a refused one being none
@@ -87,6 +88,8 @@ abbrev pub doneBy : Desk → Deed → Carried
 doneBy D (one c) = record { a-round = false; calls = c ∷ [] }
 doneBy none (round n) = nothing
 doneBy (has S L) (round n) = guard (roundRules S n) (λ r. nothing) (wholeRound S)
+doneBy none (runs f) = nothing
+doneBy (has S L) (runs f) = record { a-round = false; calls = map act (f S) }
 doneBy D look = nothing
 
 -- of a call and its answer: the answer, if the call is a turn

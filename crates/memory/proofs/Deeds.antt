@@ -26,15 +26,17 @@ use Rattle.memory.specs.Memory.{picture, M}
 use Rattle.memory.specs.Demands.{onMemory}
 use Rattle.memory.specs.Repair.{repaired}
 use Rattle.memory.specs.Rounds.{RoomTells, NobodyStarvesInRoundsInMemory}
+use Rattle.memory.specs.Runs.{runCalls, AnswersTell}
 use Rattle.memory.specs.Deeds.{Undisturbed, RepairStands, foundBy, FoundAmongCalls, Told, LeavesInDeeds, NobodyStarvesInDeeds, FromHereOn}
 use Rattle.memory.specs.Deeds.{CountsAfresh, HoldsInDeeds, AfreshAfterSetup, waitsOf, SumSince, SumSinceSetup}
-use Rattle.memory.specs.Deeds.{LentDeed, lent-call, lent-round, lent-audit, lent-find, lent-repair, deedOf, leftBy, afterDeeds}
+use Rattle.memory.specs.Deeds.{LentDeed, lent-call, lent-round, lent-run, lent-audit, lent-find, lent-repair, deedOf, leftBy, afterDeeds}
 use Rattle.memory.specs.Deeds.{callsBy, callsIn, isRepair, RepairsRefused, DeedsAreCalls}
 use Rattle.memory.proofs.Picture.{opens-means}
 use Rattle.memory.proofs.Demands.{pictured-state, memory-faithful, memory-keeps-order, memory-goes-along, memory-pool-kept}
 use Rattle.memory.proofs.Demands.{memory-own-mark-alone, memory-halt-lasts}
 use Rattle.memory.proofs.Tally.{memory-buckets-count}
 use Rattle.memory.proofs.Rounds.{room-tells}
+use Rattle.memory.proofs.Runs.{answers-tell}
 use Rattle.memory.proofs.Door.{deed-is-calls, deeds-are-calls, nobody-starves-in-rounds-in-memory}
 
 -- ---- no repair stands
@@ -163,7 +165,7 @@ module _ {X : Type 0} (call : X → Call → Reply × X) (shows : X → Desk) (S
 
 module _ (S : Settings) (p q : ℕ) (k : Packet) where
   told-so : (n : ℕ) (m : List ℕ) (d : LentDeed) → LeavesAmong onMemory picture S p q k n m (callsBy m d) → Told p q k m d
-  unfolding RoomTells
+  unfolding RoomTells AnswersTell
   told-so n m (lent-call c) o = only (o .moment) (o .among) (o .a-turn) (o .it-leaves)
     where
       only : (t : ℕ) → t < 1 → getD (c ∷ []) t (act (ready 0)) ≡ act (turn (o .clock) p)
@@ -171,6 +173,11 @@ module _ (S : Settings) (p q : ℕ) (k : Packet) where
       only zero h e i = (o .clock, e, ap (λ (b : Call). M b m .0) e ∙ i)
       only (suc t) h e i = absurd (not-suc-le-zero (le-of-suc-le-suc h))
   told-so n m (lent-round room) o = room-tells m room (o .moment) (o .clock) p (o .among) (o .a-turn) ∙ ap answerBytes (o .it-leaves)
+  told-so n m (lent-run s room) o =
+      (o .moment, o .clock, o .a-turn,
+        answers-tell m s room (o .moment) (o .among)
+        ∙ ap (λ (c : Call). answerBytes (M c (afterCalls onMemory m (take (o .moment) (runCalls m s room))) .0)) (o .a-turn)
+        ∙ ap answerBytes (o .it-leaves))
   told-so n m (lent-audit room) o = not-suc-le-zero (o .among)
   told-so n m lent-find o = not-suc-le-zero (o .among)
   told-so n m lent-repair o = not-suc-le-zero (o .among)

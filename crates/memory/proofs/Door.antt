@@ -15,14 +15,20 @@ use Rattle.memory.specs.Memory.{picture}
 use Rattle.memory.specs.Demands.{onMemory}
 use Rattle.memory.specs.Repair.{repairMem, repaired}
 use Rattle.memory.specs.Rounds.{roundOn, roundCalls, RoundIsCalls}
+use Rattle.memory.specs.Runs.{Report, runOn, runCalls, RunIsCalls}
 use Rattle.memory.specs.Rounds.{LeavesSoonInMemory, DoorToDoorInMemory, NobodyStarvesInRoundsInMemory}
-use Rattle.memory.specs.Deeds.{LentDeed, lent-call, lent-round, lent-audit, lent-find, lent-repair, leftBy, callsBy, callsIn, isRepair, DeedsAreCalls}
+use Rattle.memory.specs.Deeds.{LentDeed, lent-call, lent-round, lent-run, lent-audit, lent-find, lent-repair, leftBy, callsBy, callsIn, isRepair, DeedsAreCalls}
 use Rattle.memory.proofs.Demands.{pictured-state, memory-faithful}
 use Rattle.memory.proofs.Rounds.{round-is-calls}
+use Rattle.memory.proofs.Runs.{run-is-calls}
 
 left-by-round : (m room : List ℕ) → roundOn m room .1 ≡ afterCalls onMemory m (roundCalls m room)
 unfolding RoundIsCalls
 left-by-round m room = ap (λ (out : Reply × List ℕ × List ℕ). out .1) (round-is-calls m room)
+
+left-by-run : (m s room : List ℕ) → runOn m s room .1 ≡ afterCalls onMemory m (runCalls m s room)
+unfolding RunIsCalls
+left-by-run m s room = ap (λ (out : Report × List ℕ × List ℕ). out .1) (run-is-calls m s room)
 
 -- a refused repair leaves memory as it was
 pub refused-repair-keeps : (m : List ℕ) → isRefused (repaired m .0) ≡ true → repaired m .1 ≡ m
@@ -41,6 +47,7 @@ pub deed-is-calls : (m : List ℕ) (d : LentDeed) → (isRepair d ≡ true → i
     → leftBy m d ≡ afterCalls onMemory m (callsBy m d)
 deed-is-calls m (lent-call c) r = refl
 deed-is-calls m (lent-round room) r = left-by-round m room
+deed-is-calls m (lent-run s room) r = left-by-run m s room
 deed-is-calls m (lent-audit room) r = refl
 deed-is-calls m lent-find r = refl
 deed-is-calls m lent-repair r = refused-repair-keeps m (r refl)

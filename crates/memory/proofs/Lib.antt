@@ -15,6 +15,7 @@ pub mod Tally
 pub mod Past
 pub mod Judged
 pub mod Rounds
+pub mod Runs
 pub mod Door
 pub mod Audit
 pub mod Unread

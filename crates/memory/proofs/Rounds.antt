@@ -43,7 +43,7 @@ module _ (S : Settings) where
   answers-append m [] ys = refl
   answers-append m (a ∷ xs) ys = ap (λ (l : List Reply). acted S m a .0 ∷ l) (answers-append (acted S m a .1) xs ys)
 
-  answers-length : (m : List ℕ) (xs : List Act) → length (answersTo S m xs) ≡ length xs
+  pub answers-length : (m : List ℕ) (xs : List Act) → length (answersTo S m xs) ≡ length xs
   answers-length m [] = refl
   answers-length m (a ∷ xs) = ap suc (answers-length (acted S m a .1) xs)
 
@@ -98,14 +98,14 @@ module _ (s : Shape) where
 -- ---- on a state, acts are calls
 
 module _ (S : Settings) where
-  acts-leave : (m : List ℕ) → settingsIn m ≡ S → StateOf S m → (xs : List Act) → afterCalls onMemory m (map act xs) ≡ afterActs S m xs
+  pub acts-leave : (m : List ℕ) → settingsIn m ≡ S → StateOf S m → (xs : List Act) → afterCalls onMemory m (map act xs) ≡ afterActs S m xs
   acts-leave m e s [] = refl
   acts-leave m e s (a ∷ xs) =
       let k = act-keeps S m e s a in
       ap (λ (out : Reply × List ℕ). afterCalls onMemory (out .1) (map act xs)) (sym (on-settings S m e s a))
       ∙ acts-leave (acted S m a .1) (k .settings) (k .state) xs
 
-  acts-answer : (m : List ℕ) → settingsIn m ≡ S → StateOf S m → (xs : List Act) → answersOf onMemory m (map act xs) ≡ answersTo S m xs
+  pub acts-answer : (m : List ℕ) → settingsIn m ≡ S → StateOf S m → (xs : List Act) → answersOf onMemory m (map act xs) ≡ answersTo S m xs
   acts-answer m e s [] = refl
   acts-answer m e s (a ∷ xs) =
       let k = act-keeps S m e s a in
@@ -238,7 +238,7 @@ module _ (S : Settings) where
           let same : i ≡ p = cc in
           (omega arith, omega arith, cc)
 
-  answer-at : (xs : List Act) (m : List ℕ) (i : ℕ) (d : Reply) (e : Act) → i < length xs
+  pub answer-at : (xs : List Act) (m : List ℕ) (i : ℕ) (d : Reply) (e : Act) → i < length xs
       → getD (answersTo S m xs) i d ≡ acted S (afterActs S m (take i xs)) (getD xs i e) .0
   answer-at [] m i d e h = absurd (not-suc-le-zero h)
   answer-at (a ∷ xs) m zero d e h = refl
@@ -257,7 +257,7 @@ module _ (S : Settings) where
       (sym (after-append S m first (take p (turns S))) ∙ ap (λ (l : List Act). afterActs S m l) (sym upto))
 
   -- on a state, what an act answers after others is what the call does
-  call-after : (m : List ℕ) → settingsIn m ≡ S → StateOf S m → (xs : List Act) (a : Act)
+  pub call-after : (m : List ℕ) → settingsIn m ≡ S → StateOf S m → (xs : List Act) (a : Act)
       → acted S (afterActs S m xs) a .0 ≡ M (act a) (afterCalls onMemory m (map act xs)) .0
   call-after m e s [] a = ap (λ (out : Reply × List ℕ). out .0) (on-settings S m e s a)
   call-after m e s (b ∷ xs) a =
@@ -265,7 +265,7 @@ module _ (S : Settings) where
       call-after (acted S m b .1) (k .settings) (k .state) xs a
       ∙ ap (λ (out : Reply × List ℕ). M (act a) (afterCalls onMemory (out .1) (map act xs)) .0) (on-settings S m e s b)
 
-take-map : (n : ℕ) (xs : List Act) → take n (map act xs) ≡ map act (take n xs)
+pub take-map : (n : ℕ) (xs : List Act) → take n (map act xs) ≡ map act (take n xs)
 take-map zero xs = refl
 take-map (suc n) [] = refl
 take-map (suc n) (a ∷ xs) = ap (λ (l : List Call). act a ∷ l) (take-map n xs)

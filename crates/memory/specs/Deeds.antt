@@ -1,5 +1,5 @@
 -- Paper 02, Q-11: demand 3, the order of queues, the pools, the marks, the buckets and what is recorded, said of all that is done on a memory: calls,
--- rounds, audits and findings, setting up anew and repairs excepted. And "After repair demand 3 counts afresh, as after setup". Assumes nothing.
+-- rounds, runs, audits and findings, setting up anew and repairs excepted. And "After repair demand 3 counts afresh, as after setup". Assumes nothing.
 use mathlib.Core.Path.{_≡_}
 use mathlib.Core.Logic.{_≢_}
 use mathlib.Core.Bool.{Bool, true, false}
@@ -9,14 +9,14 @@ use lib.ListN.{length, getD, take, drop}
 use Rattle.ledger.specs.Settings.{Settings}
 use Rattle.ledger.specs.Ledger.{Packet, Place, mapped, markOf, Ledger, start, Place·In}
 use Rattle.ledger.specs.Buckets.{Clock}
-use Rattle.ledger.specs.Calls.{turn, clear, done, leaves, isRefused, sideOf}
+use Rattle.ledger.specs.Calls.{turn, ready, clear, done, leaves, isRefused, sideOf}
 use Rattle.ledger.specs.Desk.{has, Call, setup, act, afterCalls, answersOf, SetupsRefused}
 use Rattle.ledger.specs.Sound.{All}
 use Rattle.ledger.specs.Demand.{Stands, InHand, turnsIn, ShowsWaiting, LeavesAmong}
 use Rattle.ledger.specs.Order.{KeepsOrder, GoesAlong}
 use Rattle.ledger.specs.Night.{PoolKept, OwnMarkAlone, HaltLasts}
 use Rattle.ledger.specs.Tally.{waitsIn, bucketSum, BelowStop, BucketsCount}
-use Rattle.ledger.specs.Rounds.{answerBytes, Deed, one, round, look, doneBy}
+use Rattle.ledger.specs.Rounds.{answerBytes, Deed, one, round, runs, look, doneBy}
 use Rattle.ledger.specs.Door.{atCall, callsOf, doneFrom}
 use Rattle.ledger.specs.Repair.{restart}
 use Rattle.layout.specs.Picture.{settingsIn, opens, ledgerIn}
@@ -24,13 +24,15 @@ use Rattle.memory.specs.Memory.{picture, M}
 use Rattle.memory.specs.Demands.{onMemory}
 use Rattle.memory.specs.Repair.{repaired}
 use Rattle.memory.specs.Rounds.{roundOn}
+use Rattle.memory.specs.Runs.{stretchOf, runOn, runCalls}
 
--- ---- rounds, audits, findings and repairs among calls
+-- ---- rounds, runs, audits, findings and repairs among calls
 
--- what is done on a memory: a call; a round, or an audit, into a room that is lent to it; a finding; a repair
+-- what is done on a memory: a call; a round, or an audit, into a room that is lent to it; a run of fields into one; a finding; a repair
 pub data LentDeed : Type 0 where
   lent-call : Call → LentDeed
   lent-round : List ℕ → LentDeed
+  lent-run : List ℕ → List ℕ → LentDeed
   lent-audit : List ℕ → LentDeed
   lent-find : LentDeed
   lent-repair : LentDeed
@@ -39,6 +41,7 @@ pub data LentDeed : Type 0 where
 abbrev pub deedOf : LentDeed → Deed
 deedOf (lent-call c) = one c
 deedOf (lent-round room) = round (length room)
+deedOf (lent-run s room) = runs (λ S. stretchOf S s (length room) .acts)
 deedOf (lent-audit room) = look
 deedOf lent-find = look
 deedOf lent-repair = look
@@ -47,6 +50,7 @@ deedOf lent-repair = look
 abbrev pub leftBy : List ℕ → LentDeed → List ℕ
 leftBy m (lent-call c) = M c m .1
 leftBy m (lent-round room) = roundOn m room .1
+leftBy m (lent-run s room) = runOn m s room .1
 leftBy m (lent-audit room) = m
 leftBy m lent-find = m
 leftBy m lent-repair = repaired m .1
@@ -65,6 +69,7 @@ callsIn m ds = callsOf (doneFrom onMemory picture m (map deedOf ds))
 abbrev pub isRepair : LentDeed → Bool
 isRepair (lent-call c) = false
 isRepair (lent-round room) = false
+isRepair (lent-run s room) = false
 isRepair (lent-audit room) = false
 isRepair lent-find = false
 isRepair lent-repair = true
@@ -102,10 +107,13 @@ FoundAmongCalls =
 -- ---- demand 3
 
 -- what tells the caller that packet k left port p by queue q: the answer of a turn, timed or not, or four bytes of a
--- round's room
+-- round's room; or those of a run's room that are for call number j of it, a turn of p
 abbrev pub Told : ℕ → ℕ → Packet → List ℕ → LentDeed → Type 0
 Told p q k m (lent-call c) = (t : Clock) × (c ≡ act (turn t p)) × (M c m .0 ≡ leaves k (sideOf q))
 Told p q k m (lent-round room) = take 4 (drop (4 * p) (roundOn m room .2)) ≡ answerBytes (leaves k (sideOf q))
+Told p q k m (lent-run s room) =
+    (j : ℕ) × (t : Clock) × (getD (runCalls m s room) j (act (ready 0)) ≡ act (turn t p))
+    × (take 4 (drop (4 * j) (runOn m s room .2)) ≡ answerBytes (leaves k (sideOf q)))
 Told p q k m (lent-audit room) = ⊥
 Told p q k m lent-find = ⊥
 Told p q k m lent-repair = ⊥
@@ -120,7 +128,7 @@ pub record LeavesInDeeds (S : Settings) (p q : ℕ) (k : Packet) (n : ℕ) (m : 
   pub told : Told p q k (foundBy m ds deed) (getD ds deed lent-find)
   pub until-then : (i : ℕ) → i ≤ deed → ShowsWaiting picture S p q k (foundBy m ds i)
 
--- by turn queues × (length ahead + 1) of its port, those of rounds counted
+-- by turn queues × (length ahead + 1) of its port, those of rounds and of runs counted
 abbrev pub NobodyStarvesInDeeds : Settings → Ledger → List ℕ → Type 0
 NobodyStarvesInDeeds S L m =
     (p q : ℕ) → p < S .ports → q < S .queues

@@ -7,6 +7,7 @@ pub mod Demands
 pub mod Audit
 pub mod Repair
 pub mod Rounds
+pub mod Runs
 pub mod Tally
 pub mod Deeds
 pub mod Judged

@@ -6,7 +6,8 @@ use Rattle.ledger.specs.Calls.{Reply}
 use Rattle.memory.specs.Memory.{M}
 use Rattle.fields.specs.declared.Order.{Order}
 use Rattle.fields.specs.declared.Order.the-variants.{Setup, Arrive, Stitch, Prefetch, Turn, Credit, Map}
-use Rattle.orders.specs.Orders.{headerIn, callIn, saidOf, carried}
+use Rattle.fields.specs.Orders.{headerIn, callIn}
+use Rattle.orders.specs.Orders.{saidOf, carried}
 use Rattle.orders.specs.declared.Said.{Said}
 
 -- an order that is no arrival has no header

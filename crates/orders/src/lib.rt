@@ -11,7 +11,8 @@ ghost use lib.ListN.{length};
 ghost use Rattle.numbers.specs.Bytes.{number};
 ghost use Rattle.ledger.specs.Answers.{plainReply, stitchReply, entryReply, turnReply};
 ghost use Rattle.memory.specs.Memory.{M};
-ghost use Rattle.orders.specs.Orders.{headerIn, callIn, saidOf, carried};
+ghost use Rattle.fields.specs.Orders.{headerIn, callIn};
+ghost use Rattle.orders.specs.Orders.{saidOf, carried};
 
 // What a line says after its number.
 pub enum Said {
