@@ -4,7 +4,8 @@ use mathlib.Core.List.{List}
 use Prim.Native.Nat.{ℕ, _≤_, _<_}
 use lib.ListN.{length}
 use Rattle.ledger.specs.Settings.{size}
-use Rattle.ledger.specs.Ledger.{prefetched, place#, outwardOf}
+use Rattle.ledger.specs.Ledger.{prefetched, place#, outwardOf, lastOf}
+use Rattle.ledger.specs.Ready.{readyWord, pick}
 use Rattle.ledger.specs.Answers.{sentOf}
 use Rattle.ledger.specs.declared.Sent.{Sent}
 use Rattle.layout.specs.declared.Shape.{Shape}
@@ -41,7 +42,23 @@ pub record CanServe (s : Shape) (p q : ℕ) (m : List ℕ) : Type 0 where
   pub some : 0 < get (settingsOf s) m Count (place# (settingsOf s) (prefetched p q))
   pub covered : packetAt (settingsOf s) m (headOf (settingsOf s) m (prefetched p q)) .price ≤ outwardOf (settingsOf s) (ledgerIn (settingsOf s) m) p q
 
--- it has left
+-- a port of a state and its ready word, in which some bit is set
+pub record HasWord (s : Shape) (p word : ℕ) (m : List ℕ) : Type 0 where
+  pub works : Works s m
+  pub port : p < s .ports
+  pub word-is : word ≡ readyWord (settingsOf s) (ledgerIn (settingsOf s) m) p
+  pub some : word ≡ 0 → ⊥
+
+-- the queue that a turn of the port serves
+pub record Picked (s : Shape) (p q : ℕ) (m : List ℕ) : Type 0 where
+  pub next : q ≡ pick (lastOf (ledgerIn (settingsOf s) m) p) (readyWord (settingsOf s) (ledgerIn (settingsOf s) m) p)
+  pub can : CanServe s p q m
+
+-- it has left, and its node is x
+pub record Departed (s : Shape) (p q : ℕ) (m m′ : List ℕ) (x : ℕ) : Type 0 where
+  pub node : x ≡ headOf (settingsOf s) m (prefetched p q)
+  pub memory : m′ ≡ serveMem (settingsOf s) p q (packetAt (settingsOf s) m (headOf (settingsOf s) m (prefetched p q))) m
+
 pub record Served (s : Shape) (p q : ℕ) (m m′ : List ℕ) (k : Sent) : Type 0 where
   pub packet : sentOf k ≡ packetAt (settingsOf s) m (headOf (settingsOf s) m (prefetched p q))
   pub memory : m′ ≡ serveMem (settingsOf s) p q (packetAt (settingsOf s) m (headOf (settingsOf s) m (prefetched p q))) m

@@ -1,5 +1,6 @@
 // Turn and ready, on a memory that is a switch state: which queues are ready, which one a turn serves, and what leaves.
 use layout::Shape;
+use ledger::EntryId;
 use ledger::Exit;
 use ledger::Readiness;
 use ledger::Refusal;
@@ -18,10 +19,10 @@ ghost use Rattle.layout.specs.Picture.{ledgerIn};
 ghost use Rattle.memory.specs.Judged.{Works};
 ghost use Rattle.memory.specs.Writes.{creditMem};
 ghost use Rattle.memory.specs.Memory.{acted};
-ghost use Rattle.turns.specs.Turns.{AtPort, AtQueue, CanSettle, CanServe, Served};
+ghost use Rattle.turns.specs.Turns.{AtPort, AtQueue, HasWord, Picked, CanSettle, CanServe, Departed, Served};
 
 // 1 where queue q of port p is ready, else 0.
-fn readiness(m: &[u8], s: Shape, p: usize, q: usize) -> u64
+pub fn readiness(m: &[u8], s: Shape, p: usize, q: usize) -> u64
     requires { ⌜ AtQueue s p q (now m) ⌝ }
     ensures { λ r. ⌜ r ≡ bit (isReady (settingsOf s) (ledgerIn (settingsOf s) (now (m .entry))) p q) ⌝ }
 {
@@ -68,7 +69,7 @@ fn pick(word: u64, last: u8) -> u32
 }
 
 // Queue 0 stays inside.
-fn exit_of(q: u32) -> Exit
+fn exit_of(q: usize) -> Exit
     ensures { λ r. ⌜ exitOf r ≡ sideOf q ⌝ }
 {
     if q == 0 {
@@ -88,20 +89,39 @@ fn settle(m: &mut [u8], s: Shape, p: usize, q: usize, home: usize, given: u16, l
     parts::set_last(m, s, p, q as u8);
 }
 
-// The oldest packet of queue q's slots leaves port p: its node goes home, its price is settled, and the queue is the last served.
+// The queue that a turn of port p serves, by the port's ready word, in which some bit is set.
+pub fn next_queue(m: &[u8], s: Shape, p: usize, word: u64) -> usize
+    requires { ⌜ HasWord s p word (now m) ⌝ }
+    ensures { λ r. ⌜ Picked s p r (now (m .entry)) ⌝ }
+{
+    pick(word, parts::last(m, s, p)) as usize
+}
+
+// The oldest packet of queue q's slots leaves port p: its node, which is answered, goes home, its price is settled, and the queue is the
+// last served.
+pub fn depart(m: &mut [u8], s: Shape, p: usize, q: usize) -> EntryId
+    requires { ⌜ CanServe s p q (now m) ⌝ }
+    ensures { λ r. ⌜ Departed s p q (now (m .entry)) (now (m .exit)) (r .0) ⌝ }
+{
+    let from = geometry::prefetch_list(s, p, q);
+    let x = lists::first(m, s, from);
+    let home = x.port() as usize;
+    let cost = records::price(m, s, x) as u16;
+    let given = parts::arrival(m, s, home, q) + cost;
+    let left = parts::outward(m, s, p, q) - cost;
+    lists::shift(m, s, from, geometry::free_list(s, home));
+    settle(m, s, p, q, home, given, left);
+    x
+}
+
+// The same, with all that is recorded for it.
 fn serve(m: &mut [u8], s: Shape, p: usize, q: usize) -> Sent
     requires { ⌜ CanServe s p q (now m) ⌝ }
     ensures { λ r. ⌜ Served s p q (now (m .entry)) (now (m .exit)) r ⌝ }
 {
     let from = geometry::prefetch_list(s, p, q);
-    let x = lists::first(m, s, from);
-    let k = records::packet(m, s, x);
-    let home = x.port() as usize;
-    let cost = k.price as u16;
-    let given = parts::arrival(m, s, home, q) + cost;
-    let left = parts::outward(m, s, p, q) - cost;
-    lists::shift(m, s, from, geometry::free_list(s, home));
-    settle(m, s, p, q, home, given, left);
+    let k = records::packet(m, s, lists::first(m, s, from));
+    depart(m, s, p, q);
     k
 }
 
@@ -119,8 +139,8 @@ pub fn turn(m: &mut [u8], s: Shape, port: u32) -> Turned
     if word == 0 {
         return Turned::Idle;
     }
-    let q = pick(word, parts::last(m, s, p));
-    let k = serve(m, s, p, q as usize);
+    let q = next_queue(m, s, p, word);
+    let k = serve(m, s, p, q);
     Turned::Leaves(k, exit_of(q))
 }
 
