@@ -18,6 +18,7 @@ pub mod Promises
 pub mod Courses
 pub mod Walk
 pub mod Line
+pub mod Words
 pub mod Waits
 pub mod Chances
 pub mod Ingress

@@ -1,5 +1,5 @@
 -- The ready word and the pick as the customer understands them, and how long the picks may pass a ready queue by. Assumes nothing.
-use mathlib.Core.Path.{_≡_, refl, sym, ap, _∙_, fun-ext}
+use mathlib.Core.Path.{_≡_, refl, sym, ap, ap₂, _∙_}
 use mathlib.Core.Logic.{_≢_, _⊎_, inl, inr}
 use mathlib.Core.Bool.{Bool, true, false, cond, not, _&&_}
 use Prim.Native.Nat.{ℕ, zero, suc, _+_, _-_, _*_, _/_, _%_, _^_, _≤_, _<_, zero-le, suc-le-suc}
@@ -72,6 +72,29 @@ word-bit r zero q h = absurd (not-suc-le-zero h)
 word-bit r (suc n) zero h = omega (arith, bit-mod (r 0) (wordOf (λ q. r (suc q)) n))
 word-bit r (suc n) (suc q) h = rw (pow-succ', ← div-div-eq-div-mul, bit-div) (word-bit (λ q. r (suc q)) n q (le-of-suc-le-suc h))
 
+-- where r and t agree below n, their words are the same
+pub word-same : (r t : ℕ → Bool) (n : ℕ) → ((j : ℕ) → j < n → r j ≡ t j) → wordOf r n ≡ wordOf t n
+unfolding wordOf
+word-same r t zero f = refl
+word-same r t (suc n) f =
+    ap₂ (λ (b : Bool) (w : ℕ). bit b + 2 * w) (f 0 (suc-le-suc zero-le))
+    (word-same (λ q. r (suc q)) (λ q. t (suc q)) n (λ j h. f (suc j) (suc-le-suc h)))
+
+-- where they agree below n but at q, their words differ by bit q alone
+pub word-but : (r t : ℕ → Bool) (n q : ℕ) → q < n → ((j : ℕ) → j < n → j ≢ q → r j ≡ t j)
+    → wordOf r n + bit (t q) * 2 ^ q ≡ wordOf t n + bit (r q) * 2 ^ q
+unfolding wordOf
+word-but r t zero q h f = absurd (not-suc-le-zero h)
+word-but r t (suc n) zero h f =
+    omega (arith, word-same (λ q. r (suc q)) (λ q. t (suc q)) n (λ j i. f (suc j) (suc-le-suc i) (λ e. omega arith)))
+word-but r t (suc n) (suc q) h f =
+    rw (pow-succ', mul-left-comm (bit (t (suc q))) 2 (2 ^ q), mul-left-comm (bit (r (suc q))) 2 (2 ^ q))
+    (omega (
+      arith,
+      ap bit (f 0 (suc-le-suc zero-le) (λ e. omega arith)),
+      word-but (λ q. r (suc q)) (λ q. t (suc q)) n q (le-of-suc-le-suc h) (λ j i d. f (suc j) (suc-le-suc i) (λ e. d (omega arith))),
+    ))
+
 pub count-is-ones : (r : ℕ → Bool) (n : ℕ) → ones (wordOf r n) ≡ countOf r n
 unfolding wordOf countOf ones
 count-is-ones r zero = refl
@@ -99,17 +122,14 @@ word-some r n q h e = word-zero r n ∙ ap not (ltb-is (least r n) n (omega (ari
 
 -- ---- the pick
 
-word-ext : (r t : ℕ → Bool) (n : ℕ) → ((q : ℕ) → r q ≡ t q) → wordOf r n ≡ wordOf t n
-word-ext r t n f = ap (λ (s : ℕ → Bool). wordOf s n) (fun-ext f)
-
 -- masking keeps what is above the mark
 pub masked : (r : ℕ → Bool) (m n : ℕ) → maskedAbove m (wordOf r n) ≡ wordOf (above r m) n
 unfolding maskedAbove wordOf
 masked r m zero = omega (arith, div-mul-le-self 0 (2 ^ suc m))
-masked r zero (suc n) = omega (arith, bit-le (r 0), word-ext (λ q. above r 0 (suc q)) (λ q. r (suc q)) n (λ q. rw (ltb-is 0 (suc q) (omega arith))))
+masked r zero (suc n) = omega (arith, bit-le (r 0), word-same (λ q. above r 0 (suc q)) (λ q. r (suc q)) n (λ q h. rw (ltb-is 0 (suc q) (omega arith))))
 masked r (suc m) (suc n) =
     rw (pow-succ' 2 (suc m), ← div-div-eq-div-mul, bit-div, mul-left-comm, ltb-not (suc m) 0 zero-le)
-    (omega (arith, masked (λ q. r (suc q)) m n, word-ext (λ q. above r (suc m) (suc q)) (above (λ q. r (suc q)) m) n (λ q. rw leb·suc-suc)))
+    (omega (arith, masked (λ q. r (suc q)) m n, word-same (λ q. above r (suc m) (suc q)) (above (λ q. r (suc q)) m) n (λ q h. rw leb·suc-suc)))
 
 trailing-least : (r : ℕ → Bool) (n k : ℕ) → n ≤ k → least r n < n → trailingZeros k (wordOf r n) ≡ least r n
 unfolding trailingZeros wordOf
