@@ -1,4 +1,4 @@
--- `turns::serve` meets its contract: the oldest packet is read, its node shifted home, its price settled. Assumes nothing.
+-- `turns::depart` meets its contract: the oldest packet's price is read, its node shifted home, the price settled. Assumes nothing.
 use mathlib.Core.Path.{_≡_, ap, ap₂, _∙_}
 use mathlib.Core.Bool.{true}
 use mathlib.Core.List.{List}
@@ -6,7 +6,6 @@ use Prim.Native.Nat.{ℕ, _+_, _-_, _<_}
 use native.Mathlib.Omega.{arith}
 use borrow.Author.Needs.{needs}
 use Rattle.ledger.specs.Settings.{Settings}
-use Rattle.ledger.specs.Answers.{sentOf}
 use Rattle.ledger.specs.Ledger.{owner, isNode, Packet, prefetched, place#, arrivalOf}
 use Rattle.layout.specs.declared.Table.the-variants.{Head}
 use Rattle.layout.specs.Tables.{settingsOf, lists, get}
@@ -14,8 +13,8 @@ use Rattle.layout.specs.Picture.{packetAt, ledgerIn}
 use Rattle.memory.specs.Writes.{headOf}
 use Rattle.memory.proofs.Chains.{head-is-node, state-tidy}
 use Rattle.turns.proofs.Laws.{l-in, home-in, given-small, free-in, serve-mem}
-use Rattle.turns.proofs.serve.Statement.{statement}
-use Rattle.turns.proofs.serve.Tie as tie
+use Rattle.turns.proofs.depart.Statement.{statement}
+use Rattle.turns.proofs.depart.Tie as tie
 
 -- the moments, each from the next
 abbrev start : tie.After-prefetch-list → tie.Start
@@ -24,14 +23,14 @@ start c = c .before .before
 abbrev listed : tie.After-first → tie.After-prefetch-list
 listed c = c .before .before
 
-abbrev met : tie.After-packet → tie.After-first
-met c = c .before .before
+abbrev met : tie.After-port → tie.After-first
+met c = c .before
 
-abbrev read : tie.After-port → tie.After-packet
-read c = c .before
+abbrev homed : tie.After-price → tie.After-port
+homed c = c .before .before
 
-abbrev homed : tie.After-arrival → tie.After-port
-homed c = c .before .before .before
+abbrev priced : tie.After-arrival → tie.After-price
+priced c = c .before .before
 
 abbrev given : tie.After-outward → tie.After-arrival
 given c = c .before .before
@@ -80,18 +79,6 @@ node c =
     let st = start (listed c) in
     ap (isNode (S st)) (first-is c) ∙ head-is-node (S st) (m st) (state-tidy (S st) (m st) (st .pre .works .state)) _ (place-in st) (st .pre .some)
 
-packet-requires : tie.Need-packet-requires
-packet-requires c κs =
-    let f = c .before in
-    let p = start (listed f) .pre in
-    record { laid = p .works .laid; long = p .works .state .long; node = node f }
-
-packet-is : (c : tie.After-packet) → sentOf (c .packet .result) ≡ packet (start (listed (met c)))
-packet-is c = let st = start (listed (met c)) in c .packet .ensures ∙ ap (packetAt (S st) (m st)) (first-is (met c))
-
-price-is : (c : tie.After-packet) → c .packet .result .price ≡ packet (start (listed (met c))) .price
-price-is c = ap (λ (k : Packet). k .price) (packet-is c)
-
 -- its home
 port-requires : tie.Need-port-requires
 port-requires c κs = search needs
@@ -99,53 +86,67 @@ port-requires c κs = search needs
 cast-home : tie.Need-cast-home
 cast-home c = search needs
 
+home-is : (c : tie.After-port) → c .port .result ≡ owner (oldest (start (listed (met c))))
+home-is c = c .port .ensures ∙ ap owner (first-is (met c))
+
+home : (c : tie.After-port) → c .port .result < start (listed (met c)) .args .s .ports
+home c = let f = met c in omega (arith, c .port .ensures, home-in (S (start (listed f))) (f .first .result .0) (node f))
+
+-- its price
+price-requires : tie.Need-price-requires
+price-requires c κs =
+    let f = met (c .before) in
+    let p = start (listed f) .pre in
+    record { laid = p .works .laid; long = p .works .state .long; node = node f }
+
+price-is : (c : tie.After-price) → c .price .result ≡ packet (start (listed (met (homed c)))) .price
+price-is c =
+    let f = met (homed c) in
+    let st = start (listed f) in
+    c .price .ensures ∙ ap (λ (x : ℕ). packetAt (S st) (m st) x .price) (first-is f)
+
 cast-cost : tie.Need-cast-cost
 cast-cost c = search needs
 
-home-is : (c : tie.After-port) → c .port .result ≡ owner (oldest (start (listed (met (read c)))))
-home-is c = c .port .ensures ∙ ap owner (first-is (met (read c)))
-
-home : (c : tie.After-port) → c .port .result < start (listed (met (read c))) .args .s .ports
-home c = let f = met (read c) in omega (arith, c .port .ensures, home-in (S (start (listed f))) (f .first .result .0) (node f))
-
 arrival-requires : tie.Need-arrival-requires
 arrival-requires c κs =
-    let h = c .before .before in
-    let p = start (listed (met (read h))) .pre in
+    let h = homed (c .before) in
+    let p = start (listed (met h)) .pre in
     record { laid = p .works .laid; long = p .works .state .long; port = home h; queue = p .queue }
 
-arrival-is : (c : tie.After-arrival) → c .arrival .result ≡ credit (start (listed (met (read (homed c)))))
+arrival-is : (c : tie.After-arrival) → c .arrival .result ≡ credit (start (listed (met (homed (priced c)))))
 arrival-is c =
-    let st = start (listed (met (read (homed c)))) in
-    c .arrival .ensures ∙ ap (λ (h : ℕ). arrivalOf (S st) (ledgerIn (S st) (m st)) h (st .args .q)) (home-is (homed c))
+    let h = homed (priced c) in
+    let st = start (listed (met h)) in
+    c .arrival .ensures ∙ ap (λ (o : ℕ). arrivalOf (S st) (ledgerIn (S st) (m st)) o (st .args .q)) (home-is h)
 
 small : (st : tie.Start) → credit st + packet st .price < 65536
 small st = given-small (S st) (m st) (st .pre .works .state) (st .args .p) (st .args .q) (st .pre .port) (st .pre .queue) (st .pre .some)
 
 add-given : tie.Need-add-given
 add-given c =
-    let pk = read (homed c) in
-    omega (arith, arrival-is c, price-is pk, small (start (listed (met pk))))
+    let pr = priced c in
+    omega (arith, arrival-is c, price-is pr, small (start (listed (met (homed pr)))))
 
 outward-requires : tie.Need-outward-requires
 outward-requires c κs =
-    let p = start (listed (met (read (homed (c .before))))) .pre in
+    let p = start (listed (met (homed (priced (c .before))))) .pre in
     record { laid = p .works .laid; long = p .works .state .long; port = p .port; queue = p .queue }
 
 sub-left : tie.Need-sub-left
 sub-left c =
-    let pk = read (homed (given c)) in
-    omega (arith, c .outward .ensures, price-is pk, start (listed (met pk)) .pre .covered)
+    let pr = priced (given c) in
+    omega (arith, c .outward .ensures, price-is pr, start (listed (met (homed pr))) .pre .covered)
 
 free-list-requires : tie.Need-free-list-requires
 free-list-requires c κs =
-    let h = homed (given (c .before)) in
-    record { laid = start (listed (met (read h))) .pre .works .laid; port = home h }
+    let h = homed (priced (given (c .before))) in
+    record { laid = start (listed (met h)) .pre .works .laid; port = home h }
 
 shift-requires : tie.Need-shift-requires
 shift-requires c κs =
-    let h = homed (given (c .before .before)) in
-    let l = listed (met (read h)) in
+    let h = homed (priced (given (c .before .before))) in
+    let l = listed (met h) in
     let st = start l in
     record {
       take = record {
@@ -160,8 +161,8 @@ shift-requires c κs =
 settle-requires : tie.Need-settle-requires
 settle-requires c κs =
     let sh = c .before .before .before in
-    let h = homed (given (left sh)) in
-    let p = start (listed (met (read h))) .pre in
+    let h = homed (priced (given (left sh))) in
+    let p = start (listed (met h)) .pre in
     record {
       laid = p .works .laid;
       long = omega (arith, p .works .state .long, sh .shift .kept .0);
@@ -179,28 +180,28 @@ returns c =
     let sh = se .before .before .before .before in
     let o = left sh in
     let ar = given o in
-    let h = homed ar in
-    let pk = read h in
-    let l = listed (met pk) in
+    let pr = priced ar in
+    let h = homed pr in
+    let l = listed (met h) in
     let st = start l in
     record {
-      packet = packet-is pk;
+      node = first-is (met h);
       memory =
           serve-mem (S st) (m st) (st .pre .works .state) (st .args .p) (st .args .q) (st .pre .port) (st .pre .queue) (st .pre .some)
           (l .prefetch-list .ensures) (sh .before .free-list .ensures) (home-is h)
-          (ap₂ _+_ (arrival-is ar) (price-is pk)) (ap₂ (λ (x y : ℕ). x - y) (o .outward .ensures) (price-is pk))
+          (ap₂ _+_ (arrival-is ar) (price-is pr)) (ap₂ (λ (x y : ℕ). x - y) (o .outward .ensures) (price-is pr))
           (sh .shift .ensures .memory) (se .settle .ensures);
     }
 
-pub serve-spec : {M : Type 1} → statement M
-serve-spec =
+pub depart-spec : {M : Type 1} → statement M
+depart-spec =
     tie.close
     (tie.spec
     prefetch-list-requires
     first-requires
-    packet-requires
     port-requires
     cast-home
+    price-requires
     cast-cost
     arrival-requires
     add-given
