@@ -3,7 +3,7 @@ use mathlib.Core.Path.{_≡_}
 use mathlib.Core.Logic.{_≢_}
 use mathlib.Core.List.{List}
 use Prim.Native.Nat.{ℕ, _+_, _*_, _/_, _%_, _^_, _≤_, _<_}
-use lib.ListN.{getD}
+use lib.ListN.{length, getD}
 use Rattle.ledger.specs.Ready.{bit, isReady, readyWord}
 use Rattle.layout.specs.declared.Shape.{Shape}
 use Rattle.layout.specs.Tables.{settingsOf}
@@ -14,9 +14,11 @@ use Rattle.memory.specs.Judged.{Works}
 abbrev pub Right : Shape → List ℕ → List ℕ → List ℕ → ℕ → Type 0
 Right s m words made r = getD made r 0 ≡ 1 → getD words r 0 ≡ readyWord (settingsOf s) (ledgerIn (settingsOf s) m) r
 
--- every word that is made is its port's ready word
-abbrev pub Kept : Shape → List ℕ → List ℕ → List ℕ → Type 0
-Kept s m words made = (r : ℕ) → r < s .ports → Right s m words made r
+-- each port has a word, and every one that is made is its port's ready word
+pub record Kept (s : Shape) (m words made : List ℕ) : Type 0 where
+  pub wide : s .ports ≤ length words
+  pub marked : s .ports ≤ length made
+  pub right : (r : ℕ) → r < s .ports → Right s m words made r
 
 -- the word of a port of a state can be asked for
 pub record CanAsk (s : Shape) (p : ℕ) (m words made : List ℕ) : Type 0 where
@@ -29,6 +31,8 @@ pub record Stale (s : Shape) (p q : ℕ) (m words made : List ℕ) : Type 0 wher
   pub works : Works s m
   pub port : p < s .ports
   pub queue : q < s .queues
+  pub wide : s .ports ≤ length words
+  pub marked : s .ports ≤ length made
   pub others : (r : ℕ) → r < s .ports → r ≢ p → Right s m words made r
   pub ours :
       getD made p 0 ≡ 1

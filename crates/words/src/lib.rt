@@ -9,7 +9,7 @@ ghost use Rattle.layout.specs.Picture.{ledgerIn};
 ghost use Rattle.words.specs.Kept.{Kept, CanAsk, Stale, CanSet};
 
 // The ready word of port p: made at first, as kept later.
-pub fn word_of(m: &[u8], s: Shape, p: usize, words: &mut [u64; 32], made: &mut [u8; 32]) -> u64
+pub fn word_of(m: &[u8], s: Shape, p: usize, words: &mut [u64], made: &mut [u8]) -> u64
     requires { ⌜ CanAsk s p (now m) (now words) (now made) ⌝ }
     ensures { λ r. ⌜ r ≡ readyWord (settingsOf s) (ledgerIn (settingsOf s) (now (m .entry))) p ⌝ }
     ensures { λ _. ⌜ Kept s (now (m .entry)) (now (words .exit)) (now (made .exit)) ⌝ }
@@ -33,7 +33,7 @@ fn with_bit(word: u64, q: usize, b: u64) -> u64
 }
 
 // The word of port p again, after an act that touched queue q of it, if it is made.
-pub fn renew(m: &[u8], s: Shape, p: usize, q: usize, words: &mut [u64; 32], made: &[u8; 32])
+pub fn renew(m: &[u8], s: Shape, p: usize, q: usize, words: &mut [u64], made: &[u8])
     requires { ⌜ Stale s p q (now m) (now words) (now made) ⌝ }
     ensures { λ _. ⌜ Kept s (now (m .entry)) (now (words .exit)) (now (made .entry)) ⌝ }
 {

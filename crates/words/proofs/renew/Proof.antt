@@ -1,57 +1,92 @@
+-- `words::renew` meets its contract: the one bit that an act may have changed is made again. Assumes nothing.
+use mathlib.Core.Path.{_≡_}
+use mathlib.Core.Logic.{_≢_}
+use Prim.Native.Nat.{ℕ, _+_, _<_, _^_}
+use native.Mathlib.Omega.{arith}
+use native.Mathlib.Decide.{ℕ-discrete}
 use borrow.Author.Needs.{needs}
+use lib.ListN.{length}
+use lib.Pow.{pow-mono}
+use Rattle.ledger.specs.Ready.{isReady, readyWord}
+use Rattle.ledger.proofs.Places.{bit-le}
+use Rattle.ledger.proofs.Ready.{word-lt}
+use Rattle.layout.specs.Tables.{settingsOf}
+use Rattle.layout.specs.Picture.{ledgerIn}
+use Rattle.words.specs.Kept.{Right}
+use Rattle.words.proofs.Laws.{kept-put}
 use Rattle.words.proofs.renew.Statement.{statement}
 use Rattle.words.proofs.renew.Tie as tie
-use Rattle.words.proofs.renew.Reads as reads
-use Rattle.words.proofs.renew.Lts as lts
-use Rattle.turns.proofs.readiness.Reads as readiness-reads
-use Rattle.words.proofs.with_bit.Reads as with-bit-reads
 
--- src/lib.rt:40:8
-element-copy-out-if1 : tie.Need-element-copy-out-if1
-element-copy-out-if1 c = search needs
+-- the ready word fits the machine's
+fits : (st : tie.Start) → let a = st .args in readyWord (settingsOf (a .s)) (ledgerIn (settingsOf (a .s)) (a .m .now)) (a .p) < 2 ^ 64
+unfolding readyWord
+fits st =
+    let a = st .args in
+    let low = word-lt (isReady (settingsOf (a .s)) (ledgerIn (settingsOf (a .s)) (a .m .now)) (a .p)) (a .s .queues) in
+    let few = pow-mono {j = 64} (st .pre .works .laid .roomy .few-queues) in
+    omega arith
 
--- src/lib.rt:41:29
+shared-slice-read-if1 : tie.Need-shared-slice-read-if1
+shared-slice-read-if1 c = search needs
+
 mul-with-bit : tie.Need-mul-with-bit
 mul-with-bit c = search needs
 
--- src/lib.rt:41:29
-element-copy-out-with-bit : tie.Need-element-copy-out-with-bit
-element-copy-out-with-bit c = search needs
+slice-read-with-bit : tie.Need-slice-read-with-bit
+slice-read-with-bit c = search needs
 
--- src/lib.rt:41:42
 readiness-requires : tie.Need-readiness-requires
 readiness-requires c κs = search needs
 
--- src/lib.rt:41:20
 with-bit-requires : tie.Need-with-bit-requires
-with-bit-requires c κs = ?
+with-bit-requires c κs =
+    let st = c .before .before .before .before .before .before .before in
+    let a = st .args in
+    let r = isReady (settingsOf (a .s)) (ledgerIn (settingsOf (a .s)) (a .m .now)) (a .p) (a .q) in
+    record {
+      low = omega (arith, st .pre .queue, st .pre .works .laid .roomy .few-queues);
+      bit-is = omega (arith, c .readiness .ensures, bit-le r);
+      fits = rw (c .readiness .ensures) (omega (arith, st .pre .ours (c .before .before .if1 .taken), fits st));
+    }
 
--- src/lib.rt:41:9
 mul-words : tie.Need-mul-words
 mul-words c = search needs
 
--- src/lib.rt:41:9
-element-write-words : tie.Need-element-write-words
-element-write-words c = search needs
+slice-write-words : tie.Need-slice-write-words
+slice-write-words c = search needs
 
--- src/lib.rt:36:1
+same-length : tie.Need-same-length
+same-length c = search needs
+
 returns : tie.Need-returns
-returns c = ?
+returns c =
+    let rd = c .before in
+    let st = rd .before .before .before .before .before .before .before in
+    let a = st .args in
+    kept-put (a .s) (a .m .now) (a .words .now) (a .made .now) (a .p) (c .with-bit .result) (st .pre .port) (st .pre .wide) (st .pre .marked) (st .pre .others)
+    (omega (arith, rw (rd .readiness .ensures) at (c .with-bit .ensures), st .pre .ours (rd .before .before .if1 .taken)))
 
--- src/lib.rt:36:1
 returns-2 : tie.Need-returns-2
-returns-2 c = ?
+returns-2 c = record { wide = st .pre .wide; marked = st .pre .marked; right = λ r hr. go r hr (ℕ-discrete r (st .args .p)) }
+  where
+    st : tie.Start
+    st = c .before .before .before .before .before
+
+    go : (r : ℕ) → r < st .args .s .ports → Dec (r ≡ st .args .p) → Right (st .args .s) (st .args .m .now) (st .args .words .now) (st .args .made .now) r
+    go r hr (yes e) i = absurd (c .if1 .left (rw e at i))
+    go r hr (no d) i = st .pre .others r hr d i
 
 pub renew-spec : {M : Type 1} → statement M
 renew-spec =
     tie.close
     (tie.spec
-    element-copy-out-if1
+    shared-slice-read-if1
     mul-with-bit
-    element-copy-out-with-bit
+    slice-read-with-bit
     readiness-requires
     with-bit-requires
     mul-words
-    element-write-words
+    slice-write-words
+    same-length
     returns
     returns-2)

@@ -1,33 +1,35 @@
+-- `words::with_bit` meets its contract: the bit that was there is taken off, and the new one put on. Assumes nothing.
+use native.Mathlib.Omega.{arith}
 use borrow.Author.Needs.{needs}
+use Rattle.words.proofs.Laws.{shifted, old-bit, old-part}
 use Rattle.words.proofs.with_bit.Statement.{statement}
 use Rattle.words.proofs.with_bit.Tie as tie
-use Rattle.words.proofs.with_bit.Reads as reads
-use Rattle.words.proofs.with_bit.Lts as lts
 
--- src/lib.rt:32:14
 shr-result : tie.Need-shr-result
 shr-result c = search needs
 
--- src/lib.rt:32:13
 shl-result : tie.Need-shl-result
 shl-result c = search needs
 
--- src/lib.rt:32:5
 sub-result : tie.Need-sub-result
-sub-result c = ?
+sub-result c =
+    let a = c .args in
+    rw (shifted _ (a .q) (old-bit (a .word) (a .q)) (c .pre .low)) (old-part (a .word) (a .q))
 
--- src/lib.rt:32:40
 shl-result-2 : tie.Need-shl-result-2
 shl-result-2 c = search needs
 
--- src/lib.rt:32:5
 add-result : tie.Need-add-result
-add-result c = ?
+add-result c =
+    let a = c .args in
+    rw (shifted _ (a .q) (old-bit (a .word) (a .q)) (c .pre .low), shifted (a .b) (a .q) (c .pre .bit-is) (c .pre .low))
+    (omega (arith, old-part (a .word) (a .q), c .pre .fits))
 
--- src/lib.rt:27:1
 returns : tie.Need-returns
-returns c = ?
+returns c =
+    let a = c .args in
+    rw (shifted _ (a .q) (old-bit (a .word) (a .q)) (c .pre .low), shifted (a .b) (a .q) (c .pre .bit-is) (c .pre .low))
+    (omega (arith, old-part (a .word) (a .q)))
 
 pub with-bit-spec : {M : Type 1} → statement M
-with-bit-spec =
-    tie.close (tie.spec shr-result shl-result sub-result shl-result-2 add-result returns)
+with-bit-spec = tie.close (tie.spec shr-result shl-result sub-result shl-result-2 add-result returns)

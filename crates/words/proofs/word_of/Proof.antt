@@ -1,56 +1,66 @@
+-- `words::word_of` meets its contract: a word that is made is as kept, and one that is made now is right. Assumes nothing.
+use mathlib.Core.Path.{sym, _∙_}
 use borrow.Author.Needs.{needs}
+use lib.ListN.{set, length-set}
+use lib.Seq.{getD-set-other}
+use Rattle.words.proofs.Laws.{kept-put}
 use Rattle.words.proofs.word_of.Statement.{statement}
 use Rattle.words.proofs.word_of.Tie as tie
-use Rattle.words.proofs.word_of.Reads as reads
-use Rattle.words.proofs.word_of.Lts as lts
-use Rattle.turns.proofs.ready_word.Reads as ready-word-reads
 
--- src/lib.rt:17:8
-element-copy-out-if1 : tie.Need-element-copy-out-if1
-element-copy-out-if1 c = search needs
+slice-read-if1 : tie.Need-slice-read-if1
+slice-read-if1 c = search needs
 
--- src/lib.rt:18:16
 mul-result : tie.Need-mul-result
 mul-result c = search needs
 
--- src/lib.rt:18:16
-element-copy-out-result : tie.Need-element-copy-out-result
-element-copy-out-result c = search needs
+slice-read-result : tie.Need-slice-read-result
+slice-read-result c = search needs
 
--- src/lib.rt:18:9
 returns : tie.Need-returns
-returns c = ?
+returns c =
+    let st = c .before .before .before .before .before .before in
+    (st .pre .kept .right (st .args .p) (st .pre .port) (c .before .if1 .taken), st .pre .kept)
 
--- src/lib.rt:20:9
 ready-word-requires : tie.Need-ready-word-requires
 ready-word-requires c κs = search needs
 
--- src/lib.rt:21:5
 mul-words : tie.Need-mul-words
 mul-words c = search needs
 
--- src/lib.rt:21:5
-element-write-words : tie.Need-element-write-words
-element-write-words c = search needs
+slice-write-words : tie.Need-slice-write-words
+slice-write-words c = search needs
 
--- src/lib.rt:22:5
-element-write-made : tie.Need-element-write-made
-element-write-made c = search needs
+slice-write-made : tie.Need-slice-write-made
+slice-write-made c = search needs
 
--- src/lib.rt:12:1
+same-length : tie.Need-same-length
+same-length c = search needs
+
+same-length-2 : tie.Need-same-length-2
+same-length-2 c = search needs
+
 returns-2 : tie.Need-returns-2
-returns-2 c = ?
+returns-2 c =
+    let st = c .before .before .before .before .before .before in
+    let a = st .args in
+    let k = st .pre .kept in
+    (c .ready-word .ensures,
+      kept-put (a .s) (a .m .now) (a .words .now) (set (a .made .now) (a .p) 1) (a .p) (c .ready-word .result) (st .pre .port) (k .wide) (rw length-set (k .marked))
+      (λ r hr d i. k .right r hr (sym (getD-set-other (a .made .now) (a .p) r 1 0 d) ∙ i))
+      (c .ready-word .ensures))
 
 pub word-of-spec : {M : Type 1} → statement M
 word-of-spec =
     tie.close
     (tie.spec
-    element-copy-out-if1
+    slice-read-if1
     mul-result
-    element-copy-out-result
+    slice-read-result
     returns
     ready-word-requires
     mul-words
-    element-write-words
-    element-write-made
+    slice-write-words
+    slice-write-made
+    same-length
+    same-length-2
     returns-2)
