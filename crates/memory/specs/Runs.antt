@@ -13,7 +13,7 @@ use Rattle.ledger.specs.Calls.{Act, arrive, ready}
 use Rattle.ledger.specs.Desk.{Desk, none, has, Call, setup, act, afterCalls, answersOf}
 use Rattle.ledger.specs.Rounds.{answerBytes, answersIn, runs, doneBy}
 use Rattle.fields.specs.Field.{fieldAt}
-use Rattle.fields.specs.Calls.{toldBy}
+use Rattle.fields.specs.Calls.{wholeTold}
 use Rattle.fields.specs.Orders.{headerIn, callIn}
 use Rattle.fields.specs.declared.Field.{Field}
 use Rattle.fields.specs.declared.Field.the-variants as field
@@ -49,10 +49,13 @@ isOwn size tag len = eqb tag 2 && eqb len (1 + size)
 abbrev pub ownArrival : ℕ → List ℕ → ℕ → Act
 ownArrival size s v = arrive (number 1 s v) (take size (drop (v + 1) s))
 
+abbrev pub wholeAsked : ℕ → List ℕ → ℕ → ℕ → ℕ → ℕ → Ask
+wholeAsked size s tag v len next = cond (isOwn size tag len) (does (ownArrival size s v) next) (ofBench s (wholeTold s tag v len next))
+
 abbrev pub askedBy : ℕ → List ℕ → Field → Ask
-askedBy size s (field.Whole tag v len next) = cond (isOwn size tag len) (does (ownArrival size s v) next) (ofBench s (toldBy s (field.Whole tag v len next)))
-askedBy size s field.Cut = ofBench s (toldBy s field.Cut)
-askedBy size s field.End = ofBench s (toldBy s field.End)
+askedBy size s (field.Whole tag v len next) = wholeAsked size s tag v len next
+askedBy size s field.Cut = bad
+askedBy size s field.End = ended
 
 -- at a place of the fields, of a switch whose headers have so many bytes
 unfoldable pub askedAt : ℕ → List ℕ → ℕ → Ask
