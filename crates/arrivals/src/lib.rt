@@ -9,6 +9,7 @@ use ledger::Sent;
 ghost use mathlib.Core.Path.{_≡_};
 ghost use mathlib.Core.List.{List};
 ghost use Prim.Native.Nat.{ℕ};
+ghost use Rattle.crc.specs.Crc.{Steps};
 ghost use Rattle.ledger.specs.Header.{form};
 ghost use Rattle.ledger.specs.Ledger.{recorded};
 ghost use Rattle.ledger.specs.Answers.{sentOf, entryReply};
@@ -77,18 +78,18 @@ fn admit(m: &[u8], s: Shape, p: usize, f: HeaderFields) -> Admitted
 }
 
 // The header's own refusals, by the form of the headers that the switch takes.
-fn judge_header(h: &[u8], s: Shape, port: u32) -> Judged
-    requires { ⌜ Laid s ⌝ }
+fn judge_header(steps: &[u8; 256], h: &[u8], s: Shape, port: u32) -> Judged
+    requires { ⌜ Steps (now steps) × Laid s ⌝ }
     ensures { λ r. ⌜ verdictOf r ≡ verdict (form (settingsOf s)) (s .queues) port (now (h .entry)) ⌝ }
 {
     let queues = s.queues as u32;
     let form = forms::form_of(s.edition as u32, s.ports as u32, queues);
-    header::judge(h, form, queues, port)
+    header::judge(steps, h, form, queues, port)
 }
 
 // The first refusal of an arrival that applies, or the packet that arrives.
-pub fn judge_arrive(m: &[u8], s: Shape, port: u32, h: &[u8]) -> Admitted
-    requires { ⌜ Works s (now m) ⌝ }
+pub fn judge_arrive(steps: &[u8; 256], m: &[u8], s: Shape, port: u32, h: &[u8]) -> Admitted
+    requires { ⌜ Steps (now steps) × Works s (now m) ⌝ }
     ensures { λ r. ⌜ admittedOf r ≡ judgedArrival (settingsOf s) (now (m .entry)) port (now (h .entry)) ⌝ }
 {
     let p = port as usize;
@@ -96,7 +97,7 @@ pub fn judge_arrive(m: &[u8], s: Shape, port: u32, h: &[u8]) -> Admitted
     if ports <= p {
         return Admitted::No(Refusal::NoPort);
     }
-    let judged = judge_header(h, s, port);
+    let judged = judge_header(steps, h, s, port);
     match judged {
         Judged::No(r) => Admitted::No(r),
         Judged::Good(f) => admit(m, s, p, f),
@@ -119,12 +120,13 @@ fn take_in(m: &mut [u8], s: Shape, p: usize, k: Sent)
     parts::set_arrival(m, s, p, q, credit - price);
 }
 
-// The header recorded for the port's first free node, which goes to the end of the ingress list. A port that lies is halted.
-pub fn arrive(m: &mut [u8], s: Shape, port: u32, h: &[u8]) -> Entry
-    requires { ⌜ Works s (now m) ⌝ }
+// The header recorded for the port's first free node, which goes to the end of the ingress list. A port that lies is halted. The checksum's
+// table is lent: a run of arrivals puts it on the stack once.
+pub fn arrive_by(steps: &[u8; 256], m: &mut [u8], s: Shape, port: u32, h: &[u8]) -> Entry
+    requires { ⌜ Steps (now steps) × Works s (now m) ⌝ }
     ensures { λ r. ⌜ _≡_ {A = Reply × List ℕ} (entryReply r, now (m .exit)) (acted (settingsOf s) (now (m .entry)) (arrive port (now (h .entry)))) ⌝ }
 {
-    let admitted = judge_arrive(m, s, port, h);
+    let admitted = judge_arrive(steps, m, s, port, h);
     match admitted {
         Admitted::No(r) => {
             halts::halt(m, s, port, r);
@@ -136,4 +138,12 @@ pub fn arrive(m: &mut [u8], s: Shape, port: u32, h: &[u8]) -> Entry
             Entry::Node(id)
         }
     }
+}
+
+// The same by a table of its own.
+pub fn arrive(m: &mut [u8], s: Shape, port: u32, h: &[u8]) -> Entry
+    requires { ⌜ Works s (now m) ⌝ }
+    ensures { λ r. ⌜ _≡_ {A = Reply × List ℕ} (entryReply r, now (m .exit)) (acted (settingsOf s) (now (m .entry)) (arrive port (now (h .entry)))) ⌝ }
+{
+    arrive_by(&crc::steps(), m, s, port, h)
 }

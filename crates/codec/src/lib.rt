@@ -74,7 +74,8 @@ pub fn read(edition: u32, ports: u32, queues: u32, h: &[u8]) -> HeaderRead
         return HeaderRead::No(Refusal::BadSetting);
     }
     let form = forms::form_of(edition, ports, queues);
-    match header::judge_read(h, form, queues) {
+    let steps = crc::steps();
+    match header::judge_read(&steps, h, form, queues) {
         Judged::Good(f) => HeaderRead::Label(label_of(f)),
         Judged::No(r) => HeaderRead::No(r),
     }

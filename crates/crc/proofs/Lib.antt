@@ -1,3 +1,3 @@
 pub mod Crc
-pub mod Steps
+pub mod Entries
 pub mod Sums

@@ -6,6 +6,7 @@ ghost use Prim.Native.Nat.{_+_, _^_, _<_, _≤_};
 ghost use lib.ListN.{length};
 ghost use Rattle.numbers.specs.Bytes.{number};
 ghost use Rattle.numbers.specs.Fields.{bits, unpack};
+ghost use Rattle.crc.specs.Crc.{Steps};
 ghost use Rattle.ledger.specs.Header.{fieldsOf, headerSize, price};
 ghost use Rattle.forms.specs.Formed.{formIn, Formed};
 ghost use Rattle.header.specs.Front.{frontWidths, frontOf};
@@ -139,8 +140,8 @@ pub fn parse(h: &[u8], form: HeaderForm) -> Parsed
 }
 
 // The refusals that are tested before the source: of the bytes, and of the reserved bits.
-fn open(h: &[u8], form: HeaderForm) -> Judged
-    requires { ⌜ Formed form ⌝ }
+fn open(steps: &[u8; 256], h: &[u8], form: HeaderForm) -> Judged
+    requires { ⌜ Steps (now steps) × Formed form ⌝ }
     ensures { λ r. ⌜ verdictOf r ≡ opened (formIn form) (now (h .entry)) ⌝ }
 {
     let Parsed::Header(f) = parse(h, form) else {
@@ -148,7 +149,7 @@ fn open(h: &[u8], form: HeaderForm) -> Judged
     };
     let reserved = f.reserved;
     let body = (form.size - 1) as usize;
-    let sum = crc::checksum(&h[..body]);
+    let sum = crc::checksum_by(steps, &h[..body]);
     if f.check != sum {
         return Judged::No(Refusal::Checksum);
     }
@@ -175,11 +176,11 @@ fn settle(f: HeaderFields, form: HeaderForm, queues: u32) -> Judged
 }
 
 // The header's own refusals at the port where it arrives, in a switch of so many queues, in the order in which they are tested.
-pub fn judge(h: &[u8], form: HeaderForm, queues: u32, port: u32) -> Judged
-    requires { ⌜ Formed form ⌝ }
+pub fn judge(steps: &[u8; 256], h: &[u8], form: HeaderForm, queues: u32, port: u32) -> Judged
+    requires { ⌜ Steps (now steps) × Formed form ⌝ }
     ensures { λ r. ⌜ verdictOf r ≡ verdict (formIn form) queues port (now (h .entry)) ⌝ }
 {
-    match open(h, form) {
+    match open(steps, h, form) {
         Judged::Good(f) => {
             let source = f.source as u32;
             if source != port {
@@ -192,11 +193,11 @@ pub fn judge(h: &[u8], form: HeaderForm, queues: u32, port: u32) -> Judged
 }
 
 // The refusals of a header that arrives nowhere: an arrival's, without that of its source.
-pub fn judge_read(h: &[u8], form: HeaderForm, queues: u32) -> Judged
-    requires { ⌜ Formed form ⌝ }
+pub fn judge_read(steps: &[u8; 256], h: &[u8], form: HeaderForm, queues: u32) -> Judged
+    requires { ⌜ Steps (now steps) × Formed form ⌝ }
     ensures { λ r. ⌜ verdictOf r ≡ readable (formIn form) queues (now (h .entry)) ⌝ }
 {
-    match open(h, form) {
+    match open(steps, h, form) {
         Judged::Good(f) => settle(f, form, queues),
         Judged::No(r) => Judged::No(r),
     }

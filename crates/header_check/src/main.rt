@@ -33,7 +33,7 @@ fn show_fields(f: HeaderFields) {
 
 fn show(h: &[u8], port: u32) {
     let form = forms::form_of(0, 4, 24);
-    match header::judge(h, form, 24, port) {
+    match header::judge(&crc::steps(), h, form, 24, port) {
         Judged::Good(f) => show_fields(f),
         Judged::No(r) => number(r.number() as u64),
     }

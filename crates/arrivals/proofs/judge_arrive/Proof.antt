@@ -34,11 +34,11 @@ admit-requires c κs =
     let st = e .before .before .before in
     record {
       priced = record {
-        laid = st .pre .laid;
+        laid = st .pre .1 .laid;
         len = laws.len-in (form (settingsOf (st .args .s))) (st .args .s .queues)
             (st .args .port) (st .args .h .now) _ (passed (c .before));
       };
-      long = st .pre .state .long;
+      long = st .pre .1 .state .long;
       port = e .if1 .left;
       queue = laws.known-queue (form (settingsOf (st .args .s))) (st .args .s .queues) (st .args .port) (st .args .h .now) _ (passed (c .before));
     }

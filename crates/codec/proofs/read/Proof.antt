@@ -15,6 +15,10 @@ use Rattle.codec.proofs.read.Tie as tie
 abbrev start : tie.Else1 → tie.Start
 start c = c .before .before .before
 
+-- the form was found, from the header's judge on: the checksum's table is made between
+abbrev formed : tie.After-judge-read → tie.After-form-of
+formed c = c .before .before .before
+
 -- the counts are in their rows
 counted : (c : tie.Else1) → countsIn (start c .args .edition) (start c .args .ports) (start c .args .queues) ≡ true
 counted c = sym (c .before .counts-in .ensures) ∙ not-false (c .before .counts-in .result) (c .if1 .left)
@@ -34,8 +38,11 @@ form-of-requires c κs =
     let k = counts-mean (a .edition) (a .ports) (a .queues) (counted c) in
     (k .some-ports, k .few-ports, k .some-queues, k .few-queues)
 
+steps-requires : tie.Need-steps-requires
+steps-requires c κs = search needs
+
 judge-read-requires : tie.Need-judge-read-requires
-judge-read-requires c κs = c .form-of .ensures .formed
+judge-read-requires c κs = search needs
 
 enum-known-f : tie.Need-enum-known-f
 enum-known-f c = search needs
@@ -50,7 +57,7 @@ returns-2 : tie.Need-returns-2
 returns-2 c =
     let f = c .before .before in
     let judged = f .before .before in
-    let form = judged .before in
+    let form = formed judged in
     let a = start (form .before) .args in
     ap gives (c .label-of .ensures)
     ∙ reads-good (a .edition) (a .ports) (a .queues) (a .h .now) (counted (form .before)) (formIn (form .form-of .result)) (form .form-of .ensures .form-is)
@@ -60,7 +67,7 @@ returns-3 : tie.Need-returns-3
 returns-3 c =
     let r = c .before in
     let judged = r .before .before in
-    let form = judged .before in
+    let form = formed judged in
     let a = start (form .before) .args in
     reads-bad (a .edition) (a .ports) (a .queues) (a .h .now) (counted (form .before)) (formIn (form .form-of .result)) (form .form-of .ensures .form-is)
     (numberOf (r .r .given .0 .0)) (sym (ap verdictOf (r .r .given .1)) ∙ judged .judge-read .ensures)
@@ -72,6 +79,7 @@ read-spec =
     counts-in-requires
     returns
     form-of-requires
+    steps-requires
     judge-read-requires
     enum-known-f
     label-of-requires

@@ -5,7 +5,7 @@ use native.Mathlib.Omega.{arith}
 use lib.Bits.{bitXor, xor-lt}
 use borrow.Author.Needs.{needs}
 use Rattle.crc.proofs.Crc.{byte-starts}
-use Rattle.crc.proofs.Steps.{step-at}
+use Rattle.crc.proofs.Entries.{step-at}
 use Rattle.crc.proofs.step.Statement.{statement}
 use Rattle.crc.proofs.step.Tie as tie
 

@@ -32,17 +32,17 @@ found : (c : tie.After-f) → parsed (form-of c) (bytes c) ≡ fields (fields-of
 found c = sym (c .before .before .parse .ensures) ∙ ap parsedOf (c .f .given .1)
 
 shape : (c : tie.After-f) → Shaped (start c .args .form)
-shape c = shaped (start c .args .form) (start c .pre)
+shape c = shaped (start c .args .form) (start c .pre .1)
 
 -- where they were found, from the checksum on
-abbrev at-sum : tie.After-checksum → tie.After-f
+abbrev at-sum : tie.After-checksum-by → tie.After-f
 at-sum c = c .before .before .before .before
 
-summed : (c : tie.After-checksum) → c .checksum .result ≡ crc8 (take (bodySize (form-of (at-sum c))) (bytes (at-sum c)))
+summed : (c : tie.After-checksum-by) → c .checksum-by .result ≡ crc8 (take (bodySize (form-of (at-sum c))) (bytes (at-sum c)))
 summed c =
     let s = shape (at-sum c) in
     let body : start (at-sum c) .args .form .size - 1 ≡ bodySize (form-of (at-sum c)) = omega arith in
-    c .checksum .ensures ∙ ap (λ (k : ℕ). crc8 (take k (bytes (at-sum c)))) body
+    c .checksum-by .ensures ∙ ap (λ (k : ℕ). crc8 (take k (bytes (at-sum c)))) body
 
 -- the test of the checksum was passed
 passed : (c : tie.Else1)
@@ -70,15 +70,15 @@ sub-body c = let s = shape (c .before .before) in omega arith
 cast-body : tie.Need-cast-body
 cast-body c = search needs
 
-slice-aggregate-checksum : tie.Need-slice-aggregate-checksum
-slice-aggregate-checksum c =
+slice-aggregate-checksum-by : tie.Need-slice-aggregate-checksum-by
+slice-aggregate-checksum-by c =
     let f = c .before .before .before in
     let s = shape f in
     let right = parsed-size (form-of f) (bytes f) (fields-of f) (found f) in
-    simp length-take (omega (arith, start f .pre .size-is))
+    simp length-take (omega (arith, start f .pre .1 .size-is))
 
-checksum-requires : tie.Need-checksum-requires
-checksum-requires c κs = search needs
+checksum-by-requires : tie.Need-checksum-by-requires
+checksum-by-requires c κs = search needs
 
 returns-2 : tie.Need-returns-2
 returns-2 c =
@@ -106,8 +106,8 @@ open-spec =
     returns
     sub-body
     cast-body
-    slice-aggregate-checksum
-    checksum-requires
+    slice-aggregate-checksum-by
+    checksum-by-requires
     returns-2
     returns-3
     returns-4)

@@ -1,4 +1,4 @@
--- `arrivals::arrive` meets its contract: the judge decides; the packet that it accepts is taken in, else the port is halted if that is due.
+-- `arrivals::arrive_by` meets its contract: the judge decides; the packet that it accepts is taken in, else the port is halted if that is due.
 -- Assumes nothing.
 use mathlib.Core.Path.{sym, ap, _∙_}
 use borrow.Author.Needs.{needs}
@@ -6,8 +6,8 @@ use Rattle.ledger.specs.Answers.{sentOf}
 use Rattle.layout.specs.Tables.{settingsOf}
 use Rattle.arrivals.specs.Admission.{admittedOf}
 use Rattle.arrivals.proofs.Laws.{turned-away, Arrives, arrives}
-use Rattle.arrivals.proofs.arrive.Statement.{statement}
-use Rattle.arrivals.proofs.arrive.Tie as tie
+use Rattle.arrivals.proofs.arrive_by.Statement.{statement}
+use Rattle.arrivals.proofs.arrive_by.Tie as tie
 
 judge-arrive-requires : tie.Need-judge-arrive-requires
 judge-arrive-requires c κs = search needs
@@ -26,7 +26,7 @@ went : (c : tie.After-admitted2) → let a = c .before .before .before .before .
 went c =
     let st = c .before .before .before .before .before .before in
     let a = st .args in
-    arrives (a .s) (a .m .now) (st .pre) (a .port) (a .h .now) (sentOf (c .admitted2 .given .0 .0))
+    arrives (a .s) (a .m .now) (st .pre .1) (a .port) (a .h .now) (sentOf (c .admitted2 .given .0 .0))
     (sym (ap admittedOf (c .admitted2 .given .1)) ∙ c .before .before .judge-arrive .ensures)
 
 take-in-requires : tie.Need-take-in-requires
@@ -52,8 +52,8 @@ returns-2 c =
     let done = c .before .before .before in
     rw (done .take-in .ensures) (sym (went (done .before .before .before) .outcome))
 
-pub arrive-spec : {M : Type 1} → statement M
-arrive-spec =
+pub arrive-by-spec : {M : Type 1} → statement M
+arrive-by-spec =
     tie.close
     (tie.spec
     judge-arrive-requires
