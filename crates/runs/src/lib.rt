@@ -1,0 +1,176 @@
+// The run (paper 02, Q-10), on a memory that is a switch state: the calls that lent fields ask, one after another, each told in four bytes of
+// lent room. The memory is not tested again between them; ready words and the checksum's table are kept from call to call.
+use asks::Asked;
+use asks::Task;
+use layout::Shape;
+use ledger::Entry;
+use ledger::Plain;
+use ledger::Refusal;
+ghost use mathlib.Core.Path.{_≡_};
+ghost use mathlib.Core.List.{List, _++_};
+ghost use Prim.Native.Nat.{ℕ, _+_, _*_, _≤_};
+ghost use lib.ListN.{length, take, drop};
+ghost use Rattle.crc.specs.Crc.{Steps};
+ghost use Rattle.ledger.specs.Buckets.{untimed};
+ghost use Rattle.ledger.specs.Calls.{arrive, stitch, prefetch, credit, mapTo, turn};
+ghost use Rattle.layout.specs.Tables.{settingsOf};
+ghost use Rattle.memory.specs.Judged.{Works};
+ghost use Rattle.memory.specs.Runs.{Report, did, ran};
+ghost use Rattle.asks.specs.Asks.{taskAct, HeaderIn};
+ghost use Rattle.runs.specs.Runs.{whyOf, Going, Done, CanStep};
+
+// Why a run stopped: its fields ended, one of them is bad, or four bytes no longer fit.
+pub enum Why {
+    Ended,
+    BadField,
+    NoRoom,
+}
+
+// How many fields a run did, and why it stopped.
+pub struct Ran {
+    pub count: usize,
+    pub why: Why,
+}
+
+// A run's answer: what it did, or why it is refused.
+pub enum Outcome {
+    Did(Ran),
+    No(Refusal),
+}
+
+// ---- acts that touch a queue: its bit of the port's ready word is made again
+
+fn prefetch(m: &mut [u8], s: Shape, port: u32, queue: u32, words: &mut [u64], made: &mut [u8]) -> [u8; 4]
+    requires { ⌜ Going s (now m) (now words) (now made) ⌝ }
+    ensures { λ r. ⌜ Done s (prefetch port queue) (now (m .entry)) (now (m .exit)) (now (words .exit)) (now (made .exit)) r ⌝ }
+{
+    let answer = moves::prefetch(m, s, port, queue);
+    if let Entry::Node(_) = answer {
+        words::renew(m, s, port as usize, queue as usize, words, made);
+    }
+    answers::of_entry(answer)
+}
+
+fn credit(m: &mut [u8], s: Shape, port: u32, queue: u32, amount: u32, words: &mut [u64], made: &mut [u8]) -> [u8; 4]
+    requires { ⌜ Going s (now m) (now words) (now made) ⌝ }
+    ensures { λ r. ⌜ Done s (credit port queue amount) (now (m .entry)) (now (m .exit)) (now (words .exit)) (now (made .exit)) r ⌝ }
+{
+    let answer = credits::credit(m, s, port, queue, amount);
+    if let Plain::Done = answer {
+        words::renew(m, s, port as usize, queue as usize, words, made);
+    }
+    answers::of_plain(answer)
+}
+
+// A turn: the port's word says which queue is next, and nothing but the node that leaves is told.
+fn turn(m: &mut [u8], s: Shape, port: u32, words: &mut [u64], made: &mut [u8]) -> [u8; 4]
+    requires { ⌜ Going s (now m) (now words) (now made) ⌝ }
+    ensures { λ r. ⌜ Done s (turn untimed port) (now (m .entry)) (now (m .exit)) (now (words .exit)) (now (made .exit)) r ⌝ }
+{
+    let p = port as usize;
+    let ports = s.ports;
+    if ports <= p {
+        return answers::of_refusal(Refusal::NoPort);
+    }
+    let word = words::word_of(m, s, p, words, made);
+    if word == 0 {
+        return [0, 1, 0, 0];
+    }
+    let q = turns::next_queue(m, s, p, word);
+    let x = turns::depart(m, s, p, q);
+    words::renew(m, s, p, q, words, made);
+    answers::of_node(x)
+}
+
+// ---- one call of a run
+
+// The header of an arrival, which stands in the fields; of another task nothing.
+fn header_of(fields: &[u8], task: Task) -> &[u8]
+    requires { ⌜ HeaderIn (length (now fields)) task ⌝ }
+    ensures { λ r. ⌜ ((port at size : ℕ) → task ≡ Task.Arrive port at size → now r ≡ take size (drop at (now (fields .entry)))) ⌝ }
+{
+    let Task::Arrive { port: _, at, size } = task else {
+        return &fields[..0];
+    };
+    let end = at + size;
+    &fields[at..end]
+}
+
+fn carry_out(
+    steps: &[u8; 256],
+    m: &mut [u8],
+    s: Shape,
+    fields: &[u8],
+    task: Task,
+    words: &mut [u64],
+    made: &mut [u8],
+) -> [u8; 4]
+    requires { ⌜ CanStep s task (now steps) (now m) (now fields) (now words) (now made) ⌝ }
+    ensures { λ r. ⌜ Done s (taskAct (now (fields .entry)) task) (now (m .entry)) (now (m .exit)) (now (words .exit)) (now (made .exit)) r ⌝ }
+{
+    let header = header_of(fields, task);
+    match task {
+        Task::Arrive {
+            port,
+            at: _,
+            size: _,
+        } => answers::of_entry(arrivals::arrive_by(steps, m, s, port, header)),
+        Task::Stitch { port } => answers::of_stitched(moves::stitch(m, s, port)),
+        Task::Prefetch { port, queue } => prefetch(m, s, port, queue, words, made),
+        Task::Turn { port } => turn(m, s, port, words, made),
+        Task::Credit {
+            port,
+            queue,
+            amount,
+        } => credit(m, s, port, queue, amount, words, made),
+        Task::Map { id, port } => answers::of_plain(maps::map_to(m, s, id, port)),
+    }
+}
+
+// ---- the run
+
+// Why a run stops at what is no call.
+fn why_of(asked: Asked) -> Why {
+    if let Asked::End = asked {
+        return Why::Ended;
+    }
+    Why::BadField
+}
+
+// The run. Each field is read into a local; one that is no call ends the run there, with the count so far.
+pub fn run(m: &mut [u8], s: Shape, fields: &[u8], room: &mut [u8]) -> Ran
+    requires { ⌜ Works s (now m) ⌝ }
+    ensures { λ r. ⌜ _≡_ {A = Report × List ℕ × List ℕ} (did (r .count) (whyOf (r .why)), now (m .exit), now (room .exit))
+        (ran (settingsOf s) (now (m .entry)) (now (fields .entry)) (now (room .entry))) ⌝ }
+{
+    let steps = crc::steps();
+    let mut words = [0u64; 32];
+    let mut made = [0u8; 32];
+    let size = s.least - 2;
+    let fits = room.len() / 4;
+    let mut at = 0;
+    let mut count = 0;
+    while at < fields.len() {
+        let asked = asks::asked_at(fields, at, size);
+        let Asked::Call { task, next } = asked else {
+            return Ran {
+                count,
+                why: why_of(asked),
+            };
+        };
+        if fits <= count {
+            return Ran {
+                count,
+                why: Why::NoRoom,
+            };
+        }
+        let bytes = carry_out(&steps, m, s, fields, task, &mut words, &mut made);
+        answers::put(room, 4 * count, bytes);
+        at = next;
+        count += 1;
+    }
+    Ran {
+        count,
+        why: Why::Ended,
+    }
+}
