@@ -1,12 +1,9 @@
--- A loop of acts: where it stands, one number more, and its end; the same with turns told in a room. And four bytes put side by side.
--- Assumes nothing.
+-- A loop of acts: where it stands, one number more, and its end; the same with turns told in a room. Assumes nothing.
 use mathlib.Core.Path.{_≡_, refl, sym, ap, _∙_, subst}
-use mathlib.Core.List.{List, [], _∷_, _++_, append-assoc}
+use mathlib.Core.List.{List, [], _∷_, _++_}
 use Prim.Native.Nat.{ℕ, _+_, _*_, _≤_, _<_}
-use native.Mathlib.Numerals.{add-one, add-two, add-three}
 use native.Mathlib.Omega.{arith}
-use lib.ListN.{length, getD, take, drop, set}
-use lib.Seq.{sets-eq}
+use lib.ListN.{length, take, drop}
 use Rattle.ledger.specs.Buckets.{untimed}
 use Rattle.ledger.specs.Calls.{Act, Reply, turn}
 use Rattle.ledger.specs.Rounds.{each, answerBytes, answersIn}
@@ -87,16 +84,3 @@ module _ {s : Shape} {m₀ : List ℕ} {n : ℕ} where
           at .passed .works,
           at .told ∙ ap (λ (k : ℕ). answersIn (answersTo (settingsOf s) m₀ (each one k)) room₀) all,
         )
-
--- ---- four bytes put side by side
-
-pub four-stores : (bs : List ℕ) → length bs ≡ 4 → (l : List ℕ) (i : ℕ) → i + 4 ≤ length l
-    → set (set (set (set l i (getD bs 0 0)) (i + 1) (getD bs 1 0)) (i + 2) (getD bs 2 0)) (i + 3) (getD bs 3 0) ≡ take i l ++ (bs ++ drop (i + 4) l)
-four-stores (a ∷ b ∷ c ∷ d ∷ []) e l i h =
-    let bs = a ∷ b ∷ c ∷ d ∷ [] in
-    simp (add-one, add-two, add-three) (sets-eq bs l i h ∙ append-assoc (take i l) bs (drop (i + 4) l))
-four-stores [] e l i h = absurd (omega arith)
-four-stores (a ∷ []) e l i h = absurd (omega arith)
-four-stores (a ∷ b ∷ []) e l i h = absurd (omega arith)
-four-stores (a ∷ b ∷ c ∷ []) e l i h = absurd (omega arith)
-four-stores (a ∷ b ∷ c ∷ d ∷ x ∷ xs) e l i h = absurd (omega arith)

@@ -4,12 +4,11 @@ use layout::Shape;
 use ledger::Entry;
 use ledger::Plain;
 use ledger::Refusal;
-use ledger::Turned;
 ghost use mathlib.Core.Path.{_≡_};
 ghost use mathlib.Core.List.{List, [], _∷_, _++_};
 ghost use Prim.Native.Nat.{ℕ, _+_, _*_, _≤_, _<_};
 ghost use lib.ListN.{length, take, drop};
-ghost use Rattle.ledger.specs.Answers.{plainReply, turnReply};
+ghost use Rattle.ledger.specs.Answers.{plainReply};
 ghost use Rattle.ledger.specs.Buckets.{untimed};
 ghost use Rattle.ledger.specs.Calls.{Reply, prefetch, turn};
 ghost use Rattle.ledger.specs.Rounds.{each, stitches, prefetches, turns, answerBytes, answersIn};
@@ -63,32 +62,6 @@ fn prefetch_each(m: &mut [u8], s: Shape)
     }
 }
 
-// What a turn tells: refusal number, 1 if idle, entry id or 0.
-fn told(answer: Turned) -> [u8; 4]
-    ensures { λ r. ⌜ r ≡ answerBytes (turnReply answer) ⌝ }
-{
-    match answer {
-        Turned::Idle => [0, 1, 0, 0],
-        Turned::Leaves(k, _) => {
-            let id = k.entry;
-            let x = id.0;
-            [0, 0, (x / 256) as u8, (x % 256) as u8]
-        }
-        Turned::No(no) => [no.number(), 0, 0, 0],
-    }
-}
-
-// Four bytes of the room become these.
-fn put(room: &mut [u8], at: usize, bytes: [u8; 4])
-    requires { ⌜ at + 4 ≤ length (now room) ⌝ }
-    ensures { λ _. ⌜ now (room .exit) ≡ take at (now (room .entry)) ++ (bytes ++ drop (at + 4) (now (room .entry))) ⌝ }
-{
-    room[at] = bytes[0];
-    room[at + 1] = bytes[1];
-    room[at + 2] = bytes[2];
-    room[at + 3] = bytes[3];
-}
-
 // The turn of port p, told in its four bytes of the room.
 fn turn_port(m: &mut [u8], s: Shape, p: usize, room: &mut [u8])
     requires { ⌜ Works s (now m) × (p < s .ports) × (4 * s .ports ≤ length (now room)) ⌝ }
@@ -96,8 +69,8 @@ fn turn_port(m: &mut [u8], s: Shape, p: usize, room: &mut [u8])
     ensures { λ _. ⌜ now (room .exit) ≡ take (4 * p) (now (room .entry))
         ++ (answerBytes (acted (settingsOf s) (now (m .entry)) (turn untimed p) .0) ++ drop (4 * p + 4) (now (room .entry))) ⌝ }
 {
-    let bytes = told(turns::turn(m, s, p as u32));
-    put(room, 4 * p, bytes);
+    let bytes = answers::of_turned(turns::turn(m, s, p as u32));
+    answers::put(room, 4 * p, bytes);
 }
 
 // One turn at each port, in order.

@@ -14,8 +14,8 @@ cast-turn c = omega arith
 turn-requires : tie.Need-turn-requires
 turn-requires c κs = c .before .before .before .pre .0
 
-told-requires : tie.Need-told-requires
-told-requires c κs = search needs
+of-turned-requires : tie.Need-of-turned-requires
+of-turned-requires c κs = search needs
 
 mul-put : tie.Need-mul-put
 mul-put c = omega arith
@@ -32,10 +32,10 @@ same-length-2 c = search needs
 returns : tie.Need-returns
 returns c =
     let put = c .before .before in
-    let told = put .before .before in
-    let turn = told .before .before .before in (
+    let bytes = put .before .before in
+    let turn = bytes .before .before .before in (
       ap (λ (o : Reply × List ℕ). o .1) (turn .turn .ensures),
-      rw (← ap (λ (o : Reply × List ℕ). o .0) (turn .turn .ensures), ← told .told .ensures) (put .put .ensures),
+      rw (← ap (λ (o : Reply × List ℕ). o .0) (turn .turn .ensures), ← bytes .of-turned .ensures) (put .put .ensures),
     )
 
 pub turn-port-spec : {M : Type 1} → statement M
@@ -44,7 +44,7 @@ turn-port-spec =
     (tie.spec
     cast-turn
     turn-requires
-    told-requires
+    of-turned-requires
     mul-put
     put-requires
     same-length

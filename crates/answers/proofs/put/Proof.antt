@@ -1,11 +1,11 @@
--- `rounds::put` meets its contract: four stores side by side. Assumes nothing.
+-- `answers::put` meets its contract: four stores side by side. Assumes nothing.
 use native.Mathlib.Omega.{arith}
 use mir.Syntax.{w8}
 use borrow.Kind.Array.{good-length, eInt}
 use lib.ListN.{length-set}
-use Rattle.rounds.proofs.Rounds.{four-stores}
-use Rattle.rounds.proofs.put.Statement.{statement}
-use Rattle.rounds.proofs.put.Tie as tie
+use Rattle.answers.proofs.Stores.{four-stores}
+use Rattle.answers.proofs.put.Statement.{statement}
+use Rattle.answers.proofs.put.Tie as tie
 
 array-read-room : tie.Need-array-read-room
 array-read-room c = omega arith
