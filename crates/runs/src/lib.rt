@@ -45,10 +45,13 @@ fn prefetch(m: &mut [u8], s: Shape, port: u32, queue: u32, words: &mut [u64], ma
     ensures { λ r. ⌜ Done s (prefetch port queue) (now (m .entry)) (now (m .exit)) (now (words .exit)) (now (made .exit)) r ⌝ }
 {
     let answer = moves::prefetch(m, s, port, queue);
-    if let Entry::Node(_) = answer {
-        words::renew(m, s, port as usize, queue as usize, words, made);
+    match answer {
+        Entry::No(no) => answers::of_refusal(no),
+        Entry::Node(x) => {
+            words::renew(m, s, port as usize, queue as usize, words, made);
+            answers::of_node(x)
+        }
     }
-    answers::of_entry(answer)
 }
 
 fn credit(m: &mut [u8], s: Shape, port: u32, queue: u32, amount: u32, words: &mut [u64], made: &mut [u8]) -> [u8; 4]
@@ -56,10 +59,13 @@ fn credit(m: &mut [u8], s: Shape, port: u32, queue: u32, amount: u32, words: &mu
     ensures { λ r. ⌜ Done s (credit port queue amount) (now (m .entry)) (now (m .exit)) (now (words .exit)) (now (made .exit)) r ⌝ }
 {
     let answer = credits::credit(m, s, port, queue, amount);
-    if let Plain::Done = answer {
-        words::renew(m, s, port as usize, queue as usize, words, made);
+    match answer {
+        Plain::No(no) => answers::of_refusal(no),
+        Plain::Done => {
+            words::renew(m, s, port as usize, queue as usize, words, made);
+            [0u8; 4]
+        }
     }
-    answers::of_plain(answer)
 }
 
 // A turn: the port's word says which queue is next, and nothing but the node that leaves is told.

@@ -1,154 +1,145 @@
+-- `runs::carry_out` meets its contract: task by task. Assumes nothing.
+use mathlib.Core.Path.{refl, sym, ap, _∙_}
 use borrow.Author.Needs.{needs}
+use Rattle.ledger.specs.Calls.{arrive}
+use Rattle.asks.specs.Asks.{taskAct}
+use Rattle.runs.proofs.Laws.{done-untouched, as-task}
 use Rattle.runs.proofs.carry_out.Statement.{statement}
 use Rattle.runs.proofs.carry_out.Tie as tie
-use Rattle.runs.proofs.carry_out.Reads as reads
-use Rattle.runs.proofs.carry_out.Lts as lts
-use Rattle.answers.proofs.of_entry.Reads as of-entry-reads
-use Rattle.answers.proofs.of_plain.Reads as of-plain-reads
-use Rattle.answers.proofs.of_stitched.Reads as of-stitched-reads
-use Rattle.arrivals.proofs.arrive_by.Reads as arrive-by-reads
-use Rattle.maps.proofs.map_to.Reads as map-to-reads
-use Rattle.moves.proofs.stitch.Reads as stitch-reads
-use Rattle.runs.proofs.credit.Reads as credit-reads
-use Rattle.runs.proofs.header_of.Reads as header-of-reads
-use Rattle.runs.proofs.prefetch.Reads as prefetch-reads
-use Rattle.runs.proofs.turn.Reads as turn-reads
 
--- src/lib.rt:111:9
+-- the start, from where the header was found
+abbrev start : tie.After-header-of → tie.Start
+start c = c .before .before .before .before .before
+
 header-of-requires : tie.Need-header-of-requires
 header-of-requires c κs = search needs
 
--- src/lib.rt:114:13
 enum-known-task : tie.Need-enum-known-task
 enum-known-task c = search needs
 
--- src/lib.rt:117:32
 arrive-by-requires : tie.Need-arrive-by-requires
 arrive-by-requires c κs = search needs
 
--- src/lib.rt:117:14
 of-entry-requires : tie.Need-of-entry-requires
 of-entry-requires c κs = search needs
 
--- src/lib.rt:118:24
 enum-known-task-2 : tie.Need-enum-known-task-2
 enum-known-task-2 c = search needs
 
--- src/lib.rt:118:55
 stitch-requires : tie.Need-stitch-requires
 stitch-requires c κs = search needs
 
--- src/lib.rt:118:34
 of-stitched-requires : tie.Need-of-stitched-requires
 of-stitched-requires c κs = search needs
 
--- src/lib.rt:119:26
 enum-known-task-3 : tie.Need-enum-known-task-3
 enum-known-task-3 c = search needs
 
--- src/lib.rt:119:43
 prefetch-requires : tie.Need-prefetch-requires
 prefetch-requires c κs = search needs
 
--- src/lib.rt:120:22
 enum-known-task-4 : tie.Need-enum-known-task-4
 enum-known-task-4 c = search needs
 
--- src/lib.rt:120:32
 turn-requires : tie.Need-turn-requires
 turn-requires c κs = search needs
 
--- src/lib.rt:122:13
 enum-known-task-5 : tie.Need-enum-known-task-5
 enum-known-task-5 c = search needs
 
--- src/lib.rt:125:14
 credit-requires : tie.Need-credit-requires
 credit-requires c κs = search needs
 
--- src/lib.rt:126:21
 enum-known-task-6 : tie.Need-enum-known-task-6
 enum-known-task-6 c = search needs
 
--- src/lib.rt:126:53
 map-to-requires : tie.Need-map-to-requires
 map-to-requires c κs = search needs
 
--- src/lib.rt:126:35
 of-plain-requires : tie.Need-of-plain-requires
 of-plain-requires c κs = search needs
 
--- src/lib.rt:99:1
 same-length : tie.Need-same-length
 same-length c = search needs
 
--- src/lib.rt:99:1
 returns : tie.Need-returns
-returns c = ?
+returns c =
+    let ar = c .before .before .before in
+    let ta = ar .before .before .before in
+    let h = ta .before .before in
+    let st = start h in
+    let a = st .args in
+    as-task (a .s) _ _ (ap (taskAct (a .fields .now)) (ta .task .given .1) ∙ ap (arrive (ta .task .given .0 .0)) (sym (h .header-of .ensures _ _ _ (ta .task .given .1))))
+    (done-untouched (a .s) (a .m .now) (a .words .now) (a .made .now) (st .pre .going) (arrive _ _) _ (ar .arrive-by .ensures) (c .of-entry .ensures) (λ r t. refl))
 
--- src/lib.rt:99:1
 same-length-2 : tie.Need-same-length-2
 same-length-2 c = search needs
 
--- src/lib.rt:99:1
 returns-2 : tie.Need-returns-2
-returns-2 c = ?
+returns-2 c =
+    let ac = c .before .before .before in
+    let ta = ac .before .before .before in
+    let st = start (ta .before .before) in
+    let a = st .args in
+    as-task (a .s) _ _ (ap (taskAct (a .fields .now)) (ta .task2 .given .1))
+    (done-untouched (a .s) (a .m .now) (a .words .now) (a .made .now) (st .pre .going) _ _ (ac .stitch .ensures .0) (c .of-stitched .ensures) (λ r t. refl))
 
--- src/lib.rt:99:1
 same-length-3 : tie.Need-same-length-3
 same-length-3 c = search needs
 
--- src/lib.rt:99:1
 same-length-4 : tie.Need-same-length-4
 same-length-4 c = search needs
 
--- src/lib.rt:99:1
 same-length-5 : tie.Need-same-length-5
 same-length-5 c = search needs
 
--- src/lib.rt:99:1
 returns-3 : tie.Need-returns-3
-returns-3 c = ?
+returns-3 c =
+    let ac = c .before .before .before .before .before .before in
+    let ta = ac .before .before .before .before .before in
+    as-task _ _ _ (ap (taskAct (start (ta .before .before) .args .fields .now)) (ta .task3 .given .1)) (ac .prefetch .ensures)
 
--- src/lib.rt:99:1
 same-length-6 : tie.Need-same-length-6
 same-length-6 c = search needs
 
--- src/lib.rt:99:1
 same-length-7 : tie.Need-same-length-7
 same-length-7 c = search needs
 
--- src/lib.rt:99:1
 same-length-8 : tie.Need-same-length-8
 same-length-8 c = search needs
 
--- src/lib.rt:99:1
 returns-4 : tie.Need-returns-4
-returns-4 c = ?
+returns-4 c =
+    let ac = c .before .before .before .before .before .before in
+    let ta = ac .before .before .before .before .before in
+    as-task _ _ _ (ap (taskAct (start (ta .before .before) .args .fields .now)) (ta .task4 .given .1)) (ac .turn .ensures)
 
--- src/lib.rt:99:1
 same-length-9 : tie.Need-same-length-9
 same-length-9 c = search needs
 
--- src/lib.rt:99:1
 same-length-10 : tie.Need-same-length-10
 same-length-10 c = search needs
 
--- src/lib.rt:99:1
 same-length-11 : tie.Need-same-length-11
 same-length-11 c = search needs
 
--- src/lib.rt:99:1
 returns-5 : tie.Need-returns-5
-returns-5 c = ?
+returns-5 c =
+    let ac = c .before .before .before .before .before .before in
+    let ta = ac .before .before .before .before .before in
+    as-task _ _ _ (ap (taskAct (start (ta .before .before) .args .fields .now)) (ta .task5 .given .1)) (ac .credit .ensures)
 
--- src/lib.rt:99:1
 same-length-12 : tie.Need-same-length-12
 same-length-12 c = search needs
 
--- src/lib.rt:99:1
 returns-6 : tie.Need-returns-6
-returns-6 c = ?
+returns-6 c =
+    let ac = c .before .before .before in
+    let ta = ac .before .before .before in
+    let st = start (ta .before .before) in
+    let a = st .args in
+    as-task (a .s) _ _ (ap (taskAct (a .fields .now)) (ta .task6 .given .1))
+    (done-untouched (a .s) (a .m .now) (a .words .now) (a .made .now) (st .pre .going) _ _ (ac .map-to .ensures) (c .of-plain .ensures) (λ r t. refl))
 
 pub carry-out-spec : {M : Type 1} → statement M
 carry-out-spec =

@@ -1,40 +1,45 @@
+-- `runs::header_of` meets its contract: by whether the task is an arrival, of which what it requires speaks. Assumes nothing.
+use mathlib.Core.Path.{_≡_, subst}
+use mathlib.Core.List.{[], _∷_}
+use Prim.Native.Nat.{_+_, _≤_}
+use native.Mathlib.Omega.{arith}
+use lib.ListN.{length}
+use types.Run.{miss}
 use borrow.Author.Needs.{needs}
+use Rattle.asks.specs.Asks.{HeaderIn}
+use Rattle.runs.proofs.Laws.{same-header}
 use Rattle.runs.proofs.header_of.Statement.{statement}
 use Rattle.runs.proofs.header_of.Tie as tie
-use Rattle.runs.proofs.header_of.Reads as reads
-use Rattle.runs.proofs.header_of.Lts as lts
 
--- src/lib.rt:92:33
+-- an arrival's header stands in the fields
+within : (c : tie.After-task) → let h = c .task .given .0 .1 in h .0 + h .1 .0 ≤ length (c .before .before .args .fields .now)
+within c = let st = c .before .before in subst (HeaderIn (length (st .args .fields .now))) (c .task .given .1) (st .pre)
+
 enum-known-task : tie.Need-enum-known-task
 enum-known-task c = search needs
 
--- src/lib.rt:93:9
 slice-aggregate-result : tie.Need-slice-aggregate-result
 slice-aggregate-result c = search needs
 
--- src/lib.rt:93:9
 returns : tie.Need-returns
-returns c = ?
+returns c port at size e = absurd (miss (1 ∷ 2 ∷ 3 ∷ 4 ∷ 5 ∷ []) 0 tt (rw e at (c .before .match .keys2)))
 
--- src/lib.rt:95:15
 add-end : tie.Need-add-end
-add-end c = ?
+add-end c = omega (arith, within (c .before))
 
--- src/lib.rt:96:5
 sub-result : tie.Need-sub-result
 sub-result c = search needs
 
--- src/lib.rt:96:5
 part-result-start : tie.Need-part-result-start
 part-result-start c = search needs
 
--- src/lib.rt:96:5
 part-result-end : tie.Need-part-result-end
-part-result-end c = ?
+part-result-end c = omega (arith, within (c .before))
 
--- src/lib.rt:88:1
 returns-2 : tie.Need-returns-2
-returns-2 c = ?
+returns-2 c port at size e =
+    let ta = c .before .before in
+    same-header (ta .before .before .args .fields .now) _ _ _ _ port at size (ta .task .given .1) e
 
 pub header-of-spec : {M : Type 1} → statement M
 header-of-spec =

@@ -1,52 +1,89 @@
+-- `runs::prefetch` meets its contract: refused, or done and the bit made again. Assumes nothing.
+use mathlib.Core.Path.{ap}
 use borrow.Author.Needs.{needs}
+use Rattle.ledger.specs.Answers.{entryReply}
+use Rattle.ledger.specs.Calls.{prefetch, entry}
+use Rattle.runs.proofs.Laws.{prefetch-stale, done-refused, done-renewed}
 use Rattle.runs.proofs.prefetch.Statement.{statement}
 use Rattle.runs.proofs.prefetch.Tie as tie
-use Rattle.runs.proofs.prefetch.Reads as reads
-use Rattle.runs.proofs.prefetch.Lts as lts
-use Rattle.answers.proofs.of_entry.Reads as of-entry-reads
-use Rattle.moves.proofs.prefetch.Reads as prefetch-reads
-use Rattle.words.proofs.renew.Reads as renew-reads
 
--- src/lib.rt:47:9
+-- the moments, each from the next
+abbrev start : tie.After-prefetch → tie.Start
+start c = c .before .before .before .before .before
+
+abbrev refused-at : tie.After-answer → tie.After-prefetch
+refused-at c = c .before .before .before .before
+
+abbrev done : tie.After-answer2 → tie.After-prefetch
+done c = c .before .before .before .before
+
 prefetch-requires : tie.Need-prefetch-requires
 prefetch-requires c κs = search needs
 
--- src/lib.rt:49:22
-enum-told : tie.Need-enum-told
-enum-told c = search needs
+enum-known-answer : tie.Need-enum-known-answer
+enum-known-answer c = search needs
 
--- src/lib.rt:49:9
+of-refusal-requires : tie.Need-of-refusal-requires
+of-refusal-requires c κs = search needs
+
+enum-known-answer-2 : tie.Need-enum-known-answer-2
+enum-known-answer-2 c = search needs
+
 renew-requires : tie.Need-renew-requires
-renew-requires c κs = ?
+renew-requires c κs =
+    let an = c .before .before .before .before in
+    let pf = done an in
+    let st = start pf in
+    let a = st .args in
+    prefetch-stale (a .s) (a .m .now) (a .words .now) (a .made .now) (st .pre) (a .port) (a .queue) _ _ _ (ap entryReply (an .answer2 .given .1)) (pf .prefetch .ensures)
 
-enum-told-2 : tie.Need-enum-told-2
-enum-told-2 c = search needs
+of-node-requires : tie.Need-of-node-requires
+of-node-requires c κs = search needs
 
--- src/lib.rt:51:5
-of-entry-requires : tie.Need-of-entry-requires
-of-entry-requires c κs = search needs
-
--- src/lib.rt:43:1
 same-length : tie.Need-same-length
 same-length c = search needs
 
--- src/lib.rt:43:1
-same-length-2 : tie.Need-same-length-2
-same-length-2 c = ?
-
--- src/lib.rt:43:1
 returns : tie.Need-returns
-returns c = ?
+returns c =
+    let no = c .before .before in
+    let pf = refused-at no in
+    let st = start pf in
+    let a = st .args in
+    done-refused (a .s) (a .m .now) (a .words .now) (a .made .now) (st .pre) (prefetch (a .port) (a .queue)) _ _
+    (ap entryReply (no .answer .given .1)) (pf .prefetch .ensures) (c .of-refusal .ensures)
+
+same-length-2 : tie.Need-same-length-2
+same-length-2 c = search needs
+
+same-length-3 : tie.Need-same-length-3
+same-length-3 c = search needs
+
+same-length-4 : tie.Need-same-length-4
+same-length-4 c = search needs
+
+returns-2 : tie.Need-returns-2
+returns-2 c =
+    let rn = c .before .before .before in
+    let an = rn .before .before .before .before .before in
+    let pf = done an in
+    let st = start pf in
+    let a = st .args in
+    done-renewed (a .s) (a .m .now) (st .pre .works) (prefetch (a .port) (a .queue)) _ (entry _)
+    (ap entryReply (an .answer2 .given .1)) (pf .prefetch .ensures) (c .of-node .ensures) (rn .renew .ensures)
 
 pub prefetch-spec : {M : Type 1} → statement M
 prefetch-spec =
     tie.close
     (tie.spec
     prefetch-requires
-    enum-told
+    enum-known-answer
+    of-refusal-requires
+    enum-known-answer-2
     renew-requires
-    enum-told-2
-    of-entry-requires
+    of-node-requires
     same-length
+    returns
     same-length-2
-    returns)
+    same-length-3
+    same-length-4
+    returns-2)
