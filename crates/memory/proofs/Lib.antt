@@ -17,6 +17,7 @@ pub mod Past
 pub mod Judged
 pub mod Rounds
 pub mod Runs
+pub mod Stretch
 pub mod Door
 pub mod Audit
 pub mod Unread

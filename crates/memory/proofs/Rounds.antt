@@ -35,11 +35,11 @@ use Rattle.memory.proofs.Demands.{on-settings}
 -- ---- acts one after another
 
 module _ (S : Settings) where
-  after-append : (m : List ℕ) (xs ys : List Act) → afterActs S m (xs ++ ys) ≡ afterActs S (afterActs S m xs) ys
+  pub after-append : (m : List ℕ) (xs ys : List Act) → afterActs S m (xs ++ ys) ≡ afterActs S (afterActs S m xs) ys
   after-append m [] ys = refl
   after-append m (a ∷ xs) ys = after-append (acted S m a .1) xs ys
 
-  answers-append : (m : List ℕ) (xs ys : List Act) → answersTo S m (xs ++ ys) ≡ answersTo S m xs ++ answersTo S (afterActs S m xs) ys
+  pub answers-append : (m : List ℕ) (xs ys : List Act) → answersTo S m (xs ++ ys) ≡ answersTo S m xs ++ answersTo S (afterActs S m xs) ys
   answers-append m [] ys = refl
   answers-append m (a ∷ xs) ys = ap (λ (l : List Reply). acted S m a .0 ∷ l) (answers-append (acted S m a .1) xs ys)
 

@@ -14,6 +14,8 @@ use Rattle.memory.specs.Runs.{theEnd, badField, noRoom}
 use Rattle.words.specs.Kept.{Kept}
 use Rattle.asks.specs.Asks.{HeaderIn}
 use Rattle.asks.specs.declared.Task.{Task}
+use Rattle.asks.specs.declared.Asked.{Asked}
+use Rattle.asks.specs.declared.Asked.the-variants.{Call, Bad, End}
 use Rattle.runs.specs.declared.Why.{Why}
 use Rattle.runs.specs.declared.Why.the-variants.{Ended, BadField, NoRoom}
 
@@ -22,6 +24,12 @@ abbrev pub whyOf : Why → ℕ
 whyOf Ended = theEnd
 whyOf BadField = badField
 whyOf NoRoom = noRoom
+
+-- why a run stops at what is no call
+abbrev pub stopOf : Asked → Why
+stopOf (Call task next) = BadField
+stopOf Bad = BadField
+stopOf End = Ended
 
 -- between two calls of a run: a state, and the words that are kept of it
 pub record Going (s : Shape) (m words made : List ℕ) : Type 0 where

@@ -17,7 +17,7 @@ ghost use Rattle.layout.specs.Tables.{settingsOf};
 ghost use Rattle.memory.specs.Judged.{Works};
 ghost use Rattle.memory.specs.Runs.{Report, did, ran};
 ghost use Rattle.asks.specs.Asks.{taskAct, HeaderIn};
-ghost use Rattle.runs.specs.Runs.{whyOf, Going, Done, CanStep};
+ghost use Rattle.runs.specs.Runs.{whyOf, stopOf, Going, Done, CanStep};
 
 // Why a run stopped: its fields ended, one of them is bad, or four bytes no longer fit.
 pub enum Why {
@@ -136,11 +136,14 @@ fn carry_out(
 // ---- the run
 
 // Why a run stops at what is no call.
-fn why_of(asked: Asked) -> Why {
-    if let Asked::End = asked {
-        return Why::Ended;
+fn why_of(asked: Asked) -> Why
+    ensures { λ r. ⌜ r ≡ stopOf asked ⌝ }
+{
+    match asked {
+        Asked::Call { task: _, next: _ } => Why::BadField,
+        Asked::Bad => Why::BadField,
+        Asked::End => Why::Ended,
     }
-    Why::BadField
 }
 
 // The run. Each field is read into a local; one that is no call ends the run there, with the count so far.

@@ -1,110 +1,178 @@
+-- `runs::run` meets its contract. The loop's invariant: what was done, and that the whole is that and the rest from here. The measure is how many
+-- bytes of the fields are left. Assumes nothing.
+use mathlib.Core.Path.{_≡_, refl, sym, ap, _∙_, subst}
+use mathlib.Core.List.{[], _∷_}
+use Prim.Native.Nat.{_+_, _-_, _^_, _≤_, _<_}
+use native.Mathlib.Omega.{arith}
+use types.Run.{miss}
+use borrow.Author.Needs.{needs}
+use lib.ListN.{length}
+use Rattle.crc.specs.Crc.{Steps}
+use Rattle.ledger.specs.Header.{form, headerSize, leastLength}
+use Rattle.ledger.proofs.Header.{narrow, header-small}
+use Rattle.layout.specs.Tables.{settingsOf}
+use Rattle.memory.proofs.Stretch.{asked-end}
+use Rattle.asks.specs.Asks.{askOf, Within}
+use Rattle.runs.proofs.Along.{Along, start-along, next-along, ended-along, full-along, no-call-along}
 use Rattle.runs.proofs.run.Statement.{statement}
 use Rattle.runs.proofs.run.Tie as tie
-use Rattle.runs.proofs.run.Reads as reads
-use Rattle.runs.proofs.run.Lts as lts
-use Rattle.answers.proofs.put.Reads as put-reads
-use Rattle.asks.proofs.asked_at.Reads as asked-at-reads
-use Rattle.crc.proofs.steps.Reads as steps-reads
-use Rattle.runs.proofs.carry_out.Reads as carry-out-reads
-use Rattle.runs.proofs.why_of.Reads as why-of-reads
 
 abbrev Inv-loop : tie.InvT-loop
-Inv-loop m₀ s fields room₀ steps words₀ made₀ size fits at₀ count₀ m room words made at count = ?
+Inv-loop m₀ s fields room₀ steps words₀ made₀ size fits at₀ count₀ m room words made at count = Along s fields m₀ room₀ size fits at count m room words made
 
 abbrev μ-loop : tie.MeasureT-loop
-μ-loop m₀ s fields room₀ steps words₀ made₀ size fits at₀ count₀ m room words made at count = ?
+μ-loop m₀ s fields room₀ steps words₀ made₀ size fits at₀ count₀ m room words made at count = length fields - at
 
--- src/lib.rt:146:17
+-- the moments, each from the next
+abbrev start : tie.After-steps Inv-loop μ-loop → tie.Start Inv-loop μ-loop
+start c = c .before .before .before .before
+
+abbrev begun : tie.At-loop Inv-loop μ-loop → tie.After-steps Inv-loop μ-loop
+begun c = c .before .before
+
+abbrev inside : tie.After-asked-at Inv-loop μ-loop → tie.At-loop Inv-loop μ-loop
+inside c = c .before .before
+
+abbrev asked : tie.After-asked Inv-loop μ-loop → tie.After-asked-at Inv-loop μ-loop
+asked c = c .before .before
+
+abbrev roomy : tie.Else1 Inv-loop μ-loop → tie.After-asked Inv-loop μ-loop
+roomy c = c .before .before
+
+abbrev carried : tie.After-carry-out Inv-loop μ-loop → tie.Else1 Inv-loop μ-loop
+carried c = c .before .before .before .before .before
+
+-- the size of the switch's headers
+sized : (st : tie.Start Inv-loop μ-loop) → st .args .s .least ≡ headerSize (form (settingsOf (st .args .s))) + 2
+unfolding leastLength
+sized st = st .pre .laid .least-is
+
+less : (st : tie.Start Inv-loop μ-loop) → st .args .s .least - 2 ≡ headerSize (form (settingsOf (st .args .s)))
+less st = omega (arith, sized st)
+
+small : (st : tie.Start Inv-loop μ-loop) → st .args .s .least - 2 ≤ 12
+small st =
+    let r = st .pre .laid .roomy in
+    let s = st .args .s in
+    omega (arith, less st, header-small (form (settingsOf s)) (narrow (s .edition) (s .ports) (s .queues) (r .some-ports) (r .few-ports) (r .some-queues) (r .few-queues)) .1)
+
+-- a room has no more bytes than a machine's word counts
+short : (e : tie.Else1 Inv-loop μ-loop) → length (start (begun (inside (asked (roomy e)))) .args .room .now) < 2 ^ 63
+short e = let st = start (begun (inside (asked (roomy e)))) in omega (arith, st .good .1 .1 .1 .0)
+
 steps-requires : tie.Need-steps-requires Inv-loop μ-loop
-steps-requires c κs = ?
+steps-requires c κs = search needs
 
--- src/lib.rt:149:16
 sub-size : tie.Need-sub-size Inv-loop μ-loop
-sub-size c = ?
+sub-size c = omega (arith, sized (start (c .before)))
 
--- src/lib.rt:153:5
 loop-holds : tie.Need-loop-holds Inv-loop μ-loop
-loop-holds c = ?
+loop-holds c = start-along _ _ _ _ _ _ (start (c .before) .pre)
 
--- src/lib.rt:154:13
 asked-at-requires : tie.Need-asked-at-requires Inv-loop μ-loop
-asked-at-requires c κs = ?
+asked-at-requires c κs = small (start (begun (c .before)))
 
--- src/lib.rt:155:27
 enum-known-asked : tie.Need-enum-known-asked Inv-loop μ-loop
-enum-known-asked c = ?
+enum-known-asked c = search needs
 
--- src/lib.rt:158:22
 why-of-requires : tie.Need-why-of-requires Inv-loop μ-loop
-why-of-requires c κs = ?
+why-of-requires c κs = search needs
 
--- src/lib.rt:156:13
 same-length : tie.Need-same-length Inv-loop μ-loop
-same-length c = ?
+same-length c = search needs
 
--- src/lib.rt:156:13
 same-length-2 : tie.Need-same-length-2 Inv-loop μ-loop
-same-length-2 c = ?
+same-length-2 c = search needs
 
--- src/lib.rt:156:13
 returns : tie.Need-returns Inv-loop μ-loop
-returns c = ?
+returns c =
+    let an = c .before .before in
+    let l = inside an in
+    let st = start (begun l) in
+    rw (c .why-of .ensures)
+    (no-call-along _ _ _ _ _ _ (l .loop .inv) (less st) refl (an .asked-at .result) (an .asked-at .ensures .0)
+    (λ task next e. miss (1 ∷ 2 ∷ []) 0 tt (rw e at (c .before .match .keys2))))
 
--- src/lib.rt:162:13
 same-length-3 : tie.Need-same-length-3 Inv-loop μ-loop
-same-length-3 c = ?
+same-length-3 c = search needs
 
--- src/lib.rt:162:13
 same-length-4 : tie.Need-same-length-4 Inv-loop μ-loop
-same-length-4 c = ?
+same-length-4 c = search needs
 
--- src/lib.rt:162:13
 returns-2 : tie.Need-returns-2 Inv-loop μ-loop
-returns-2 c = ?
+returns-2 c =
+    let ac = c .before .before in
+    let an = asked ac in
+    let l = inside an in
+    full-along _ _ _ _ _ _ (l .loop .inv) (less (start (begun l))) refl _ _ (sym (an .asked-at .ensures .0) ∙ ap (askOf _) (ac .asked .given .1)) (c .if1 .taken)
 
--- src/lib.rt:167:59
 slice-aggregate-carry-out : tie.Need-slice-aggregate-carry-out Inv-loop μ-loop
-slice-aggregate-carry-out c = ?
+slice-aggregate-carry-out c = search needs
 
--- src/lib.rt:167:71
 slice-aggregate-carry-out-2 : tie.Need-slice-aggregate-carry-out-2 Inv-loop μ-loop
-slice-aggregate-carry-out-2 c = ?
+slice-aggregate-carry-out-2 c = search needs
 
--- src/lib.rt:167:13
 carry-out-requires : tie.Need-carry-out-requires Inv-loop μ-loop
-carry-out-requires c κs = ?
+carry-out-requires c κs =
+    let ac = roomy (c .before .before .before .before) in
+    let an = asked ac in
+    let l = inside an in
+    let st = start (begun l) in
+    record {
+      table = begun l .steps .ensures;
+      going = l .loop .inv .going;
+      header = subst (Within (l .loop .at) (length (st .args .fields .now))) (ac .asked .given .1) (an .asked-at .ensures .1) .2;
+    }
 
--- src/lib.rt:168:28
 mul-put : tie.Need-mul-put Inv-loop μ-loop
-mul-put c = ?
+mul-put c =
+    let e = carried (c .before .before .before .before .before) in
+    omega (arith, e .if1 .left, short e)
 
--- src/lib.rt:168:9
 put-requires : tie.Need-put-requires Inv-loop μ-loop
-put-requires c κs = ?
+put-requires c κs = search needs
 
--- src/lib.rt:170:9
 add-count : tie.Need-add-count Inv-loop μ-loop
-add-count c = ?
+add-count c =
+    let e = carried (c .before .before .before .before .before .before .before .before) in
+    omega (arith, e .if1 .left, short e)
 
--- src/lib.rt:153:5
 loop-less : tie.Need-loop-less Inv-loop μ-loop
-loop-less c = ?
+loop-less c =
+    let e = carried (c .before .before .before .before .before .before .before .before) in
+    let ac = roomy e in
+    let an = asked ac in
+    let l = inside an in
+    let st = start (begun l) in
+    let w = subst (Within (l .loop .at) (length (st .args .fields .now))) (ac .asked .given .1) (an .asked-at .ensures .1) in
+    omega (arith, w .0, w .1)
 
--- src/lib.rt:153:5
 loop-again : tie.Need-loop-again Inv-loop μ-loop
-loop-again c = ?
+loop-again c =
+    let rb = c .before in
+    let pt = rb .before in
+    let md = pt .before .before in
+    let wd = md .before in
+    let mb = wd .before .before in
+    let co = mb .before in
+    let e = carried co in
+    let ac = roomy e in
+    let an = asked ac in
+    let l = inside an in
+    next-along _ _ _ _ _ _ (l .loop .inv) _ _ (sym (an .asked-at .ensures .0) ∙ ap (askOf _) (ac .asked .given .1)) (e .if1 .left) (co .carry-out .ensures) (pt .put .ensures)
+    (mb .m .given) (rb .room .given) (wd .words2 .given) (md .made2 .given)
 
--- src/lib.rt:141:1
 same-length-5 : tie.Need-same-length-5 Inv-loop μ-loop
-same-length-5 c = ?
+same-length-5 c = search needs
 
--- src/lib.rt:141:1
 same-length-6 : tie.Need-same-length-6 Inv-loop μ-loop
-same-length-6 c = ?
+same-length-6 c = search needs
 
--- src/lib.rt:141:1
 returns-3 : tie.Need-returns-3 Inv-loop μ-loop
-returns-3 c = ?
+returns-3 c =
+    let l = c .before in
+    let st = start (begun l) in
+    ended-along _ _ _ _ _ _ (l .loop .inv) (less st) refl (asked-end _ _ _ (c .loop-test .left))
 
 pub run-spec : {M : Type 1} → statement M
 run-spec =
