@@ -4,18 +4,21 @@ use mathlib.Core.List.{List}
 use Prim.Native.Nat.{ℕ}
 use lib.ListN.{length}
 use Rattle.crc.specs.Crc.{Steps}
+use Rattle.ledger.specs.Answers.{numberOf}
 use Rattle.ledger.specs.Calls.{Act}
 use Rattle.ledger.specs.Rounds.{answerBytes}
 use Rattle.layout.specs.declared.Shape.{Shape}
 use Rattle.layout.specs.Tables.{settingsOf}
 use Rattle.memory.specs.Judged.{Works}
 use Rattle.memory.specs.Memory.{acted}
-use Rattle.memory.specs.Runs.{theEnd, badField, noRoom}
+use Rattle.memory.specs.Runs.{theEnd, badField, noRoom, Report, refusedRun, did}
 use Rattle.words.specs.Kept.{Kept}
 use Rattle.asks.specs.Asks.{HeaderIn}
 use Rattle.asks.specs.declared.Task.{Task}
 use Rattle.asks.specs.declared.Asked.{Asked}
 use Rattle.asks.specs.declared.Asked.the-variants.{Call, Bad, End}
+use Rattle.runs.specs.declared.Outcome.{Outcome}
+use Rattle.runs.specs.declared.Outcome.the-variants.{Did, No}
 use Rattle.runs.specs.declared.Why.{Why}
 use Rattle.runs.specs.declared.Why.the-variants.{Ended, BadField, NoRoom}
 
@@ -24,6 +27,11 @@ abbrev pub whyOf : Why → ℕ
 whyOf Ended = theEnd
 whyOf BadField = badField
 whyOf NoRoom = noRoom
+
+-- what an outcome reports
+abbrev pub reportIn : Outcome → Report
+reportIn (Did r) = did (r .count) (whyOf (r .why))
+reportIn (No r) = refusedRun (numberOf r)
 
 -- why a run stops at what is no call
 abbrev pub stopOf : Asked → Why

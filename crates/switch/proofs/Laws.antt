@@ -15,12 +15,14 @@ use Rattle.layout.specs.Tables.{settingsOf}
 use Rattle.layout.specs.Picture.{State}
 use Rattle.memory.specs.Memory.{acted, M}
 use Rattle.memory.specs.Rounds.{rounded, roundOn}
+use Rattle.memory.specs.Runs.{refusedRun, ran, runOn}
 use Rattle.memory.specs.Audit.{audited, auditOn}
 use Rattle.memory.specs.Judged.{judged}
 use Rattle.memory.proofs.Judged.{acted-bad}
 use Rattle.memory.proofs.Demands.{on-works}
 use Rattle.memory.proofs.Demands as demands
 use Rattle.memory.proofs.Rounds.{round-on, round-off}
+use Rattle.memory.proofs.Runs.{run-on, run-off}
 use Rattle.memory.proofs.Audit.{audit-on, audit-off}
 use Rattle.sound.specs.declared.Tested.the-variants as tests
 use Rattle.sound.specs.Sound.{testedIn}
@@ -44,6 +46,14 @@ past-state s m e y k =
     let w = tested-state m s e in
     sym (acted-bad (settingsOf s) m (whereIs y) refl 15 (unfold judged in rw (no-node (settingsOf s) (w .state .sound .rows) y k)))
     ∙ on-state s m e (whereIs y)
+
+-- so is the run
+module _ (m fields room : List ℕ) where
+  pub run-on-state : (s : Shape) → testedIn m ≡ tests.State s → ran (settingsOf s) m fields room ≡ runOn m fields room
+  run-on-state s e = let w = tested-state m s e in run-on m fields room (settingsOf s) (sym (w .settings-are)) (w .state)
+
+  pub run-off-state : testedIn m ≡ tests.NoState → (refusedRun 3, m, room) ≡ runOn m fields room
+  run-off-state e = sym (run-off m fields room (tested-none m e))
 
 -- so is the round, and so is the audit
 module _ (m room : List ℕ) where

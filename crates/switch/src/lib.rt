@@ -1,7 +1,7 @@
-// The twelve calls of the queue manager, turn timed or not, the round, and the night crew's audit, finding and repair, for any memory and any
-// numbers: nothing has to be checked by the caller. Each contract is an equation that fixes answer and memory: (reply, memory after) is M of
-// the call and the memory before; of the round, roundOn of the memory and the room; of the audit auditOn, of the finding brokenIn, of the
-// repair repaired.
+// The twelve calls of the queue manager, turn timed or not, the round, the run, and the night crew's audit, finding and repair, for any memory
+// and any numbers: nothing has to be checked by the caller. Each contract is an equation that fixes answer and memory: (reply, memory after) is
+// M of the call and the memory before; of the round, roundOn of the memory and the room; of the run runOn, of the audit auditOn, of the finding
+// brokenIn, of the repair repaired.
 use ledger::Broken;
 use ledger::Bucketed;
 use ledger::Entry;
@@ -13,6 +13,7 @@ use ledger::Reported;
 use ledger::Stitched;
 use ledger::Turned;
 use ledger::Whereabouts;
+use runs::Outcome;
 use settings::Settings;
 use sound::Tested;
 ghost use mathlib.Core.Path.{_≡_};
@@ -24,8 +25,10 @@ ghost use Rattle.ledger.specs.Calls.{Reply, arrive, stitch, prefetch, credit, m
 ghost use Rattle.ledger.specs.Desk.{act};
 ghost use Rattle.memory.specs.Memory.{M};
 ghost use Rattle.memory.specs.Rounds.{roundOn};
+ghost use Rattle.memory.specs.Runs.{Report, runOn};
 ghost use Rattle.memory.specs.Audit.{auditOn};
 ghost use Rattle.memory.specs.Repair.{repaired};
+ghost use Rattle.runs.specs.Runs.{reportIn};
 ghost use Rattle.sound.specs.Sound.{brokenIn};
 ghost use Rattle.ledger.specs.Answers.{recordIn};
 ghost use Rattle.setup.specs.Told.{callOf};
@@ -145,6 +148,19 @@ pub fn round(m: &mut [u8], turns: &mut [u8]) -> Plain
     match tested {
         Tested::State(s) => rounds::round(m, s, turns),
         Tested::NoState => Plain::No(Refusal::NoState),
+    }
+}
+
+// Run: the calls that the fields ask, one after another, with one test of the memory; each answer is told in four bytes of the room. It ends at
+// a bad field, at the end of the fields, or where four bytes no longer fit.
+pub fn run(m: &mut [u8], fields: &[u8], answers: &mut [u8]) -> Outcome
+    ensures { λ r. ⌜ _≡_ {A = Report × List ℕ × List ℕ} (reportIn r, now (m .exit), now (answers .exit))
+        (runOn (now (m .entry)) (now (fields .entry)) (now (answers .entry))) ⌝ }
+{
+    let tested = sound::test(m);
+    match tested {
+        Tested::State(s) => Outcome::Did(runs::run(m, s, fields, answers)),
+        Tested::NoState => Outcome::No(Refusal::NoState),
     }
 }
 
