@@ -1,4 +1,4 @@
--- Each call has one outcome: any two that its contract allows are identical, the typed answer and the memory; of the round, the room too. The
+-- Each call has one outcome: any two that its contract allows are identical, the typed answer and the memory; of the round and of the run, the room too. The
 -- contract is what the toolchain reads of the function's own `ensures` (`Learnt`: what a caller learns), so a change of it changes the theorem.
 -- Assumes nothing.
 use mathlib.Core.Path.{_≡_, refl, sym, ap, _∙_}
@@ -19,6 +19,7 @@ use Rattle.ledger.proofs.Answers.{plain-inj, stitch-inj, entry-inj, turn-inj, r
 use Rattle.memory.specs.Memory.{M}
 use Rattle.memory.proofs.Demands.{off-state}
 use Rattle.memory.proofs.Image.{zero-no-state}
+use Rattle.runs.proofs.Outcomes.{outcome-inj}
 use Rattle.ledger.specs.Answers.{recordIn}
 use Rattle.ledger.specs.declared.Stitched.{Stitched}
 use Rattle.switch.proofs.set_up
@@ -34,6 +35,7 @@ use Rattle.switch.proofs.ready
 use Rattle.switch.proofs.where_is
 use Rattle.switch.proofs.where_past
 use Rattle.switch.proofs.round
+use Rattle.switch.proofs.run
 use Rattle.switch.proofs.audit
 use Rattle.switch.proofs.find
 use Rattle.switch.proofs.repair
@@ -79,6 +81,11 @@ timed-turn-one κs a r r₂ left left₂ p q = fixed turn-inj (left .1) p q
 -- a round's equation fixes the room with answer and memory
 pub round-one : OneOutcome round.ended round.Reads.Learnt
 round-one κs a r r₂ left left₂ p q = let t = roomed {B = List ℕ × (List ℕ × Unit {0})} (λ m x. (m, (x, tt))) p q in (plain-inj r r₂ (t .0), t .1)
+
+-- and so does a run's
+pub run-one : OneOutcome run.ended run.Reads.Learnt
+run-one κs a r r₂ left left₂ p q =
+    let t = roomed {B = List ℕ × (Unit {0} × (List ℕ × Unit {0}))} (λ m x. (m, (tt, (x, tt)))) p q in (outcome-inj r r₂ (t .0), t .1)
 
 pub repair-one : OneOutcome repair.ended repair.Reads.Learnt
 repair-one κs a r r₂ left left₂ p q = fixed plain-inj (left .1) p q
