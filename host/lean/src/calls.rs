@@ -4,7 +4,7 @@
 use crate::form::Label;
 use crate::lists::{Node, Nodes};
 use crate::settings::Refusal;
-use crate::{Lean, Port, DESTINATIONS, ENTRIES_PER_PORT, MOST_QUEUES};
+use crate::{Lean, Port, Queue, DESTINATIONS, ENTRIES_PER_PORT};
 
 /// What a stitch answers.
 #[derive(Debug, Clone, Copy, PartialEq, Eq)]
@@ -212,26 +212,31 @@ impl Port {
         }
     }
 
-    /// Queue 0 needs no word of its own: its price and its credit are 0.
-    #[inline]
-    fn is_ready(&self, nodes: &Nodes, q: usize) -> bool {
-        let queue = &self.queues[q];
-        !queue.prefetch.is_empty() && nodes[queue.prefetch.oldest()].price <= queue.outward_credit
-    }
-
     #[inline]
     fn first_ready(&self, nodes: &Nodes, queues: usize) -> Option<usize> {
         let above = usize::from(self.last_served) + 1;
-        let queues = queues.min(MOST_QUEUES);
-        (above..queues)
-            .chain(0..above)
-            .find(|&q| self.is_ready(nodes, q))
+        let ready = |queue: &Queue| queue.is_ready(nodes);
+        let queues = &self.queues[..queues];
+        match queues[above..].iter().position(ready) {
+            Some(further) => Some(above + further),
+            None => queues[..above].iter().position(ready),
+        }
     }
 
-    /// Bit q for queue q.
-    #[inline]
+    /// Bit q for queue q. By itself its loop is better code than inside a run.
+    #[inline(never)]
     fn ready_word(&self, nodes: &Nodes, queues: usize) -> u64 {
-        (0..queues.min(MOST_QUEUES))
-            .fold(0, |word, q| word | u64::from(self.is_ready(nodes, q)) << q)
+        let queues = self.queues[..queues].iter().enumerate();
+        queues.fold(0, |word, (q, queue)| {
+            word | u64::from(queue.is_ready(nodes)) << q
+        })
+    }
+}
+
+impl Queue {
+    /// Queue 0 needs no word of its own: its price and its credit are 0.
+    #[inline]
+    fn is_ready(&self, nodes: &Nodes) -> bool {
+        !self.prefetch.is_empty() && nodes[self.prefetch.oldest()].price <= self.outward_credit
     }
 }

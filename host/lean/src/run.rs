@@ -96,8 +96,8 @@ fn told(answer: Result<u16, Refusal>) -> [u8; 4] {
 }
 
 /// The first field, and the bytes after it; none if it is bad: another tag, a wrong
-/// length or a cut field.
-#[inline]
+/// length or a cut field. Called, it would hand the field over through memory.
+#[inline(always)]
 fn read(bytes: &[u8], header: usize) -> Option<(Field<'_>, &[u8])> {
     Some(match *bytes {
         [2, high, low, port, ref rest @ ..] => {
