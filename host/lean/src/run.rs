@@ -21,7 +21,7 @@ pub struct Ran {
     pub why: Why,
 }
 
-/// A good field.
+/// A good field: tags 2 to 7, in this order.
 enum Field<'a> {
     Arrive(u8, &'a [u8]),
     Stitch(u8),
@@ -37,33 +37,23 @@ impl<const EARLY_OUT: bool> Lean<EARLY_OUT> {
     pub fn run(&mut self, fields: &[u8], answers: &mut [u8]) -> Ran {
         let mut rooms = answers.chunks_exact_mut(4);
         let (mut rest, mut count) = (fields, 0);
-        while !rest.is_empty() {
+        let why = loop {
+            if rest.is_empty() {
+                break Why::End;
+            }
             let (field, after) = match read(rest, self.form.bytes) {
                 Some(read) => read,
-                None => {
-                    return Ran {
-                        count,
-                        why: Why::Bad,
-                    }
-                }
+                None => break Why::Bad,
             };
             let room = match rooms.next() {
                 Some(room) => room,
-                None => {
-                    return Ran {
-                        count,
-                        why: Why::NoRoom,
-                    }
-                }
+                None => break Why::NoRoom,
             };
             room.copy_from_slice(&self.answer(field));
             rest = after;
             count += 1;
-        }
-        Ran {
-            count,
-            why: Why::End,
-        }
+        };
+        Ran { count, why }
     }
 
     #[inline]
