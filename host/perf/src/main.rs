@@ -1,5 +1,5 @@
 //! How fast the proved library is on this machine, told as Markdown: beside a
-//! bare walk over the same links, and beside the model.
+//! bare walk over the same links, beside the model, and runs beside lean.
 //!
 //! Every public call but setup, the finding, the repair and those on headers
 //! first tests whether the memory is a state. That test by itself, the acts
@@ -9,8 +9,10 @@
 
 mod acts;
 mod headers;
+mod mixes;
 mod night;
 mod rounds;
+mod runs;
 mod sums;
 
 use std::time::Instant;
@@ -492,8 +494,8 @@ fn processor() -> String {
 }
 
 /// The parts, by the names under which they can be asked for.
-const PARTS: [&str; 8] = [
-    "checksum", "headers", "test", "night", "calls", "traffic", "acts", "round",
+const PARTS: [&str; 9] = [
+    "checksum", "headers", "test", "night", "calls", "traffic", "acts", "round", "runs",
 ];
 
 /// What is asked for: all parts, or those that the command line names.
@@ -555,6 +557,10 @@ fn of_a_switch(shape: Shape, has: &dyn Fn(&str) -> bool) {
     }
     if has("round") {
         rounds::a_round(shape);
+    }
+    if has("runs") {
+        runs::beside_lean(shape);
+        runs::short_and_long(shape);
     }
 }
 
