@@ -25,7 +25,7 @@ use crate::{heading, numbers, settings, timed};
 /// The calls of each row.
 const CALLS: usize = 1_000_000;
 /// How often each is timed at each place.
-const SAMPLES: usize = 4;
+const SAMPLES: usize = 6;
 /// Where the lent memory begins within a page, and a page.
 const PLACES: [usize; 4] = [0, 72, 1030, 3001];
 const PAGE: usize = 4096;
