@@ -10,6 +10,10 @@
  * port has none. Nothing has to be checked beforehand: any memory and any numbers are taken. Where a call is refused 3, vr_find tells why,
  * and vr_repair makes a state again of every memory that keeps rule (a), whose packets are lost then.
  *
+ * That the memory is a state is tested by each call anew, and the more nodes there are, the longer it takes. Many calls pay for one test in a
+ * round, which is the next step of every port, and in a run (vr_run), which is arrivals, stitches, prefetches, turns, credits and map
+ * entries in any order, written into one buffer. A run itself is refused 3 alone; what its calls are refused stands in their answers.
+ *
  * The settings, and the row of each; a number that is not in its row is refused 2:
  *
  *     nodes    nodes a port               1 to 2,048
@@ -55,7 +59,7 @@
  * A call takes up to 25,694 bytes of stack, a finding up to 33,486, whatever the settings (measured on x86-64 by tools/stack.c, not proved):
  * the test for a state keeps a bit for each of up to 65,536 nodes there, and a sum for each port and queue but 0.
  *
- * Numbers, and structs of numbers, are the machine's own; the rooms of bytes are big-endian.
+ * Numbers, and structs of numbers, are the machine's own; the rooms of bytes and the fields of a run are big-endian.
  *
  * Numbers are wide on purpose: port 70,000 is refused 4, an amount above 65,535 is a sum above 65,535, an entry above 65,535 is no node.
  */
@@ -97,6 +101,13 @@ enum vr_answer {
 enum vr_edition {
     VR_TEN_BYTES = 0, /* 4 ports, 24 queues */
     VR_WIDE = 1,      /* 2 to 32 ports, 2 to 64 queues */
+};
+
+/* Why a run stopped. */
+enum vr_stop {
+    VR_ENDED = 0,     /* the fields ended */
+    VR_BAD_FIELD = 1, /* a bad field */
+    VR_NO_ROOM = 2,   /* no room for a good field's answer */
 };
 
 /* What a switch is set up with; any numbers may stand here. */
@@ -172,6 +183,29 @@ uint32_t vr_bucket(const uint8_t *mem, size_t len, uint32_t port, uint32_t bucke
  * the room changes. So look at the answer first: in a room that was lent as zeros a refused round reads as turns that sent node 0, whose
  * bytes are 0 0 0 0. */
 uint32_t vr_round(uint8_t *mem, size_t len, uint8_t *turns, size_t turns_len);
+
+/* A run: many calls, each a field of the memory `fields`, one behind the other. A field is tag (1), length of its value (2), value:
+ *
+ *     tag 2  arrive    port (1), header (10, or as many bytes as the switch's own have)
+ *     tag 3  stitch    port (1)
+ *     tag 4  prefetch  port (1), queue (1)
+ *     tag 5  turn      port (1)
+ *     tag 6  credit    port (1), queue (1), amount (2)
+ *     tag 7  map       id (1), port (1)
+ *
+ * So a turn of port 3 is 5, 0, 1, 3. Memory and answers are as of the same calls one by one, but the memory is tested once. These are the
+ * bench program's fields, so a header of ten bytes is a good field on a wide switch too, where it is refused 6.
+ * Writes four bytes for each field's answer, one behind the other: refusal number (1), 1 if idle (1), entry id (2, big-endian) or 0. The
+ * entry id is that of arrive, prefetch and turn, and of stitch the one in its record; credit and map have none. A refused field changes what
+ * its call does when refused, and the run goes on behind it.
+ * The run stops where the fields end (VR_ENDED); at a bad field, which is one of another tag or length or one that is cut off
+ * (VR_BAD_FIELD); or at a good field where less than four bytes of room are left (VR_NO_ROOM). A bad field is bad also where no room is left.
+ * A setup has no place in a run: tag 1 is bad, whatever its length. Writes to `count` how many fields were done, refused ones among them, and
+ * the enum vr_stop to `why`; the field at which it stopped is not done and not counted, so a run may go on from there. The room past the last
+ * answer stays. As many bytes of room as of fields are always enough.
+ * Refused 3 alone; then nothing is written, count and why neither. So look at the answer first. */
+uint32_t vr_run(uint8_t *mem, size_t len, const uint8_t *fields, size_t fields_len, uint8_t *answers, size_t answers_len, uint64_t *count,
+                uint32_t *why);
 
 /* Writes the port's ready word, bit q for queue q, and the number of ones in it. */
 uint32_t vr_ready(const uint8_t *mem, size_t len, uint32_t port, uint64_t *word, uint32_t *count);

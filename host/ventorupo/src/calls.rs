@@ -28,6 +28,16 @@ mod c {
         pub fn vr_map(mem: *mut u8, len: usize, id: u32, port: u32) -> u32;
         pub fn vr_turn(mem: *mut u8, len: usize, port: u32, sent: *mut u8) -> u32;
         pub fn vr_round(mem: *mut u8, len: usize, turns: *mut u8, turns_len: usize) -> u32;
+        pub fn vr_run(
+            mem: *mut u8,
+            len: usize,
+            fields: *const u8,
+            fields_len: usize,
+            answers: *mut u8,
+            answers_len: usize,
+            count: *mut u64,
+            why: *mut u32,
+        ) -> u32;
         pub fn vr_ready(
             mem: *const u8,
             len: usize,
@@ -128,6 +138,30 @@ pub fn round(memory: &mut [u8], turns: &mut [u8]) -> u32 {
             memory.len(),
             turns.as_mut_ptr(),
             turns.len(),
+        )
+    }
+}
+
+/// Refused 3 alone, and then neither number is written; what the fields' calls are
+/// refused stands in their answers.
+pub fn run(
+    memory: &mut [u8],
+    fields: &[u8],
+    answers: &mut [u8],
+    count: &mut u64,
+    why: &mut u32,
+) -> u32 {
+    // Sound: three slices with their lengths, and two aligned rooms, all apart.
+    unsafe {
+        c::vr_run(
+            memory.as_mut_ptr(),
+            memory.len(),
+            fields.as_ptr(),
+            fields.len(),
+            answers.as_mut_ptr(),
+            answers.len(),
+            count,
+            why,
         )
     }
 }

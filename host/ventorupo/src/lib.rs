@@ -39,6 +39,28 @@
 //! # Ok::<(), Refusal>(())
 //! ```
 //!
+//! Each call tests that the memory is a state. Many calls pay for one test in a
+//! round ([`Switch::round`]), and in a run: a [`Batch`] of calls, answered in their
+//! order.
+//!
+//! ```
+//! use ventorupo::{Answer, Batch, EntryId, Header, Refusal, Settings, Switch};
+//!
+//! let settings = Settings::wide(8, 16, 1, 64, 1, 16);
+//! let memory = vec![0; ventorupo::size(&settings).unwrap()];
+//! let mut switch = Switch::setup(memory, settings).map_err(|(why, _)| why)?;
+//! let header = Header { source: 1, length: 100, ..Header::default() };
+//! let bytes = settings.form().write(&header)?;
+//!
+//! let mut batch = Batch::new(settings.form())?;
+//! batch.arrive(1, &bytes)?.stitch(1).prefetch(0, 0).turn(0).turn(0);
+//! let answers = switch.run(&batch).unwrap();
+//! let entry = EntryId(2048);
+//! assert_eq!(answers[0], Answer::Arrived(Ok(entry)));
+//! assert_eq!(answers[3..], [Answer::Turned(Ok(Some(entry))), Answer::Turned(Ok(None))]);
+//! # Ok::<(), Refusal>(())
+//! ```
+//!
 //! Switches of four ports and 24 queues may have the older headers of ten bytes
 //! ([`Settings::ten_bytes`]); all else is the same.
 //!
@@ -57,20 +79,24 @@
 #![deny(unsafe_code)]
 
 mod answers;
+mod batch;
 #[allow(unsafe_code)]
 pub mod calls;
 mod header;
 mod night;
 mod refusal;
+mod runs;
 mod settings;
 mod waits;
 
 pub use answers::{
     EntryId, Halt, ListKind, Place, Ready, Record, RoundTurn, Sent, Side, Turn, Turns,
 };
+pub use batch::{Batch, Unfinished, WrongLength};
 pub use header::{Form, Header, HeaderBytes};
 pub use night::{audit, find, repair, Finding, Rule};
 pub use refusal::Refusal;
+pub use runs::{Answer, Answers, Ran, Stop, ANSWER_BYTES};
 pub use settings::{size, Settings, MOST_PORTS, TEN_BYTES, WIDE};
 pub use waits::{bucket_of, waits_of, BUCKETS, BUCKET_STOP};
 

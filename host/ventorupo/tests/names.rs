@@ -1,7 +1,7 @@
 //! A refusal has one number and one name: in the wrapper, the ledger, the C
-//! header and the README; and these speak of the same calls and structs.
+//! header and the README; and these speak of the same calls, structs and fields.
 
-use ventorupo::{Refusal, TEN_BYTES, WIDE};
+use ventorupo::{Batch, Form, Refusal, Stop, TEN_BYTES, WIDE};
 
 const LEDGER: &str = include_str!("../../../crates/ledger/src/lib.rt");
 const CALLS: &str = include_str!("../src/calls.rs");
@@ -40,9 +40,9 @@ fn name(refusal: &Refusal) -> String {
 }
 
 /// `ShortMemory` is `SHORT_MEMORY`.
-fn in_capitals(refusal: &Refusal) -> String {
+fn in_capitals(name: &str) -> String {
     let mut spelt = String::new();
-    for letter in name(refusal).chars() {
+    for letter in name.chars() {
         if letter.is_uppercase() && !spelt.is_empty() {
             spelt.push('_');
         }
@@ -62,7 +62,7 @@ fn the_ledger_has_the_same_names() {
 fn the_c_header_has_the_same_names_in_capitals() {
     let lines = between(HEADER, "enum vr_answer {", "};");
     let mut answers = vec![(0, "DONE".to_string())];
-    answers.extend(wrapped(in_capitals));
+    answers.extend(wrapped(|refusal| in_capitals(&name(refusal))));
     assert_eq!(listed(lines, "VR_", " = "), answers);
 }
 
@@ -92,6 +92,49 @@ fn the_c_header_has_the_same_editions() {
     let editions = [(TEN_BYTES, "TEN_BYTES"), (WIDE, "WIDE")];
     let editions = editions.map(|(number, name)| (number, name.to_string()));
     assert_eq!(listed(lines, "VR_", " = "), editions);
+}
+
+#[test]
+fn the_c_header_has_the_same_stops_and_meanings() {
+    let lines = between(HEADER, "enum vr_stop {", "};");
+    let stop = |stop: Stop| (stop.number(), in_capitals(&format!("{stop:?}")));
+    assert_eq!(listed(lines, "VR_", " = "), Stop::ALL.map(stop));
+    for (line, stop) in lines.lines().zip(Stop::ALL) {
+        assert_eq!(between(line, "/* ", " */"), stop.to_string());
+    }
+}
+
+/// The fields that the C header has in its table: tag, name, and the bytes of the
+/// value, of a header the first number that is told.
+fn tabled() -> Vec<(u8, &'static str, usize)> {
+    let rows = HEADER.split(" *     tag ").skip(1);
+    let rows = rows.map(|rest| rest.split_once('\n').expect("a line's end").0);
+    let read = |row: &'static str| {
+        let (tag, rest) = row.split_once("  ")?;
+        let (name, value) = rest.split_once(' ')?;
+        let digits = |part: &str| part.chars().take_while(char::is_ascii_digit).collect();
+        let sizes = value.split('(').skip(1).map(digits);
+        let sizes = sizes.map(|digits: String| digits.parse::<usize>().ok());
+        Some((tag.parse().ok()?, name, sizes.sum::<Option<usize>>()?))
+    };
+    let read = |row| read(row).unwrap_or_else(|| panic!("no field: {row}"));
+    rows.map(read).collect()
+}
+
+#[test]
+fn the_c_header_has_the_batchs_fields() {
+    let mut batch = Batch::new(Form::TEN_BYTES).unwrap();
+    batch.arrive(1, &[0; 10]).unwrap().stitch(1).prefetch(1, 2);
+    batch.turn(1).credit(1, 2, 3).map_to(1, 2);
+    let names = ["arrive", "stitch", "prefetch", "turn", "credit", "map"];
+    let mut rest = batch.as_bytes();
+    let mut fields = Vec::new();
+    for name in names {
+        let length = u16::from_be_bytes([rest[1], rest[2]]).into();
+        fields.push((rest[0], name, length));
+        rest = &rest[3 + length..];
+    }
+    assert_eq!((tabled(), rest), (fields, &[][..]));
 }
 
 /// The fields of a struct of the C header, all of them numbers.
@@ -142,7 +185,13 @@ fn all_speak_of_the_same_calls() {
     let wrapped = calls_in(CALLS, "pub fn vr_");
     assert_eq!(calls_in(&declared(), " vr_"), wrapped);
     assert_eq!(calls_in(CAPI, "pub extern \"C\" fn vr_"), wrapped);
-    for call in ["vr_audit", "vr_find", "vr_size", "vr_write_header"] {
+    for call in [
+        "vr_audit",
+        "vr_find",
+        "vr_run",
+        "vr_size",
+        "vr_write_header",
+    ] {
         assert!(wrapped.iter().any(|name| name == call), "{call}");
     }
 }
