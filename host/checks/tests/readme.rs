@@ -35,7 +35,7 @@ fn the_c_snippet_says_what_it_says_that_it_says() {
     let line = "    gcc -Iinclude example.c target/staticlib/libcapi.a\n";
     assert!(readme.contains(line));
     let snippet = fenced(&readme, "c");
-    assert!(snippet.contains("/* entry 2048"));
+    assert!(snippet.contains("/* entry 2048") && snippet.contains("/* sent 2048"));
     let folder = Path::new(env!("CARGO_TARGET_TMPDIR"));
     let (source, program) = (folder.join("example.c"), folder.join("example"));
     fs::write(&source, snippet).unwrap();
@@ -53,5 +53,5 @@ fn the_c_snippet_says_what_it_says_that_it_says() {
     assert!(compiled.status.success(), "{errors}");
     let said = Command::new(&program).output().unwrap();
     assert!(said.status.success());
-    assert_eq!(said.stdout, b"entry 2048\n");
+    assert_eq!(said.stdout, b"entry 2048\nsent 2048\n");
 }
