@@ -2,6 +2,7 @@
 
 mod header;
 mod help;
+mod replay;
 
 use std::ffi::{OsStr, OsString};
 use std::path::PathBuf;
@@ -31,6 +32,7 @@ pub enum Command {
         image: PathBuf,
         svg: Option<PathBuf>,
     },
+    Replay(Replay),
     Make {
         form: Form,
         header: Header,
@@ -42,6 +44,29 @@ pub enum Command {
         json: bool,
     },
 }
+
+/// A stream that is to be replayed.
+#[derive(Debug, PartialEq, Eq)]
+pub struct Replay {
+    pub stream: Source,
+    /// What it starts from, if not from a setup of its own.
+    pub image: Option<PathBuf>,
+    /// Whether to show what stands where at the end.
+    pub dump: bool,
+    /// Where to write what it leaves.
+    pub new: Option<PathBuf>,
+}
+
+/// Where a stream comes from.
+#[derive(Debug, PartialEq, Eq)]
+pub enum Source {
+    File(PathBuf),
+    /// Standard input.
+    Input,
+}
+
+/// The word for standard input.
+const INPUT: &str = "-";
 
 /// A header that is to be shown.
 #[derive(Debug, PartialEq, Eq)]
@@ -94,6 +119,7 @@ pub fn command(words: impl Iterator<Item = OsString>) -> Result<Command, Trouble
             let (image, svg) = (named(rest.image)?, rest.new);
             Ok(Command::Waits { image, svg })
         }
+        Some("replay") => replay::command(words),
         Some("header") => header::command(words),
         _ => Err(bad(format!("{} is no command", quoted(&name)))),
     }
@@ -110,6 +136,7 @@ fn topic(name: &OsStr, words: &[OsString]) -> Option<Topic> {
         ("dump", _) => Some(Topic::Dump),
         ("repair", _) => Some(Topic::Repair),
         ("waits", _) => Some(Topic::Waits),
+        ("replay", _) => Some(Topic::Replay),
         ("header", Some("make")) => Some(Topic::Make),
         ("header", Some("show")) => Some(Topic::Show),
         ("header", _) => Some(Topic::Header),
@@ -285,6 +312,8 @@ mod tests {
             ("repair i -o --help", Topic::Repair),
             ("waits --help", Topic::Waits),
             ("waits i --svg -h", Topic::Waits),
+            ("replay --help", Topic::Replay),
+            ("replay s --image i -h", Topic::Replay),
             ("header --help", Topic::Header),
             ("header mak --help", Topic::Header),
             ("header make -h", Topic::Make),

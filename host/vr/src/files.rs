@@ -1,12 +1,13 @@
-//! Files: an image or a header read, and a new one written.
+//! Files: an image, a header or a stream read, and a new one written.
 
 use std::fs::{self, File, Metadata, OpenOptions, Permissions};
 use std::io::{self, ErrorKind, Read, Write};
 use std::os::unix::fs::{OpenOptionsExt, PermissionsExt};
-use std::path::Path;
+use std::path::{Path, PathBuf};
 
 use ventorupo::HEADER_BYTES;
 
+use crate::args::Source;
 use crate::layout::Shape;
 use crate::trouble::Trouble;
 
@@ -61,6 +62,50 @@ pub fn read_input() -> Result<Vec<u8>, Trouble> {
     Err(Trouble::with(input, what))
 }
 
+/// A stream of fields, of which nothing is read yet.
+pub struct Stream {
+    pub bytes: Box<dyn Read>,
+    /// What it is called.
+    pub name: PathBuf,
+    /// Bytes of the whole file; none of standard input.
+    pub there: Option<u64>,
+    /// Who may read and write what is made of it.
+    mode: u32,
+}
+
+/// Open a stream.
+pub fn stream(from: &Source) -> Result<Stream, Trouble> {
+    let path = match from {
+        Source::File(path) => path,
+        Source::Input => {
+            return Ok(Stream {
+                bytes: Box::new(io::stdin()),
+                name: "standard input".into(),
+                there: None,
+                mode: 0o666,
+            })
+        }
+    };
+    let (file, about) = open(path, "a stream")?;
+    Ok(Stream {
+        bytes: Box::new(file),
+        name: path.clone(),
+        there: Some(about.len()),
+        mode: about.permissions().mode() & 0o666,
+    })
+}
+
+impl Stream {
+    /// Write what was made of it to a new file, which those may read and write who
+    /// may the stream; of standard input, who may any new file.
+    pub fn write_beside(&self, path: &Path, bytes: &[u8]) -> Result<(), Trouble> {
+        match self.there {
+            Some(_) => write_for(path, self.mode, bytes),
+            None => write_new(path, bytes),
+        }
+    }
+}
+
 /// Only a file of bytes is taken: a pipe may never answer.
 fn open(path: &Path, what: &str) -> Result<(File, Metadata), Trouble> {
     let trouble = |why: io::Error| Trouble::with(path, why);
@@ -90,6 +135,29 @@ pub fn write_new(path: &Path, bytes: &[u8]) -> Result<(), Trouble> {
     whole(path, written)
 }
 
+/// Write bytes to a new file of these permissions.
+fn write_for(path: &Path, mode: u32, bytes: &[u8]) -> Result<(), Trouble> {
+    let mut new = create(path, mode)?;
+    // A umask may have left some out. Where this fails, the file has fewer, or
+    // those that its file system gives to all.
+    let _ = new.set_permissions(Permissions::from_mode(mode));
+    let written = new.write_all(bytes).and_then(|()| new.sync_all());
+    whole(path, written)
+}
+
+/// Whether a new file of this name will not be made, as far as it can be told before
+/// the work for it is done.
+pub fn vacant(path: &Path) -> Result<(), Trouble> {
+    if fs::symlink_metadata(path).is_ok() {
+        return Err(not_made(path, ErrorKind::AlreadyExists.into()));
+    }
+    let folder = path
+        .parent()
+        .filter(|folder| !folder.as_os_str().is_empty());
+    let about = folder.map(fs::metadata).transpose();
+    about.map_err(|why| not_made(path, why)).map(drop)
+}
+
 /// A new file, with these permissions so far as a umask allows.
 fn create(path: &Path, mode: u32) -> Result<File, Trouble> {
     let mut options = OpenOptions::new();
@@ -111,8 +179,7 @@ impl Start {
     /// same permissions.
     pub fn write(mut self, path: &Path) -> Result<(), Trouble> {
         let mut new = create(path, self.mode)?;
-        // A umask may have left some out. Where this fails, the file has fewer, or
-        // those that its file system gives to all.
+        // As above.
         let _ = new.set_permissions(Permissions::from_mode(self.mode));
         let written = self.fill(&mut new);
         whole(path, written)
@@ -121,12 +188,7 @@ impl Start {
     /// Write other bytes to a new file, which those may read and write who may the
     /// image, and nobody may run.
     pub fn write_beside(&self, path: &Path, bytes: &[u8]) -> Result<(), Trouble> {
-        let mode = self.mode & 0o666;
-        let mut new = create(path, mode)?;
-        // As above.
-        let _ = new.set_permissions(Permissions::from_mode(mode));
-        let written = new.write_all(bytes).and_then(|()| new.sync_all());
-        whole(path, written)
+        write_for(path, self.mode & 0o666, bytes)
     }
 
     fn fill(&mut self, new: &mut File) -> io::Result<()> {

@@ -1,7 +1,8 @@
-//! `vr`, the night crew's tool over images of a switch's state, and over headers.
-//! What an image or a header is worth is said by the proved library; what an
-//! image holds, in words, tables, bars and JSON, and why a header is none, by readers
-//! of this crate's own, written from docs/LAYOUT.md and include/ventorupo.h.
+//! `vr`, the night crew's tool over images of a switch's state, over streams of calls
+//! and over headers. What an image, a field or a header is worth is said by the proved
+//! library; what an image holds, in words, tables, bars and JSON, and why a field is
+//! bad or a header is none, by readers of this crate's own, written from docs/LAYOUT.md
+//! and include/ventorupo.h.
 
 #![forbid(unsafe_code)]
 
@@ -16,8 +17,12 @@ pub mod json;
 pub mod layout;
 pub mod lists;
 mod mend;
+mod progress;
+mod replay;
+mod stream;
 pub mod svg;
 pub mod table;
+mod tally;
 mod trouble;
 pub mod view;
 pub mod waits;
@@ -32,6 +37,9 @@ use image::Image;
 pub use trouble::Trouble;
 use view::View;
 use waits::Drawing;
+
+/// The exit status of what could not be done.
+pub const TROUBLE: u8 = 2;
 
 /// What is said of a repair that the library refuses.
 const REFUSED: &str = "repair refused (3): it needs settings in their rows and an image long enough for them; nothing was written";
@@ -69,6 +77,7 @@ pub fn answer(words: impl Iterator<Item = OsString>) -> Result<Answer, Trouble> 
         Command::Dump { image, json } => Ok(dump(&view(&files::read(&image)?), json)),
         Command::Repair { image, new } => repair(&image, &new),
         Command::Waits { image, svg } => waits(&image, svg.as_deref()),
+        Command::Replay(asked) => replay::replay(&asked),
         Command::Make { form, header, new } => header::make(form, &header, new.as_deref()),
         Command::Show { form, given, json } => header::show(form, given, json),
     }

@@ -4,10 +4,7 @@ use std::env;
 use std::io::{self, ErrorKind, Write};
 use std::process::ExitCode;
 
-use vr::{Answer, Trouble};
-
-/// It could not be done.
-const TROUBLE: u8 = 2;
+use vr::{Answer, Trouble, TROUBLE};
 
 fn main() -> ExitCode {
     let said = vr::answer(env::args_os().skip(1)).and_then(say);

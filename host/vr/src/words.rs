@@ -158,7 +158,7 @@ fn record(image: &Image, lists: &Lists, entry: Entry) -> Option<String> {
 }
 
 /// The form of the image's headers.
-fn form(image: &Image) -> Option<Form> {
+pub fn form(image: &Image) -> Option<Form> {
     Some(Form {
         edition: image.setting(EDITION)?,
         ports: image.setting(PORTS)?,

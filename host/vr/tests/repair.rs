@@ -3,30 +3,26 @@
 mod common;
 #[path = "common/images.rs"]
 mod images;
-#[path = "common/taken.rs"]
-mod taken;
+#[path = "common/new_files.rs"]
+mod new_files;
 
-use std::ffi::OsStr;
-use std::fs::{self, Permissions};
-use std::os::unix::fs::PermissionsExt;
+use std::ffi::OsString;
+use std::fs;
 use std::path::Path;
-use std::process::Command;
 
-use common::{command, full, on, vr, Folder, Said};
+use common::{on, vr, Folder, Said};
 use images::{
     at, bucket, busy_of, changed, in_every_shape, largest, small, switch, wide, Change, SMALL,
 };
-use taken::overwrites_nothing;
+use new_files::Maker;
 use ventorupo::Settings;
 
+fn words(image: &Path, new: &Path) -> Vec<OsString> {
+    vec!["repair".into(), image.into(), "-o".into(), new.into()]
+}
+
 fn repair(image: &Path, new: &Path) -> Said {
-    let words = [
-        OsStr::new("repair"),
-        image.as_os_str(),
-        OsStr::new("-o"),
-        new.as_os_str(),
-    ];
-    vr(&words)
+    vr(&words(image, new))
 }
 
 /// What a repair of the small image must write, with this map.
@@ -215,63 +211,31 @@ fn rule_a_is_refused() {
     }
 }
 
+fn maker(bytes: &[u8]) -> Maker<'_> {
+    let name = "repair";
+    Maker { name, bytes, words }
+}
+
 #[test]
 fn nothing_is_overwritten() {
-    overwrites_nothing("repair-taken", &small(), repair);
+    maker(&small()).overwrites_nothing();
 }
 
-/// Who may read the image may read the copy, and nobody else.
 #[test]
 fn the_copy_has_the_images_permissions() {
-    let folder = Folder::new("repair-mode");
-    let mode_of = |path: &Path| fs::metadata(path).unwrap().permissions().mode();
-    for mode in [0o400, 0o600, 0o640, 0o644, 0o666, 0o777, 0o4755] {
-        let image = folder.file(format!("image{mode:o}"), &small());
-        fs::set_permissions(&image, Permissions::from_mode(mode)).unwrap();
-        let new = folder.path(format!("new{mode:o}"));
-        assert_eq!(repair(&image, &new).status, Some(0));
-        assert_eq!(mode_of(&new) & 0o7777, mode & 0o777, "{mode:o}");
-        assert_eq!(mode_of(&image) & 0o7777, mode);
-    }
+    maker(&small()).passes_on_permissions(0o777);
 }
 
-/// A copy that cannot be written whole is taken away again. Here no file may
-/// grow past some blocks, and the signal that tells of it is ignored.
 #[test]
 fn a_copy_that_does_not_fit() {
-    let folder = Folder::new("repair-limit");
-    let (image, new) = (folder.file("image", &small()), folder.path("new"));
-    let output = Command::new("sh")
-        .args(["-c", "trap '' XFSZ; ulimit -f 4; exec \"$@\"", "sh"])
-        .args([env!("CARGO_BIN_EXE_vr"), "repair", "-o"])
-        .args([&new, &image])
-        .output();
-    let said = Said::from(output.unwrap());
-    let wanted = format!("vr: {}: File too large (os error 27)\n", new.display());
-    assert_eq!(said.err, wanted);
-    assert_eq!((said.status, said.out.as_str()), (Some(2), ""));
-    assert!(!new.exists());
-    assert_eq!(fs::read(&image).unwrap(), small());
+    assert_eq!(maker(&small()).takes_away_what_does_not_fit(4), "");
 }
 
-/// The copy is there though nothing can be said of it, and that is told.
 #[test]
 fn a_copy_of_which_nothing_can_be_said() {
-    let full = match full() {
-        Some(full) => full,
-        None => return,
-    };
-    let folder = Folder::new("repair-full");
-    let (image, new) = (folder.file("image", &small()), folder.path("new"));
-    let mut vr = command();
-    vr.args(["repair", "-o"]).args([&new, &image]).stdout(full);
-    let said = Said::from(vr.output().unwrap());
-    let wanted = format!(
-        "vr: standard output: No space left on device (os error 28); {} was written\n",
-        new.display()
-    );
-    assert_eq!((said.status, said.err), (Some(2), wanted));
-    assert_eq!(fs::read(&new).unwrap(), fresh([0, 1, 2, 3]));
+    if let Some(copy) = maker(&small()).tells_of_what_it_cannot_say() {
+        assert_eq!(copy, fresh([0, 1, 2, 3]));
+    }
 }
 
 /// Many entries are told of in one line.

@@ -3,37 +3,33 @@
 mod common;
 #[path = "common/images.rs"]
 mod images;
+#[path = "common/new_files.rs"]
+mod new_files;
 #[path = "common/reading.rs"]
 mod reading;
-#[path = "common/taken.rs"]
-mod taken;
 #[path = "common/xml.rs"]
 mod xml;
 
 use std::collections::BTreeMap;
-use std::ffi::OsStr;
-use std::fs::{self, Permissions};
-use std::os::unix::fs::PermissionsExt;
+use std::ffi::{OsStr, OsString};
+use std::fs;
 use std::path::Path;
-use std::process::Command;
 
-use common::{command, full, on, vr, Folder, Said};
+use common::{on, vr, Folder, Said};
 use images::{arrive, at, bucket, busy_of, changed, in_every_shape, small, switch, wide, Change};
+use new_files::Maker;
 use reading::Json;
-use taken::overwrites_nothing;
 use traffic::Random;
 use ventorupo::{Header, Settings, Switch, Turn};
 use xml::Element;
 
+fn words(image: &Path, new: &Path) -> Vec<OsString> {
+    vec!["waits".into(), image.into(), "--svg".into(), new.into()]
+}
+
 /// `vr waits` that writes a picture too.
 fn drawn(image: &Path, new: &Path) -> Said {
-    let words = [
-        OsStr::new("waits"),
-        image.as_os_str(),
-        OsStr::new("--svg"),
-        new.as_os_str(),
-    ];
-    vr(&words)
+    vr(&words(image, new))
 }
 
 const CAPTION: &str =
@@ -610,65 +606,33 @@ fn pictures_of_other_images() {
     }
 }
 
+fn maker(bytes: &[u8]) -> Maker<'_> {
+    let name = "waits";
+    Maker { name, bytes, words }
+}
+
 #[test]
 fn nothing_is_overwritten() {
-    overwrites_nothing("waits-taken", &small(), drawn);
+    maker(&small()).overwrites_nothing();
 }
 
-/// Who may read the image may read the picture, and nobody else; nobody may run
-/// it.
+/// But nobody may run it.
 #[test]
 fn the_picture_has_the_images_permissions() {
-    let folder = Folder::new("waits-mode");
-    let mode_of = |path: &Path| fs::metadata(path).unwrap().permissions().mode();
-    for mode in [0o400, 0o600, 0o640, 0o666, 0o777] {
-        let image = folder.file(format!("image{mode:o}"), &small());
-        fs::set_permissions(&image, Permissions::from_mode(mode)).unwrap();
-        let new = folder.path(format!("new{mode:o}"));
-        assert_eq!(drawn(&image, &new).status, Some(0));
-        assert_eq!(mode_of(&new) & 0o7777, mode & 0o666, "{mode:o}");
-        assert_eq!(mode_of(&image) & 0o7777, mode);
-    }
+    maker(&small()).passes_on_permissions(0o666);
 }
 
-/// A picture that cannot be written whole is taken away again: no file may grow
-/// past some blocks here.
 #[test]
 fn a_picture_that_does_not_fit() {
-    let folder = Folder::new("waits-limit");
     let full: Vec<Change> = (0..33).map(|b| bucket(1, b, 5)).collect();
-    let image = folder.file("image", &changed(&full));
-    let new = folder.path("new");
-    let output = Command::new("sh")
-        .args(["-c", "trap '' XFSZ; ulimit -f 1; exec \"$@\"", "sh"])
-        .args([env!("CARGO_BIN_EXE_vr"), "waits", "--svg"])
-        .args([&new, &image])
-        .output();
-    let said = Said::from(output.unwrap());
-    let wanted = format!("vr: {}: File too large (os error 27)\n", new.display());
-    assert_eq!(said.err, wanted);
-    assert_eq!((said.status, said.out.as_str()), (Some(2), ""));
-    assert!(!new.exists());
+    let image = changed(&full);
+    assert_eq!(maker(&image).takes_away_what_does_not_fit(1), "");
 }
 
-/// The picture is there though nothing can be said of it, and that is told.
 #[test]
 fn a_picture_of_which_nothing_can_be_said() {
-    let full = match full() {
-        Some(full) => full,
-        None => return,
-    };
-    let folder = Folder::new("waits-full");
-    let (image, new) = (folder.file("image", &small()), folder.path("new"));
-    let mut vr = command();
-    vr.args(["waits", "--svg"])
-        .args([&new, &image])
-        .stdout(full);
-    let said = Said::from(vr.output().unwrap());
-    let wanted = format!(
-        "vr: standard output: No space left on device (os error 28); {} was written\n",
-        new.display()
-    );
-    assert_eq!((said.status, said.err), (Some(2), wanted));
-    assert!(new.exists());
+    if let Some(picture) = maker(&small()).tells_of_what_it_cannot_say() {
+        let text = String::from_utf8(picture).unwrap();
+        assert_eq!(Element::read(&text).name, "svg");
+    }
 }

@@ -7,12 +7,9 @@ use std::path::PathBuf;
 use ventorupo::{Form, Header, TEN_BYTES, WIDE};
 
 use super::{bad, file_named, is_dashed, name_behind, no_option, quoted, twice, unknown};
-use super::{Command, Given};
+use super::{Command, Given, INPUT};
 use crate::hex::{self, NoBytes};
 use crate::trouble::Trouble;
-
-/// The word for standard input.
-const INPUT: &str = "-";
 
 /// The options with a number behind them: those of the form, those of the
 /// fields that every header has to be told, and those that are 0 else.

@@ -8,13 +8,15 @@ pub enum Topic {
     Dump,
     Repair,
     Waits,
+    Replay,
     Header,
     Make,
     Show,
 }
 
 const TOP: &str = "\
-vr: images of a switch's state, explained, shown, drawn and repaired; headers made and shown
+vr: images of a switch's state, explained, shown, drawn and repaired; streams of calls replayed; headers
+made and shown
 ";
 
 const EXPLAIN: &str = "    \
@@ -33,6 +35,12 @@ const WAITS: &str = "    \
     vr waits IMAGE [--svg NEW]
                              draws how long each port's packets waited, in bars; with --svg, writes the
                              drawing to NEW too, as an SVG picture
+";
+
+const REPLAY: &str = "    \
+    vr replay STREAM [--image IMAGE] [--dump] [-o NEW]
+                             carries out a stream of calls and says how many were done and refused; with
+                             --dump, shows what stands where then; with -o, writes the image to NEW
 ";
 
 const MAKE: &str = "    \
@@ -70,6 +78,14 @@ IMAGE does not say. A bucket that counts anything has a bar, however small its s
 at 4294967295 stands for as many or more.
 ";
 
+const STREAMS: &str = "\
+STREAM is a file of the bench program's fields, or - for standard input: tag (1 byte), length of the value
+(2), value. Tags: 1 setup, 2 arrive, 3 stitch, 4 prefetch, 5 turn, 6 credit, 7 map. It starts with a setup,
+or from IMAGE, of any edition, in which arrivals may have headers of its size. A setup further on sets up
+anew; before there is a state all else is refused 3. A bad field (another tag, a wrong length, cut off) ends
+the replay; what was done before it counts, and is shown and written.
+";
+
 const NEW: &str = "\
 NEW must not be there yet: vr overwrites nothing.
 ";
@@ -90,8 +106,9 @@ A number N is decimal or, behind 0x, hexadecimal; --name=N is --name N.
 ";
 
 const STATUS: &str = "\
-Exit status: 0 a sound state, repaired, made or shown; 1 a broken state, or refused; 2 it could not be
-done (a wrong command, a file that cannot be read or written), with the reason on standard error.
+Exit status: 0 a sound state, repaired, replayed to the end, made or shown; 1 a broken state, a bad field,
+or refused; 2 it could not be done (a wrong command, a file that cannot be read or written), with the reason
+on standard error.
 ";
 
 impl Topic {
@@ -111,13 +128,16 @@ impl Topic {
     fn parts(self) -> (&'static [&'static str], &'static [&'static str]) {
         match self {
             Topic::All => (
-                &[EXPLAIN, DUMP, REPAIR, WAITS, MAKE, SHOW, OTHERS],
-                &[IMAGES, REPAIRS, DRAWN, NEW, HEADERS, FORMS, NUMBERS],
+                &[EXPLAIN, DUMP, REPAIR, WAITS, REPLAY, MAKE, SHOW, OTHERS],
+                &[
+                    IMAGES, REPAIRS, DRAWN, STREAMS, NEW, HEADERS, FORMS, NUMBERS,
+                ],
             ),
             Topic::Explain => (&[EXPLAIN], &[IMAGES]),
             Topic::Dump => (&[DUMP], &[IMAGES]),
             Topic::Repair => (&[REPAIR], &[IMAGES, REPAIRS, NEW]),
             Topic::Waits => (&[WAITS], &[IMAGES, DRAWN, NEW]),
+            Topic::Replay => (&[REPLAY], &[IMAGES, STREAMS, NEW]),
             Topic::Header => (&[MAKE, SHOW], &[HEADERS, FORMS, NUMBERS, NEW]),
             Topic::Make => (&[MAKE], &[FORMS, NUMBERS, NEW]),
             Topic::Show => (&[SHOW], &[HEADERS, FORMS, NUMBERS]),
@@ -136,6 +156,7 @@ mod tests {
             (Topic::Dump, "vr dump"),
             (Topic::Repair, "vr repair"),
             (Topic::Waits, "vr waits"),
+            (Topic::Replay, "vr replay"),
             (Topic::Make, "vr header make"),
             (Topic::Show, "vr header show"),
         ];
@@ -158,13 +179,14 @@ mod tests {
             (Topic::Explain, &["IMAGE"][..]),
             (Topic::Repair, &["IMAGE", "NEW"]),
             (Topic::Waits, &["IMAGE", "NEW"]),
+            (Topic::Replay, &["IMAGE", "STREAM", "NEW"]),
             (Topic::Header, &["HEADER", "FORM", "NEW"]),
             (Topic::Make, &["FORM", "NEW"]),
             (Topic::Show, &["HEADER", "FORM"]),
         ];
         for (topic, names) in topics {
             let text = topic.text();
-            for name in ["IMAGE", "NEW", "HEADER", "FORM"] {
+            for name in ["IMAGE", "STREAM", "NEW", "HEADER", "FORM"] {
                 let explained = text.contains(&format!("\n{name} "));
                 assert_eq!(explained, names.contains(&name), "{name}: {text}");
             }
