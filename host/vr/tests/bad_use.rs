@@ -71,6 +71,25 @@ fn wrong_command_lines() {
             "waits one -o new",
             "`-o` is no option here; for a file of that name write `./-o`",
         ),
+        ("replay", "no stream is named"),
+        ("replay --dump", "no stream is named"),
+        ("replay one two", "`two` is one name too many"),
+        ("replay one -", "`-` is one name too many"),
+        ("replay one --image", "--image needs a name behind it"),
+        ("replay one -o new -o new", "-o is there twice"),
+        ("replay one --image a --image b", "--image is there twice"),
+        (
+            "replay one --image=a",
+            "`--image=a` is no option here; write `--image a`",
+        ),
+        (
+            "replay one --json",
+            "`--json` is no option here; for a file of that name write `./--json`",
+        ),
+        (
+            "replay one -o -",
+            "-o needs a name behind it, not `-`; for a file of that name write `./-`",
+        ),
         (
             "waits one --svg --json",
             "--svg needs a name behind it, not `--json`; for a file of that name write `./--json`",

@@ -3,11 +3,14 @@
 mod common;
 #[path = "common/images.rs"]
 mod images;
+#[path = "common/streams.rs"]
+mod streams;
 
 use std::process::Command;
 
 use common::{program, Folder, Said};
 use images::{at, bucket, changed};
+use streams::whole_case;
 
 /// The commands of a session, each with what it must say.
 fn session(number: usize) -> Vec<(String, String)> {
@@ -79,6 +82,14 @@ fn the_session_of_waits_is_as_written() {
 }
 
 #[test]
+fn the_session_of_replays_is_as_written() {
+    let folder = Folder::new("readme-replays");
+    folder.file("stream", &whole_case());
+    folder.file("more", &[&whole_case()[10..24], &[5]].concat());
+    is_as_written(2, 3, &folder);
+}
+
+#[test]
 fn the_session_of_headers_is_as_written() {
-    is_as_written(2, 7, &Folder::new("readme-headers"));
+    is_as_written(3, 7, &Folder::new("readme-headers"));
 }

@@ -5,6 +5,8 @@ mod common;
 mod images;
 #[path = "common/new_files.rs"]
 mod new_files;
+#[path = "common/streams.rs"]
+mod streams;
 
 use std::collections::BTreeMap;
 use std::ffi::OsString;
@@ -18,17 +20,9 @@ use std::time::Duration;
 use common::{command, on, program, vr, Folder, Said};
 use images::{at, busy_of, changed, in_every_shape, small, wide};
 use new_files::Maker;
+use streams::whole_case;
 use traffic::Random;
 use ventorupo::{find, size, Header, Refusal, Settings, Switch, Turn};
-
-/// The bytes of the scope paper's whole case.
-fn whole_case() -> Vec<u8> {
-    let text = include_str!("../../../examples/whole-case.hex");
-    let lines = text.lines().map(|line| line.split('#').next().unwrap());
-    let digits: String = lines.flat_map(str::split_whitespace).collect();
-    let byte = |at: usize| u8::from_str_radix(&digits[at..at + 2], 16).unwrap();
-    (0..digits.len()).step_by(2).map(byte).collect()
-}
 
 fn field(tag: u8, value: &[u8]) -> Vec<u8> {
     let length = (value.len() as u16).to_be_bytes();
