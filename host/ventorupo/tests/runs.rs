@@ -179,6 +179,20 @@ fn runs_of_parts_are_the_run_of_all() {
     }
 }
 
+/// The answers of the fields below.
+const TOLD: [[u8; ANSWER_BYTES]; 10] = [
+    [0, 0, 0x18, 0],
+    [8, 0, 0, 0],
+    [0, 0, 0x18, 0],
+    [0, 0, 0x18, 0],
+    [12, 0, 0, 0],
+    [0, 0, 0x18, 0],
+    [0, 1, 0, 0],
+    [0, 0, 0, 0],
+    [14, 0, 0, 0],
+    [0, 0, 0, 0],
+];
+
 /// The room of a run by hand, byte by byte.
 #[test]
 fn four_bytes_for_each_answer() {
@@ -196,19 +210,7 @@ fn four_bytes_for_each_answer() {
         field(7, &[255, 3]),
     ]
     .concat();
-    let told = [
-        [0, 0, 0x18, 0],
-        [8, 0, 0, 0],
-        [0, 0, 0x18, 0],
-        [0, 0, 0x18, 0],
-        [12, 0, 0, 0],
-        [0, 0, 0x18, 0],
-        [0, 1, 0, 0],
-        [0, 0, 0, 0],
-        [14, 0, 0, 0],
-        [0, 0, 0, 0],
-    ]
-    .concat();
+    let told = TOLD.concat();
     let mut room = vec![9; told.len() + 5];
     let ran = switch.run_fields(&fields, &mut room).unwrap();
     let wanted = Ran {

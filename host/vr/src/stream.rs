@@ -221,49 +221,53 @@ mod tests {
         assert_eq!(Front::of(&setup).bytes(), 10);
     }
 
+    const TEN: Form = Form::TEN_BYTES;
+    const WIDE: Form = Form::wide(8, 16);
+
+    const BAD: [(&[u8], Form, &str); 10] = [
+        (&[0], WIDE, "tag 0 is none of 1 to 7"),
+        (&[8, 0, 0], WIDE, "tag 8 is none of 1 to 7"),
+        (
+            &[5],
+            WIDE,
+            "it is cut off, 1 byte of turn's tag and length are there",
+        ),
+        (
+            &[7, 0],
+            WIDE,
+            "it is cut off, 2 bytes of map's tag and length are there",
+        ),
+        (
+            &[5, 0, 2, 0, 0],
+            WIDE,
+            "turn has a value of 1 byte, and this one is of 2 bytes",
+        ),
+        (
+            &[1, 0, 1, 0],
+            WIDE,
+            "setup has a value of 7 bytes, and this one is of 1 byte",
+        ),
+        (
+            &[2, 1, 0],
+            WIDE,
+            "arrive has a value of 11 or 12 bytes, and this one is of 256 bytes",
+        ),
+        (
+            &[2, 0, 12],
+            TEN,
+            "arrive has a value of 11 bytes, and this one is of 12 bytes",
+        ),
+        (
+            &[2, 0, 12, 1],
+            WIDE,
+            "it is cut off, 1 of the 12 bytes of arrive's value are there",
+        ),
+        (&[5, 0, 1, 0], WIDE, UNSEEN),
+    ];
+
     #[test]
     fn bad_fields_in_words() {
-        let wide = Form::wide(8, 16);
-        for (bytes, form, why) in [
-            (&[0][..], wide, "tag 0 is none of 1 to 7"),
-            (&[8, 0, 0], wide, "tag 8 is none of 1 to 7"),
-            (
-                &[5],
-                wide,
-                "it is cut off, 1 byte of turn's tag and length are there",
-            ),
-            (
-                &[7, 0],
-                wide,
-                "it is cut off, 2 bytes of map's tag and length are there",
-            ),
-            (
-                &[5, 0, 2, 0, 0],
-                wide,
-                "turn has a value of 1 byte, and this one is of 2 bytes",
-            ),
-            (
-                &[1, 0, 1, 0],
-                wide,
-                "setup has a value of 7 bytes, and this one is of 1 byte",
-            ),
-            (
-                &[2, 1, 0],
-                wide,
-                "arrive has a value of 11 or 12 bytes, and this one is of 256 bytes",
-            ),
-            (
-                &[2, 0, 12],
-                Form::TEN_BYTES,
-                "arrive has a value of 11 bytes, and this one is of 12 bytes",
-            ),
-            (
-                &[2, 0, 12, 1],
-                wide,
-                "it is cut off, 1 of the 12 bytes of arrive's value are there",
-            ),
-            (&[5, 0, 1, 0], wide, UNSEEN),
-        ] {
+        for (bytes, form, why) in BAD {
             assert_eq!(why_bad(bytes, form), why);
         }
     }

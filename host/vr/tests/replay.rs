@@ -405,11 +405,21 @@ fn from_an_image_of_every_shape() {
     }
 }
 
+const ON_WIDE: &str = "\
+4 calls, 37 bytes: to the end of the stream
+
+  call  made  done  of them idle  refused
+arrive     2     1             0        1
+  turn     2     2             1        0
+
+refused 6, HeaderSize (header not of its edition's size): 1 call
+";
+
+/// The packet in the slots of port 3 leaves, and its node is used again.
 #[test]
 fn a_wide_image_exactly() {
     let folder = Folder::new("replay-wide");
     let (image, new) = (folder.file("image", &wide()), folder.path("new"));
-    // The packet in the slots of port 3 leaves; a header of port 4's comes in there.
     let settings = Settings::wide(5, 3, 1, 64, 1, 16);
     let header = Header {
         source: 4,
@@ -417,7 +427,6 @@ fn a_wide_image_exactly() {
         ..Header::default()
     };
     let header = settings.form().write(&header).unwrap();
-    assert_eq!(header.len(), 11);
     let arrive = field(2, &[&[4], &header[..]].concat());
     let ten = field(2, &[4; 11]);
     let stream = folder.file("stream", &[turn(3), arrive, ten, turn(3)].concat());
@@ -428,19 +437,8 @@ fn a_wide_image_exactly() {
         new.to_str().unwrap(),
     ];
     let said = replay(&stream, &words);
-    let wanted = format!(
-        "4 calls, 37 bytes: to the end of the stream\n\
-         \n\
-         \x20 call  made  done  of them idle  refused\n\
-         arrive     2     1             0        1\n\
-         \x20 turn     2     2             1        0\n\
-         \n\
-         refused 6, HeaderSize (header not of its edition's size): 1 call\n\
-         \n\
-         written: {}; {} is as it was\n",
-        new.display(),
-        image.display()
-    );
+    let (new_name, image_name) = (new.display(), image.display());
+    let wanted = format!("{ON_WIDE}\nwritten: {new_name}; {image_name} is as it was\n");
     assert_eq!(but_speed(&said.out), wanted);
     assert_eq!((said.status, said.err.as_str()), (Some(0), ""));
     let mut switch = Switch::over(wide());
@@ -449,15 +447,38 @@ fn a_wide_image_exactly() {
     assert_eq!(fs::read(&new).unwrap(), switch.into_memory());
 }
 
-/// The field, its number and its place are told, and what was done stays done.
+/// A bad field behind two good ones: its number and its place are told, and what was
+/// done stays done. What stands behind it is not looked at.
+fn stops_at(folder: &Folder, bad: &[u8], why: &str) {
+    let start = [setup(2), turn(0)].concat();
+    for (i, behind) in [vec![], [turn(1), turn(2)].concat()].iter().enumerate() {
+        let stream = folder.file("stream", &[&start[..], bad, behind].concat());
+        let new = folder.path(format!("new{i}"));
+        let said = replay(&stream, &["-o", new.to_str().unwrap()]);
+        let wanted = format!(
+            "2 calls, 14 bytes; stopped at field 3, byte 14, a bad field: {why}\n\
+             \n\
+             \x20call  made  done  of them idle  refused\n\
+             setup     1     1             0        0\n\
+             \x20turn     1     1             1        0\n\
+             \n\
+             written: {}\n",
+            new.display()
+        );
+        assert_eq!(but_speed(&said.out), wanted);
+        assert_eq!((said.status, said.err.as_str()), (Some(1), ""));
+        assert_eq!(on("explain", &new).out, "a sound state\n");
+        fs::remove_file(new).unwrap();
+    }
+}
+
 #[test]
 fn bad_fields() {
     let folder = Folder::new("replay-bad");
-    let start = [setup(2), turn(0)].concat();
-    for (i, (bad, why)) in [
+    for (bad, why) in [
         (field(0, &[]), "tag 0 is none of 1 to 7"),
         (field(8, &[0]), "tag 8 is none of 1 to 7"),
-        (vec![255], "tag 255 is none of 1 to 7"),
+        (field(255, &[0; 7]), "tag 255 is none of 1 to 7"),
         (
             field(1, &[0; 8]),
             "setup has a value of 7 bytes, and this one is of 8 bytes",
@@ -474,29 +495,8 @@ fn bad_fields() {
             field(6, &[0; 65_535]),
             "credit has a value of 4 bytes, and this one is of 65535 bytes",
         ),
-    ]
-    .into_iter()
-    .enumerate()
-    {
-        // What stands behind it is not looked at.
-        for behind in [vec![], [turn(1), turn(2)].concat()] {
-            let stream = folder.file("stream", &[&start[..], &bad, &behind].concat());
-            let new = folder.path(format!("new{i}-{}", behind.len()));
-            let said = replay(&stream, &["-o", new.to_str().unwrap()]);
-            let wanted = format!(
-                "2 calls, 14 bytes; stopped at field 3, byte 14, a bad field: {why}\n\
-                 \n\
-                 \x20call  made  done  of them idle  refused\n\
-                 setup     1     1             0        0\n\
-                 \x20turn     1     1             1        0\n\
-                 \n\
-                 written: {}\n",
-                new.display()
-            );
-            assert_eq!(but_speed(&said.out), wanted);
-            assert_eq!((said.status, said.err.as_str()), (Some(1), ""));
-            assert_eq!(on("explain", &new).out, "a sound state\n");
-        }
+    ] {
+        stops_at(&folder, &bad, why);
     }
 }
 
