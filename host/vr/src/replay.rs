@@ -47,7 +47,7 @@ pub fn replay(asked: &Replay) -> Result<Answer, Trouble> {
     let mut answer = Answer::new(replayed.text(), replayed.status());
     let state = replayed.state;
     let left = Left::new(replayed.memory, image);
-    if asked.dump {
+    if asked.dump && state {
         answer.text += &format!("\n{}", table::table(&left.view()));
     }
     match new {

@@ -615,7 +615,8 @@ const NO_STATE: &str =
 fn streams_without_a_setup() {
     let folder = Folder::new("replay-no-setup");
     let new = folder.path("new");
-    let words = ["-o", new.to_str().unwrap()];
+    // Nor is there anything to be shown.
+    let words = ["--dump", "-o", new.to_str().unwrap()];
     let all = whole_case()[10..].to_vec();
     let refused = [setup(0), all.clone()].concat();
     for bytes in [all, refused, vec![]] {
@@ -717,6 +718,24 @@ fn nothing_is_overwritten() {
 #[test]
 fn the_image_has_the_streams_permissions() {
     maker(&whole_case()).passes_on_permissions(0o666);
+}
+
+/// What is made of an image has all of the image's permissions.
+#[test]
+fn the_image_has_the_other_images_permissions() {
+    // Of an empty stream: standard input is closed.
+    fn words(image: &Path, new: &Path) -> Vec<OsString> {
+        let start = ["replay", "-", "--image"].map(OsString::from);
+        let rest = [image.into(), "-o".into(), new.into()];
+        start.into_iter().chain(rest).collect()
+    }
+    let (name, bytes) = ("replay-image", &wide());
+    let maker = Maker { name, bytes, words };
+    maker.overwrites_nothing();
+    maker.passes_on_permissions(0o777);
+    if let Some(image) = maker.tells_of_what_it_cannot_say() {
+        assert_eq!(image, wide());
+    }
 }
 
 /// What the replay came to is said all the same.
