@@ -10,8 +10,8 @@
  * port has none. Nothing has to be checked beforehand: any memory and any numbers are taken. Where a call is refused 3, vr_find tells why,
  * and vr_repair makes a state again of every memory that keeps rule (a), whose packets are lost then.
  *
- * That the memory is a state is tested by each call anew, and the more nodes there are, the longer it takes. Many calls pay for one test in a
- * round, which is the next step of every port, and in a run (vr_run), which is arrivals, stitches, prefetches, turns, credits and map
+ * Each call that works on a state tests first that the memory is one, which takes the longer the more nodes there are. Many calls pay for one
+ * test in a round (vr_round), the next step of every port, and in a run (vr_run), arrivals, stitches, prefetches, turns, credits and map
  * entries in any order, written into one buffer. A run itself is refused 3 alone; what its calls are refused stands in their answers.
  *
  * The settings, and the row of each; a number that is not in its row is refused 2:
@@ -196,8 +196,8 @@ uint32_t vr_round(uint8_t *mem, size_t len, uint8_t *turns, size_t turns_len);
  * So a turn of port 3 is 5, 0, 1, 3. Memory and answers are as of the same calls one by one, but the memory is tested once. These are the
  * bench program's fields, so a header of ten bytes is a good field on a wide switch too, where it is refused 6.
  * Writes four bytes for each field's answer, one behind the other: refusal number (1), 1 if idle (1), entry id (2, big-endian) or 0. The
- * entry id is that of arrive, prefetch and turn, and of stitch the one in its record; credit and map have none. A refused field changes what
- * its call does when refused, and the run goes on behind it.
+ * entry id is that of arrive, prefetch and turn, and of stitch the one in its record; credit and map have none. A field that is refused
+ * leaves what its call leaves when it is refused, and the run goes on with the next.
  * The run stops where the fields end (VR_ENDED); at a bad field, which is one of another tag or length or one that is cut off
  * (VR_BAD_FIELD); or at a good field where less than four bytes of room are left (VR_NO_ROOM). A bad field is bad also where no room is left.
  * A setup has no place in a run: tag 1 is bad, whatever its length. Writes to `count` how many fields were done, refused ones among them, and
