@@ -128,27 +128,67 @@ impl Batch {
     }
 
     /// As [`Switch::stitch`]; of the record there is the entry id alone.
+    ///
+    /// ```
+    /// use ventorupo::{Batch, Form};
+    ///
+    /// let mut batch = Batch::new(Form::TEN_BYTES).unwrap();
+    /// batch.stitch(2);
+    /// assert_eq!(batch.as_bytes(), [3, 0, 1, 2]);
+    /// ```
     pub fn stitch(&mut self, port: u8) -> &mut Batch {
         self.put(STITCH, port, &[])
     }
 
     /// As [`Switch::prefetch`].
+    ///
+    /// ```
+    /// use ventorupo::{Batch, Form};
+    ///
+    /// let mut batch = Batch::new(Form::TEN_BYTES).unwrap();
+    /// batch.prefetch(2, 5);
+    /// assert_eq!(batch.as_bytes(), [4, 0, 2, 2, 5]);
+    /// ```
     pub fn prefetch(&mut self, port: u8, queue: u8) -> &mut Batch {
         self.put(PREFETCH, port, &[queue])
     }
 
     /// As [`Switch::turn`]; of what is sent there is the entry id alone.
+    ///
+    /// ```
+    /// use ventorupo::{Batch, Form};
+    ///
+    /// let mut batch = Batch::new(Form::TEN_BYTES).unwrap();
+    /// batch.turn(2);
+    /// assert_eq!(batch.as_bytes(), [5, 0, 1, 2]);
+    /// ```
     pub fn turn(&mut self, port: u8) -> &mut Batch {
         self.put(TURN, port, &[])
     }
 
     /// As [`Switch::credit`].
+    ///
+    /// ```
+    /// use ventorupo::{Batch, Form};
+    ///
+    /// let mut batch = Batch::new(Form::TEN_BYTES).unwrap();
+    /// batch.credit(2, 5, 258);
+    /// assert_eq!(batch.as_bytes(), [6, 0, 4, 2, 5, 1, 2]);
+    /// ```
     pub fn credit(&mut self, port: u8, queue: u8, amount: u16) -> &mut Batch {
         let [high, low] = amount.to_be_bytes();
         self.put(CREDIT, port, &[queue, high, low])
     }
 
     /// As [`Switch::map`].
+    ///
+    /// ```
+    /// use ventorupo::{Batch, Form};
+    ///
+    /// let mut batch = Batch::new(Form::TEN_BYTES).unwrap();
+    /// batch.map_to(9, 2);
+    /// assert_eq!(batch.as_bytes(), [7, 0, 2, 9, 2]);
+    /// ```
     pub fn map_to(&mut self, id: u8, port: u8) -> &mut Batch {
         self.put(MAP, id, &[port])
     }
@@ -164,6 +204,15 @@ impl Batch {
     }
 
     /// How many calls it has. A run writes [`ANSWER_BYTES`] for each.
+    ///
+    /// ```
+    /// use ventorupo::{Batch, Form};
+    ///
+    /// let mut batch = Batch::new(Form::TEN_BYTES).unwrap();
+    /// assert!(batch.is_empty());
+    /// batch.stitch(2).turn(2);
+    /// assert_eq!((batch.len(), batch.is_empty()), (2, false));
+    /// ```
     pub fn len(&self) -> usize {
         self.len
     }
@@ -214,7 +263,7 @@ impl Batch {
 /// let why = switch.run(&batch).unwrap_err();
 /// assert_eq!(
 ///     why.to_string(),
-///     "stopped after 2 calls: the next one's header is of another form than the switch's"
+///     "stopped at a header of another form than the switch's; calls done before it: 2"
 /// );
 /// assert!(matches!(why, Unfinished::Stopped(done) if done.len() == 2));
 /// # Ok::<(), Refusal>(())
@@ -236,7 +285,7 @@ impl fmt::Display for Unfinished {
             Unfinished::Refused(refusal) => refusal.fmt(f),
             Unfinished::Stopped(done) => {
                 let calls = done.len();
-                write!(f, "stopped after {calls} calls: the next one's header is of another form than the switch's")
+                write!(f, "stopped at a header of another form than the switch's; calls done before it: {calls}")
             }
         }
     }

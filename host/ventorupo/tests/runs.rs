@@ -382,7 +382,7 @@ fn a_batch_on_a_switch_of_another_form() {
             let done = vec![Answer::Turned(Ok(None)), Answer::Arrived(Err(refused))];
             let stopped = Unfinished::Stopped(done);
             let said =
-                "stopped after 2 calls: the next one's header is of another form than the switch's";
+                "stopped at a header of another form than the switch's; calls done before it: 2";
             assert_eq!(stopped.to_string(), said);
             assert_eq!(answers, Err(stopped));
         }
