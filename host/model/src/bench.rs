@@ -16,7 +16,9 @@ pub fn bench(input: &[u8]) -> Vec<u8> {
     let mut number = 0u64;
     while !rest.is_empty() {
         number += 1;
-        let (call, after) = match read_field(rest) {
+        let field =
+            split_field(rest).and_then(|(tag, value, after)| Some((read_call(tag, value)?, after)));
+        let (call, after) = match field {
             Some(field) => field,
             None => {
                 lines += &format!("{number} bad\n");
@@ -29,20 +31,18 @@ pub fn bench(input: &[u8]) -> Vec<u8> {
     lines.into_bytes()
 }
 
-/// One field, and the bytes after it; none if it is bad: another tag, a wrong
-/// length or a cut field.
-fn read_field(bytes: &[u8]) -> Option<(Call, &[u8])> {
+/// The first field's tag and value, and the bytes after it; none if it is cut.
+pub(crate) fn split_field(bytes: &[u8]) -> Option<(u8, &[u8], &[u8])> {
     let (tag, high, low, rest) = match bytes {
         &[tag, high, low, ref rest @ ..] => (tag, high, low, rest),
         _ => return None,
     };
     let length = u16::from_be_bytes([high, low]) as usize;
-    let value = rest.get(..length)?;
-    Some((read_call(tag, value)?, &rest[length..]))
+    Some((tag, rest.get(..length)?, &rest[length..]))
 }
 
 /// The call in a field; none for another tag or a wrong length.
-fn read_call(tag: u8, value: &[u8]) -> Option<Call> {
+pub(crate) fn read_call(tag: u8, value: &[u8]) -> Option<Call> {
     let two = |high: u8, low: u8| u32::from(u16::from_be_bytes([high, low]));
     let call = match (tag, value) {
         (1, &[n1, n0, b1, b0, slots, k1, k0]) => Call::Setup(Settings::ten_bytes(

@@ -1,5 +1,5 @@
 //! An independent model of the queue manager, written from papers 01 and 02
-//! (requests) alone.
+//! (requests) alone.
 //!
 //! The model keeps plain lists and numbers; it has no memory image. The
 //! caller's memory is only a length here, so that setup can refuse a short one.
@@ -11,11 +11,13 @@ mod check;
 pub mod checksum;
 pub mod header;
 pub mod ledger;
+mod runs;
 mod shape;
 #[cfg(test)]
 mod tests;
 
 pub use ledger::{Ledger, Port};
+pub use runs::{Ran, Stop};
 pub use shape::{Settings, Shape, TEN_BYTES, WIDE};
 
 /// The most ports.

@@ -3,6 +3,7 @@
 //! are in `wide`.
 
 mod halts;
+mod runs;
 mod waits;
 mod wide;
 
