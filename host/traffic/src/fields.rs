@@ -1,6 +1,6 @@
-//! Tagged fields for the bench program.
+//! Tagged fields for the bench program, and for runs.
 
-use model::{bench, marked, Call, Model, Settings};
+use model::{bench, marked, Call, Model, Settings, Shape};
 
 use crate::random::Random;
 use crate::{Profile, Traffic};
@@ -64,7 +64,21 @@ pub fn field(call: &Call) -> Option<Vec<u8>> {
     Some(tagged(tag, &value))
 }
 
-fn tagged(tag: u8, value: &[u8]) -> Vec<u8> {
+/// A call's field in a run on a switch of this shape: as the bench's, but that an
+/// arrival's header may be as long as the switch's, and a setup has none.
+pub fn run_field(shape: &Shape, call: &Call) -> Option<Vec<u8>> {
+    match call {
+        Call::Setup(_) => None,
+        Call::Arrive { port, header } if header.len() == shape.header_bytes() => {
+            let port = u8::try_from(*port).ok()?;
+            Some(tagged(2, &[&[port], &header[..]].concat()))
+        }
+        _ => field(call),
+    }
+}
+
+/// Any tag, and a value with its length before it.
+pub fn tagged(tag: u8, value: &[u8]) -> Vec<u8> {
     let mut bytes = vec![tag];
     bytes.extend((value.len() as u16).to_be_bytes());
     bytes.extend(value);
@@ -103,15 +117,47 @@ pub(crate) fn calls(random: &mut Random, seed: u64, n: usize) -> Vec<Call> {
             }
             (call, _) => call,
         };
-        if field(&call).is_some() && made(random, &mut model, &call) {
+        if field(&call).is_some() && made(random, &mut model, &call, LIES_FOR_ONE) {
             calls.push(call);
         }
     }
     calls
 }
 
-/// Makes the call, unless it is one of the lies that are left out.
-fn made(random: &mut Random, model: &mut Model, call: &Call) -> bool {
+/// In a run nothing clears a port: of the lies, one is left in for so many fields
+/// of its length, or for as many as above.
+const FIELDS_FOR_ONE: usize = 20;
+
+/// The next so many calls of the traffic that have a field in a run; the model,
+/// which has a ledger, makes them too.
+pub fn run_calls(
+    random: &mut Random,
+    traffic: &mut Traffic,
+    model: &mut Model,
+    n: usize,
+) -> Vec<Call> {
+    let shape = match model.ledger() {
+        Some(ledger) => ledger.settings.shape(),
+        None => return Vec::new(),
+    };
+    let lies_for_one = LIES_FOR_ONE.max((n / FIELDS_FOR_ONE) as u32);
+    let mut calls = Vec::with_capacity(n);
+    while calls.len() < n {
+        let call = match traffic.next(model) {
+            // No field is given the time.
+            Call::TimedTurn { port, .. } => Call::Turn { port },
+            call => call,
+        };
+        if run_field(&shape, &call).is_some() && made(random, model, &call, lies_for_one) {
+            calls.push(call);
+        }
+    }
+    calls
+}
+
+/// Makes the call, unless it is one of the lies that are left out: all but one for
+/// so many.
+fn made(random: &mut Random, model: &mut Model, call: &Call, lies_for_one: u32) -> bool {
     let mark = |model: &Model, port: u32| Some(model.ledger()?.ports.get(port as usize)?.mark);
     let unmarked = match call {
         Call::Arrive { port, .. } => mark(model, *port) == Some(0),
@@ -119,7 +165,7 @@ fn made(random: &mut Random, model: &mut Model, call: &Call) -> bool {
     };
     let reply = model.call(call);
     match marked(call, &reply) {
-        Some((port, _)) if unmarked && !random.one_in(LIES_FOR_ONE) => {
+        Some((port, _)) if unmarked && !random.one_in(lies_for_one) => {
             // Undone: the mark is all that it has changed.
             model.call(&Call::Clear { port });
             false

@@ -10,7 +10,7 @@ mod random;
 #[cfg(test)]
 mod tests;
 
-pub use fields::{field, stream};
+pub use fields::{field, run_calls, run_field, stream, tagged};
 pub use halts::{Before, Halts};
 pub use headers::{header, plain, SHAPES};
 pub use random::Random;

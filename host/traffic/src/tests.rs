@@ -2,13 +2,16 @@ use std::collections::BTreeMap;
 
 use model::bench::bench;
 use model::header::{read, write, Header};
-use model::{marked, size, Call, Choice, Model, Reply, Settings, Shape, REFUSALS};
+use model::{marked, size, Call, Choice, Model, Reply, Settings, Shape, Stop, REFUSALS};
 
 use crate::fields::calls;
 use crate::headers::{
     any_bytes, any_shape, made_up_queue, no_shape, reserved_bits, right_fields, spelt, wrong_fields,
 };
-use crate::{field, header, plain, stream, Before, Halts, Profile, Random, Traffic, SHAPES};
+use crate::{
+    field, header, plain, run_calls, run_field, stream, Before, Halts, Profile, Random, Traffic,
+    SHAPES,
+};
 
 /// How often each answer came. Refusals by their numbers.
 #[derive(Default, Debug)]
@@ -450,4 +453,54 @@ fn fields_have_no_room_for_larger_numbers() {
         Some(vec![6, 0, 4, 1, 2, 0xFF, 0xFF])
     );
     assert_eq!(field(&credit(65_536)), None);
+}
+
+#[test]
+fn fields_of_runs_take_the_switchs_own_headers() {
+    let wide = Shape::wide(8, 16);
+    let arrive = |header: Vec<u8>| Call::Arrive { port: 7, header };
+    let [ten, own] = [Shape::TEN_BYTES, wide].map(|shape| arrive(plain(&shape, 0, 3, 0, 13)));
+    for shape in [Shape::TEN_BYTES, wide] {
+        assert_eq!(run_field(&shape, &ten), field(&ten));
+        let settings = Settings::ten_bytes(1, 64, 1, 16);
+        assert_eq!(run_field(&shape, &Call::Setup(settings)), None);
+        let turn = Call::Turn { port: 255 };
+        assert_eq!(run_field(&shape, &turn), field(&turn));
+    }
+    assert_eq!(run_field(&Shape::TEN_BYTES, &own), None);
+    let bytes = [&[2, 0, 12, 7], &plain(&wide, 0, 3, 0, 13)[..]].concat();
+    assert_eq!(run_field(&wide, &own), Some(bytes));
+    assert_eq!(run_field(&wide, &arrive(vec![0; 12])), None);
+    // A port above the last is refused, one that fits no byte has no field.
+    let header = vec![0; 11];
+    assert_eq!(run_field(&wide, &Call::Arrive { port: 256, header }), None);
+}
+
+/// The calls are the fields' calls, and not all are refused, however long the run.
+#[test]
+fn runs_have_the_calls_of_their_fields() {
+    for shape in SHAPES {
+        for (seed, profile) in (1..).zip(Profile::ALL) {
+            let mut model = Model::new(size(&Settings::of(shape, 4, 64, 2, 0)));
+            let settings = Settings::of(shape, 4, 64, 2, 300);
+            assert_eq!(model.call(&Call::Setup(settings)), Reply::Done);
+            let mut ahead = model.clone();
+            let mut traffic = Traffic::of(seed, profile, shape);
+            let calls = run_calls(&mut Random::new(seed), &mut traffic, &mut ahead, 5_000);
+            let bytes: Vec<u8> = calls
+                .iter()
+                .flat_map(|call| run_field(&shape, call).unwrap())
+                .collect();
+            let mut answers = vec![0; 4 * calls.len()];
+            let ran = model.run(&bytes, &mut answers).unwrap();
+            assert_eq!((ran.count, ran.why), (5_000, Stop::Ended));
+            assert_eq!(model, ahead);
+            let of_turns = answers.chunks(4).zip(&calls);
+            let sent = of_turns
+                .filter(|(answer, call)| matches!(call, Call::Turn { .. }) && answer[..2] == [0, 0])
+                .count();
+            println!("{shape:?} {profile:?}: {sent} sent");
+            assert!(sent > 50, "{shape:?} {profile:?}: {sent} sent");
+        }
+    }
 }
