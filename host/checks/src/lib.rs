@@ -1,19 +1,22 @@
 //! The proved library against the independent model on the same traffic, and
 //! on damaged memory.
 
-#![forbid(unsafe_code)]
+#![deny(unsafe_code)]
 
 pub mod changes;
 pub mod counts;
 pub mod cut;
 pub mod damage;
 pub mod finding;
+#[allow(unsafe_code)]
+mod foreign;
 pub mod headers;
 pub mod library;
 pub mod night;
 pub mod program;
 pub mod reader;
 pub mod run;
+pub mod runs;
 pub mod scale;
 pub mod search;
 pub mod tables;

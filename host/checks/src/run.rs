@@ -7,6 +7,7 @@ use traffic::{Before, Profile, Random, Traffic};
 
 use crate::counts::Counts;
 use crate::cut::cut_down;
+use crate::runs::{self, one_by_one, Run, Stream, Told, ANSWER};
 use crate::scale::Scale;
 use crate::{difference, left, night, reader, writer, Desk};
 
@@ -178,6 +179,37 @@ impl<'d, D: Desk> Pair<'d, D> {
         Ok(answer)
     }
 
+    /// A run of fields in so much room on both, and their calls one by one on a copy
+    /// of the memory. The error says what differs.
+    pub fn run(&mut self, run: Run, stream: &Stream, room: usize) -> Result<Told, String> {
+        self.before.copy_from_slice(&self.memory);
+        let lent = self.start..self.start + self.lent;
+        let told = runs::made(run, &mut self.memory[lent.clone()], &stream.fields, room)?
+            .map_err(|number| format!("a run is refused {number}"))?;
+        let stop = (told.count, told.why);
+        if stop != stream.wanted(room) {
+            let wanted = stream.wanted(room);
+            return Err(format!("a run did and stopped {stop:?}, not {wanted:?}"));
+        }
+        let mut answers = vec![0; room];
+        let ran = self.model.run(&stream.fields, &mut answers);
+        if ran.map(|ran| (ran.count, ran.why.number())) != Ok(stop) {
+            return Err(format!("a run did and stopped {stop:?}, the model {ran:?}"));
+        }
+        let done = &stream.calls[..told.count];
+        let single = one_by_one(self.desk, &mut self.before[lent], done)?;
+        answer_difference(done, &told.answers, &answers, "the model")?;
+        answer_difference(done, &told.answers, &single, "the call by itself")?;
+        if let Some(told) = difference(&self.before, &self.memory, 0) {
+            return Err(format!("after a run, beside its calls one by one, {told}"));
+        }
+        self.made += 1;
+        if self.made % self.ledger_every == 0 {
+            self.compare_ledgers()?;
+        }
+        Ok(told)
+    }
+
     /// The whole ledger, read off the bytes, beside the model's; then what the
     /// night crew is told of it.
     pub fn compare_ledgers(&self) -> Result<(), String> {
@@ -192,6 +224,24 @@ impl<'d, D: Desk> Pair<'d, D> {
         night::PROVED.finds(memory)?;
         night::PROVED.audits(memory, &self.model)
     }
+}
+
+/// The first of a run's answers that isn't somebody else's.
+fn answer_difference(
+    done: &[Call],
+    answers: &[u8],
+    wanted: &[u8],
+    whose: &str,
+) -> Result<(), String> {
+    let both = answers.chunks(ANSWER).zip(wanted.chunks(ANSWER));
+    for (at, (call, (answer, wanted))) in done.iter().zip(both).enumerate() {
+        if answer != wanted {
+            return Err(format!(
+                "field {at} of a run, {call:?}, answers {answer:?}, {whose} {wanted:?}"
+            ));
+        }
+    }
+    Ok(())
 }
 
 /// The first part in which two ledgers differ.

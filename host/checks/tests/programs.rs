@@ -66,8 +66,9 @@ fn as_much_is_said_as_was_done() {
     );
     let few = said(SOAK, "1");
     assert!(few.contains("calls compared") && few.contains("damaged memories: "));
+    assert!(few.contains(" fields in "), "{few}");
     assert!(
-        !few.contains("\n0 calls") && !few.contains("memories: 0"),
+        !few.contains("\n0 calls") && !few.contains("memories: 0") && !few.contains("\n0 fields"),
         "{few}"
     );
     assert!(few.ends_with("all agree; too few to ask for each answer\n"));

@@ -1,24 +1,29 @@
-//! `soak [CALLS [SEED]]`: so many calls of the library beside the model, and
-//! a damaged memory for each 50 of them, with what the night crew asks of it, on
-//! switches of every shape and on all processors.
+//! `soak [CALLS [SEED]]`: so many calls of the library beside the model, a quarter
+//! as many again in runs, and a damaged memory for each 50 of them, with what the
+//! night crew asks of it, on switches of every shape and on all processors.
 
 use std::time::Instant;
 
 use checks::counts::Counts;
 use checks::damage::{self, Verdicts};
 use checks::program::{fail, say, Words};
+use checks::runs::{self, Tally};
 use checks::workers::{in_parts, on_all_processors};
 use checks::{library, run};
 
 /// Of a small switch; of a large one fewer.
 const DAMAGED_A_RUN: usize = 100;
 const CALLS_FOR_A_DAMAGED: u64 = 50;
+/// On one switch, a small one; on a large one fewer.
+const FIELDS_A_SWITCH: usize = 1000;
+const CALLS_FOR_A_FIELD: u64 = 4;
 /// From so many calls on, each answer must have come often enough, and each way
 /// of breaking a rule, and what is to be seen of halted ports: once for so many
 /// calls. Of setups there are few, and of calls before the first.
 const MANY_CALLS: u64 = 200_000;
 const CALLS_FOR_AN_ANSWER: u64 = 1000;
 const CALLS_FOR_1_TO_3: u64 = 10_000;
+const CALLS_FOR_A_FIELDS_ANSWER: u64 = 50_000;
 const CALLS_FOR_A_WAY: u64 = 100_000;
 const CALLS_FOR_A_HALT: u64 = 5_000;
 
@@ -68,6 +73,27 @@ fn compared(seed: u64, calls: u64) -> Counts {
     counts
 }
 
+/// So many fields in runs of a seed, and some more.
+fn in_runs(seed: u64, fields: u64) -> Tally {
+    let start = Instant::now();
+    let plans = enough(fields, |number| {
+        let plan = runs::Plan::numbered(seed, number, FIELDS_A_SWITCH);
+        (plan, plan.fields)
+    });
+    let tally = on_all_processors(
+        "runs on switch",
+        plans.len() as u64,
+        Tally::default(),
+        |run| runs::all(&plans[run as usize], runs::PROVED),
+        |total, part| total.add(&part),
+    );
+    say(format!("{tally}\nin {:.1?}", start.elapsed()));
+    if tally.fields() < fields {
+        fail(format!("{} fields were done of {fields}", tally.fields()));
+    }
+    tally
+}
+
 /// So many damaged memories of a seed, and some more: runs are made to their end.
 fn damaged(seed: u64, memories: u64) -> Verdicts {
     let start = Instant::now();
@@ -104,6 +130,7 @@ fn main() {
     words.end();
     say(format!("soak of {calls} calls, seed {seed}"));
     let counts = compared(seed, calls);
+    let tally = in_runs(seed, in_parts(calls, CALLS_FOR_A_FIELD));
     let verdicts = damaged(seed, in_parts(calls, CALLS_FOR_A_DAMAGED));
     if calls < MANY_CALLS {
         return say("all agree; too few to ask for each answer");
@@ -116,6 +143,10 @@ fn main() {
     let rare = counts.halts.too_rare(calls / CALLS_FOR_A_HALT);
     if !rare.is_empty() {
         fail(format!("too rarely seen of halted ports: {rare:?}"));
+    }
+    let rare = tally.too_rare(calls / CALLS_FOR_A_FIELDS_ANSWER);
+    if !rare.is_empty() {
+        fail(format!("too rare in runs: {rare:?}"));
     }
     let rare = verdicts.too_rare(calls / CALLS_FOR_A_WAY);
     if !rare.is_empty() {
