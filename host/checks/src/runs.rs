@@ -28,6 +28,9 @@ const GUARD: usize = 7;
 const COUNT: u64 = 0xA7A7_A7A7_A7A7_A7A7;
 const WHY: u32 = 0xA7A7_A7A7;
 
+/// A stream that fails is cut down where it has no more fields.
+const MOST_TO_CUT: usize = 3000;
+
 /// What a run told: how many fields it did, why it stopped, and its answers.
 #[derive(Debug, Clone, PartialEq, Eq)]
 pub struct Told {
@@ -44,8 +47,12 @@ pub fn made(
     fields: &[u8],
     room: usize,
 ) -> Result<Result<Told, u32>, String> {
-    // No byte like its neighbours.
-    let before: Vec<u8> = (0..room + 2 * GUARD).map(|at| (37 * at) as u8).collect();
+    // No byte like its neighbours, nor the same in every run: one that is written
+    // can't always be what it was.
+    let other = 91 * room + 13 * fields.len();
+    let before: Vec<u8> = (0..room + 2 * GUARD)
+        .map(|at| (37 * at + other) as u8)
+        .collect();
     let (mut after, lent) = (before.clone(), fields.to_vec());
     let (mut count, mut why) = (COUNT, WHY);
     let answers = &mut after[GUARD..GUARD + room];
@@ -364,13 +371,23 @@ impl Runs {
             let mut pair = Pair::over(&SINGLE, &ledger, 1);
             pair.run(self.run, &stream, ANSWER * calls.len()).err()
         };
-        match differs(&stream.calls) {
-            None => "its good fields alone, with room for all, do not fail".into(),
-            Some(_) => {
-                let few = cut_down(&stream.calls, |calls| differs(calls).is_some());
-                format!("cut down to {few:?}, which fail: {:?}", differs(&few))
+        if differs(&stream.calls).is_none() {
+            return "its good fields alone, with room for all, do not fail".into();
+        }
+        // A long one is cut at its end first: halves of it would take long.
+        let (mut fewer, mut enough) = (0, stream.calls.len());
+        while fewer + 1 < enough {
+            let half = (fewer + enough) / 2;
+            match differs(&stream.calls[..half]) {
+                Some(_) => enough = half,
+                None => fewer = half,
             }
         }
+        if enough > MOST_TO_CUT {
+            return format!("its first {enough} fields fail");
+        }
+        let few = cut_down(&stream.calls[..enough], |calls| differs(calls).is_some());
+        format!("cut down to {few:?}, which fail: {:?}", differs(&few))
     }
 
     /// A few single calls, and halted ports cleared, some of them: no field does.

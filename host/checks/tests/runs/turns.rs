@@ -120,6 +120,46 @@ fn every_queue_of_every_port_waits_for_credit() {
     }
 }
 
+// Halts.
+
+/// The last port lies twice in one run. It is halted from the first lie on, for
+/// queues above 0; the port before it is not.
+#[test]
+fn a_lie_halts_its_port_for_the_fields_behind_it() {
+    for shape in [TEN, Shape::wide(2, 2), Shape::wide(8, 16), LARGEST] {
+        let mut pair = begun(Settings::of(shape, 3, 64, 2, 6));
+        let (port, queue) = (shape.ports - 1, shape.queues - 1);
+        let mut wrong = plain(&shape, 1, port, queue, 64);
+        wrong[3] ^= 1;
+        let wrong = Call::Arrive {
+            port,
+            header: wrong,
+        };
+        let packet = |port: u32, number: u32| {
+            let [high, low] = ((2048 * port + number) as u16).to_be_bytes();
+            [0, 0, high, low]
+        };
+        let script = [
+            (arrive(&shape, port, queue, 1), packet(port, 0)),
+            (wrong, [7, 0, 0, 0]),
+            (arrive(&shape, port, queue, 1), [10, 0, 0, 0]),
+            (lie(&shape, port, queue), [8, 0, 0, 0]),
+            (arrive(&shape, port, 0, 1), packet(port, 1)),
+            (arrive(&shape, port - 1, queue, 1), packet(port - 1, 0)),
+            (Call::Stitch { port }, packet(port, 0)),
+        ];
+        let wanted: Vec<u8> = script.iter().flat_map(|(_, answer)| *answer).collect();
+        let stream = Stream::of(&shape, script.map(|(call, _)| call).to_vec());
+        let told = pair.run(PROVED, &stream, wanted.len()).unwrap();
+        assert_eq!(told.answers, wanted, "{shape:?}");
+        // The first mark stays, and is there after the run.
+        let report = pair.call(&Call::Report { port });
+        assert_eq!(report, Ok(Reply::Mark(7)));
+        let report = pair.call(&Call::Report { port: port - 1 });
+        assert_eq!(report, Ok(Reply::Mark(0)));
+    }
+}
+
 // All short streams.
 
 /// All streams of so many of some calls, between a turn and a turn.
