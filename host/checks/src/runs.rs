@@ -165,7 +165,8 @@ impl Stream {
 pub fn bad_fields(shape: &Shape) -> Vec<Vec<u8>> {
     let own = 1 + shape.header_bytes();
     let right: [&[usize]; 8] = [&[], &[], &[11, own], &[1], &[2], &[1], &[4], &[2]];
-    let mut bad = Vec::new();
+    // A setup as the bench takes it.
+    let mut bad = vec![tagged(1, &[0, 1, 0, 64, 1, 0, 16])];
     for (tag, right) in (0..).zip(right) {
         for length in (0..=15).chain([256 + 1, 256 + 2, 256 + 4, 256 + 11, 65_535]) {
             if !right.contains(&length) {
@@ -175,10 +176,8 @@ pub fn bad_fields(shape: &Shape) -> Vec<Vec<u8>> {
     }
     for tag in 8..=255 {
         // Of its last three bits, as long as their tag's.
-        let length = right[usize::from(tag % 8)]
-            .first()
-            .map_or(0, |&right| right);
-        bad.push(tagged(tag, &vec![0; length]));
+        let length = right[usize::from(tag % 8)].first().copied();
+        bad.push(tagged(tag, &vec![0; length.unwrap_or(0)]));
     }
     bad
 }

@@ -74,18 +74,18 @@ fn short_memory() {
     }
 }
 
-/// Settings of which one is out of its row, all else a state's.
+/// A starting state of which one setting is another: out of its row, or a credit
+/// that no arrival credit is.
 #[test]
-fn settings_out_of_their_rows() {
+fn another_setting() {
     let steps = Steps::varied(&SHAPES[0], 30);
     let starting = writer::starting(Settings::ten_bytes(3, 64, 2, 40));
     for setting in 0..8 {
         for wrong in [0xFFFFu16, 0x8000, 33 << 8] {
             let mut memory = starting.clone();
             memory[2 * setting..2 * setting + 2].copy_from_slice(&wrong.to_be_bytes());
-            if reader::judged(&memory).is_err() {
-                refused(&steps, &mut memory);
-            }
+            assert!(reader::judged(&memory).is_err());
+            refused(&steps, &mut memory);
         }
     }
 }

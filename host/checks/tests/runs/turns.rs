@@ -18,7 +18,7 @@ fn begun(settings: Settings) -> Pair<'static, impl Desk> {
     pair
 }
 
-/// An arrival at its own price in beats of 64 bytes, for destination 1.
+/// An arrival of this price, in beats of 64 bytes, for destination 1.
 fn arrive(shape: &Shape, port: u32, queue: u32, price: u32) -> Call {
     let header = plain(shape, 1, port, queue, 64 * price);
     Call::Arrive { port, header }
@@ -97,7 +97,7 @@ fn no_credit(shape: &Shape, port: u32) -> Vec<(Call, [u8; ANSWER])> {
     calls
 }
 
-/// All in one run; each queue's first turn comes late in it.
+/// All in one run, in which most ports' first turns come late.
 #[test]
 fn every_queue_of_every_port_waits_for_credit() {
     for shape in [TEN, Shape::wide(2, 2), Shape::wide(8, 16), LARGEST] {
