@@ -1,15 +1,13 @@
 //! The proved library against the independent model on the same traffic, and
 //! on damaged memory.
 
-#![deny(unsafe_code)]
+#![forbid(unsafe_code)]
 
 pub mod changes;
 pub mod counts;
 pub mod cut;
 pub mod damage;
 pub mod finding;
-#[allow(unsafe_code)]
-mod foreign;
 pub mod headers;
 pub mod library;
 pub mod night;

@@ -5,18 +5,29 @@ use std::fmt;
 
 use model::{Call, Model, Reply, Settings, Shape};
 use traffic::{run_calls, run_field, tagged, Profile, Random, Traffic};
+use ventorupo::{calls, Switch};
 
 use crate::cut::cut_down;
 use crate::run::Pair;
 use crate::scale::Scale;
-use crate::{foreign, library, reader, Desk};
+use crate::{library, reader, Desk};
 
 /// Memory, fields, the answers' room, count and why; 0 or a refusal's number. In
 /// tests it may have a slip.
 pub type Run = fn(&mut [u8], &[u8], &mut [u8], &mut u64, &mut u32) -> u32;
 
 /// The library's.
-pub const PROVED: Run = foreign::run;
+pub const PROVED: Run = calls::run;
+
+/// The wrapper's.
+pub const WRAPPED: Run =
+    |memory, fields, answers, count, why| match Switch::over(memory).run_fields(fields, answers) {
+        Ok(ran) => {
+            (*count, *why) = (ran.count as u64, ran.why.number());
+            0
+        }
+        Err(refusal) => refusal.number(),
+    };
 
 /// The bytes of an answer.
 pub const ANSWER: usize = 4;

@@ -7,7 +7,7 @@ mod slips;
 mod steps;
 mod turns;
 
-use checks::runs::{all, Plan, Runs, Tally, PROVED};
+use checks::runs::{all, Plan, Runs, Tally, PROVED, WRAPPED};
 use checks::scale::Scale;
 use model::Shape;
 use traffic::Profile;
@@ -75,6 +75,22 @@ fn runs_of_1_to_100_000_fields_agree_with_the_model() {
         runs.compare().unwrap();
         println!("{scale:?}: {}", runs.tally);
         assert!(runs.tally.fields() > most as u64);
+    }
+}
+
+#[test]
+fn the_wrappers_runs_agree_with_the_model() {
+    for shape in SHAPES {
+        let scale = scale(shape, 4);
+        for (seed, profile) in (1..).zip(Profile::ALL) {
+            let plan = Plan {
+                seed,
+                profile,
+                scale,
+                fields: scale.share(5_000),
+            };
+            all(&plan, WRAPPED).unwrap();
+        }
     }
 }
 
