@@ -50,7 +50,8 @@ module _ (s : List ℕ) (tag v len next size : ℕ) (i : Stands s v len next siz
   own-asks e r port is told = rw (told, is, e) (refl, λ at j. (omega (arith, i .ends), i .within, omega (arith, own-long e, i .ends, i .within)))
 
   pub bench-asks : isOwn size tag len ≡ false → (r : Asked) (b : Read) → b ≡ wholeTold s tag v len next → OfRead b r → Whole r
-  bench-asks e r b is told =
-      (rw e (told .0 s ∙ ap (ofBench s) is),
-        λ at j. told .1 at (length s)
-        (subst (Keeps at (length s)) (sym is) (whole-keeps s at tag v len next (record { starts = j; ends = i .ends; within = i .within }))))
+  bench-asks e r b is told = (
+    rw e (told .0 s ∙ ap (ofBench s) is),
+    λ at j. told .1 at (length s)
+        (subst (Keeps at (length s)) (sym is) (whole-keeps s at tag v len next (record { starts = j; ends = i .ends; within = i .within }))),
+  )

@@ -13,30 +13,12 @@ ghost use Rattle.asks.specs.Asks.{askOf, Within, Stands};
 
 // One call of a run. An arrival's header is the size bytes from at on.
 pub enum Task {
-    Arrive {
-        port: u32,
-        at: usize,
-        size: usize,
-    },
-    Stitch {
-        port: u32,
-    },
-    Prefetch {
-        port: u32,
-        queue: u32,
-    },
-    Turn {
-        port: u32,
-    },
-    Credit {
-        port: u32,
-        queue: u32,
-        amount: u32,
-    },
-    Map {
-        id: u32,
-        port: u32,
-    },
+    Arrive { port: u32, at: usize, size: usize },
+    Stitch { port: u32 },
+    Prefetch { port: u32, queue: u32 },
+    Turn { port: u32 },
+    Credit { port: u32, queue: u32, amount: u32 },
+    Map { id: u32, port: u32 },
 }
 
 // What is asked at a place: a call, with the place past its field; a field that is bad; or the fields have ended.

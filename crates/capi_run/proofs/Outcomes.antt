@@ -7,6 +7,7 @@ use Rattle.capi_run.proofs.vr_run
 
 pub vr-run-one : OneOutcome vr_run.ended vr_run.Reads.Learnt
 vr-run-one κs a r r₂ left left₂ p q =
-    let e = p ∙ sym q in
-    (ap (λ (o : ℕ × List ℕ × List ℕ × ℕ × ℕ). o .0) e,
-      ap (λ (o : ℕ × List ℕ × List ℕ × ℕ × ℕ). (o .1, (tt, (o .2, (o .3, (o .4, tt)))))) e)
+    let e = p ∙ sym q in (
+      ap (λ (o : ℕ × List ℕ × List ℕ × ℕ × ℕ). o .0) e,
+      ap (λ (o : ℕ × List ℕ × List ℕ × ℕ × ℕ). (o .1, (tt, (o .2, (o .3, (o .4, tt)))))) e,
+    )

@@ -45,7 +45,13 @@ fn put(outcome: Outcome, count: &mut u64, why: &mut u32) -> u32
 }
 
 #[no_mangle]
-pub extern "C" fn vr_run(mem: &mut [u8], fields: &[u8], answers: &mut [u8], count: &mut u64, why: &mut u32) -> u32
+pub extern "C" fn vr_run(
+    mem: &mut [u8],
+    fields: &[u8],
+    answers: &mut [u8],
+    count: &mut u64,
+    why: &mut u32,
+) -> u32
     ensures { λ r. ⌜ _≡_ {A = ℕ × List ℕ × List ℕ × ℕ × ℕ} (r, now (mem .exit), now (answers .exit), now (count .exit), now (why .exit))
         (toldRun (now (count .entry)) (now (why .entry)) (runOn (now (mem .entry)) (now (fields .entry)) (now (answers .entry)))) ⌝ }
 {

@@ -173,11 +173,14 @@ module _ (S : Settings) (p q : ℕ) (k : Packet) where
       only zero h e i = (o .clock, e, ap (λ (b : Call). M b m .0) e ∙ i)
       only (suc t) h e i = absurd (not-suc-le-zero (le-of-suc-le-suc h))
   told-so n m (lent-round room) o = room-tells m room (o .moment) (o .clock) p (o .among) (o .a-turn) ∙ ap answerBytes (o .it-leaves)
-  told-so n m (lent-run s room) o =
-      (o .moment, o .clock, o .a-turn,
-        answers-tell m s room (o .moment) (o .among)
+  told-so n m (lent-run s room) o = (
+    o .moment,
+    o .clock,
+    o .a-turn,
+    answers-tell m s room (o .moment) (o .among)
         ∙ ap (λ (c : Call). answerBytes (M c (afterCalls onMemory m (take (o .moment) (runCalls m s room))) .0)) (o .a-turn)
-        ∙ ap answerBytes (o .it-leaves))
+        ∙ ap answerBytes (o .it-leaves),
+  )
   told-so n m (lent-audit room) o = not-suc-le-zero (o .among)
   told-so n m lent-find o = not-suc-le-zero (o .among)
   told-so n m lent-repair o = not-suc-le-zero (o .among)

@@ -40,7 +40,14 @@ pub enum Outcome {
 
 // ---- acts that touch a queue: its bit of the port's ready word is made again
 
-fn prefetch(m: &mut [u8], s: Shape, port: u32, queue: u32, words: &mut [u64], made: &mut [u8]) -> [u8; 4]
+fn prefetch(
+    m: &mut [u8],
+    s: Shape,
+    port: u32,
+    queue: u32,
+    words: &mut [u64],
+    made: &mut [u8],
+) -> [u8; 4]
     requires { ⌜ Going s (now m) (now words) (now made) ⌝ }
     ensures { λ r. ⌜ Done s (prefetch port queue) (now (m .entry)) (now (m .exit)) (now (words .exit)) (now (made .exit)) r ⌝ }
 {
@@ -54,7 +61,15 @@ fn prefetch(m: &mut [u8], s: Shape, port: u32, queue: u32, words: &mut [u64], ma
     }
 }
 
-fn credit(m: &mut [u8], s: Shape, port: u32, queue: u32, amount: u32, words: &mut [u64], made: &mut [u8]) -> [u8; 4]
+fn credit(
+    m: &mut [u8],
+    s: Shape,
+    port: u32,
+    queue: u32,
+    amount: u32,
+    words: &mut [u64],
+    made: &mut [u8],
+) -> [u8; 4]
     requires { ⌜ Going s (now m) (now words) (now made) ⌝ }
     ensures { λ r. ⌜ Done s (credit port queue amount) (now (m .entry)) (now (m .exit)) (now (words .exit)) (now (made .exit)) r ⌝ }
 {
@@ -62,7 +77,8 @@ fn credit(m: &mut [u8], s: Shape, port: u32, queue: u32, amount: u32, words: &mu
     match answer {
         Plain::No(no) => answers::of_refusal(no),
         Plain::Done => {
-            words::renew(m, s, port as usize, queue as usize, words, made);
+            let q = queue as usize;
+            words::renew(m, s, port as usize, q, words, made);
             [0u8; 4]
         }
     }
@@ -146,7 +162,14 @@ fn why_of(asked: Asked) -> Why
     }
 }
 
-// The run. Each field is read into a local; one that is no call ends the run there, with the count so far.
+// As a function, so that a way out of the run is short.
+fn stopped(count: usize, why: Why) -> Ran
+    ensures { λ r. ⌜ (r .count ≡ count) × (r .why ≡ why) ⌝ }
+{
+    Ran { count, why }
+}
+
+// The run. Each field is read into a local; one that is no call ends the run there, with the count so far (done).
 pub fn run(m: &mut [u8], s: Shape, fields: &[u8], room: &mut [u8]) -> Ran
     requires { ⌜ Works s (now m) ⌝ }
     ensures { λ r. ⌜ _≡_ {A = Report × List ℕ × List ℕ} (did (r .count) (whyOf (r .why)), now (m .exit), now (room .exit))
@@ -161,25 +184,17 @@ pub fn run(m: &mut [u8], s: Shape, fields: &[u8], room: &mut [u8]) -> Ran
     let mut count = 0;
     while at < fields.len() {
         let asked = asks::asked_at(fields, at, size);
+        let done = count;
+        count += 1;
         let Asked::Call { task, next } = asked else {
-            return Ran {
-                count,
-                why: why_of(asked),
-            };
+            return stopped(done, why_of(asked));
         };
-        if fits <= count {
-            return Ran {
-                count,
-                why: Why::NoRoom,
-            };
+        if fits <= done {
+            return stopped(done, Why::NoRoom);
         }
         let bytes = carry_out(&steps, m, s, fields, task, &mut words, &mut made);
-        answers::put(room, 4 * count, bytes);
+        answers::put(room, 4 * done, bytes);
         at = next;
-        count += 1;
     }
-    Ran {
-        count,
-        why: Why::Ended,
-    }
+    stopped(count, Why::Ended)
 }

@@ -9,6 +9,7 @@ const REFUSALS: &str = include_str!("../src/refusal.rs");
 const SETTINGS: &str = include_str!("../src/settings.rs");
 const HEADERS: &str = include_str!("../src/header.rs");
 const CAPI: &str = include_str!("../../../crates/capi/src/lib.rt");
+const CAPI_RUN: &str = include_str!("../../../crates/capi_run/src/lib.rt");
 const HEADER: &str = include_str!("../../../include/ventorupo.h");
 const README: &str = include_str!("../../../README.md");
 
@@ -184,7 +185,8 @@ fn declared() -> String {
 fn all_speak_of_the_same_calls() {
     let wrapped = calls_in(CALLS, "pub fn vr_");
     assert_eq!(calls_in(&declared(), " vr_"), wrapped);
-    assert_eq!(calls_in(CAPI, "pub extern \"C\" fn vr_"), wrapped);
+    let proved = [CAPI, CAPI_RUN].concat();
+    assert_eq!(calls_in(&proved, "pub extern \"C\" fn vr_"), wrapped);
     for call in [
         "vr_audit",
         "vr_find",

@@ -57,8 +57,8 @@ small st =
     omega (arith, less st, header-small (form (settingsOf s)) (narrow (s .edition) (s .ports) (s .queues) (r .some-ports) (r .few-ports) (r .some-queues) (r .few-queues)) .1)
 
 -- a room has no more bytes than a machine's word counts
-short : (e : tie.Else1 Inv-loop μ-loop) → length (start (begun (inside (asked (roomy e)))) .args .room .now) < 2 ^ 63
-short e = let st = start (begun (inside (asked (roomy e)))) in omega (arith, st .good .1 .1 .1 .0)
+short : (l : tie.At-loop Inv-loop μ-loop) → length (start (begun l) .args .room .now) < 2 ^ 63
+short l = let st = start (begun l) in omega (arith, st .good .1 .1 .1 .0)
 
 steps-requires : tie.Need-steps-requires Inv-loop μ-loop
 steps-requires c κs = search needs
@@ -71,6 +71,9 @@ loop-holds c = start-along _ _ _ _ _ _ (start (c .before) .pre)
 
 asked-at-requires : tie.Need-asked-at-requires Inv-loop μ-loop
 asked-at-requires c κs = small (start (begun (c .before)))
+
+add-count : tie.Need-add-count Inv-loop μ-loop
+add-count c = let l = inside c in omega (arith, l .loop .inv .below, short l)
 
 enum-known-asked : tie.Need-enum-known-asked Inv-loop μ-loop
 enum-known-asked c = search needs
@@ -86,12 +89,13 @@ same-length-2 c = search needs
 
 returns : tie.Need-returns Inv-loop μ-loop
 returns c =
-    let an = c .before .before in
+    let wy = c .before in
+    let an = wy .before .before in
     let l = inside an in
     let st = start (begun l) in
-    rw (c .why-of .ensures)
+    rw (c .stopped .ensures .0, c .stopped .ensures .1, wy .why-of .ensures)
     (no-call-along _ _ _ _ _ _ (l .loop .inv) (less st) refl (an .asked-at .result) (an .asked-at .ensures .0)
-    (λ task next e. miss (1 ∷ 2 ∷ []) 0 tt (rw e at (c .before .match .keys2))))
+    (λ task next e. miss (1 ∷ 2 ∷ []) 0 tt (rw e at (wy .before .match .keys2))))
 
 same-length-3 : tie.Need-same-length-3 Inv-loop μ-loop
 same-length-3 c = search needs
@@ -101,10 +105,12 @@ same-length-4 c = search needs
 
 returns-2 : tie.Need-returns-2 Inv-loop μ-loop
 returns-2 c =
-    let ac = c .before .before in
+    let th = c .before in
+    let ac = th .before .before in
     let an = asked ac in
     let l = inside an in
-    full-along _ _ _ _ _ _ (l .loop .inv) (less (start (begun l))) refl _ _ (sym (an .asked-at .ensures .0) ∙ ap (askOf _) (ac .asked .given .1)) (c .if1 .taken)
+    rw (c .stopped2 .ensures .0, c .stopped2 .ensures .1)
+    (full-along _ _ _ _ _ _ (l .loop .inv) (less (start (begun l))) refl _ _ (sym (an .asked-at .ensures .0) ∙ ap (askOf _) (ac .asked .given .1)) (th .if1 .taken))
 
 slice-aggregate-carry-out : tie.Need-slice-aggregate-carry-out Inv-loop μ-loop
 slice-aggregate-carry-out c = search needs
@@ -127,15 +133,10 @@ carry-out-requires c κs =
 mul-put : tie.Need-mul-put Inv-loop μ-loop
 mul-put c =
     let e = carried (c .before .before .before .before .before) in
-    omega (arith, e .if1 .left, short e)
+    omega (arith, e .if1 .left, short (inside (asked (roomy e))))
 
 put-requires : tie.Need-put-requires Inv-loop μ-loop
 put-requires c κs = search needs
-
-add-count : tie.Need-add-count Inv-loop μ-loop
-add-count c =
-    let e = carried (c .before .before .before .before .before .before .before .before) in
-    omega (arith, e .if1 .left, short e)
 
 loop-less : tie.Need-loop-less Inv-loop μ-loop
 loop-less c =
@@ -170,9 +171,19 @@ same-length-6 c = search needs
 
 returns-3 : tie.Need-returns-3 Inv-loop μ-loop
 returns-3 c =
-    let l = c .before in
-    let st = start (begun l) in
-    ended-along _ _ _ _ _ _ (l .loop .inv) (less st) refl (asked-end _ _ _ (c .loop-test .left))
+    let lo = c .before in
+    let l = lo .before in
+    rw (c .stopped3 .ensures .0, c .stopped3 .ensures .1)
+    (ended-along _ _ _ _ _ _ (l .loop .inv) (less (start (begun l))) refl (asked-end _ _ _ (lo .loop-test .left)))
+
+stopped-requires : tie.Need-stopped-requires Inv-loop μ-loop
+stopped-requires c κs = search needs
+
+stopped-requires-2 : tie.Need-stopped-requires-2 Inv-loop μ-loop
+stopped-requires-2 c κs = search needs
+
+stopped-requires-3 : tie.Need-stopped-requires-3 Inv-loop μ-loop
+stopped-requires-3 c κs = search needs
 
 pub run-spec : {M : Type 1} → statement M
 run-spec =
@@ -184,11 +195,14 @@ run-spec =
     sub-size
     loop-holds
     asked-at-requires
+    add-count
     enum-known-asked
     why-of-requires
+    stopped-requires
     same-length
     same-length-2
     returns
+    stopped-requires-2
     same-length-3
     same-length-4
     returns-2
@@ -197,9 +211,9 @@ run-spec =
     carry-out-requires
     mul-put
     put-requires
-    add-count
     loop-less
     loop-again
+    stopped-requires-3
     same-length-5
     same-length-6
     returns-3)

@@ -43,11 +43,12 @@ returns-2 : tie.Need-returns-2
 returns-2 c =
     let st = c .before .before .before .before .before .before in
     let a = st .args in
-    let k = st .pre .kept in
-    (c .ready-word .ensures,
+    let k = st .pre .kept in (
+      c .ready-word .ensures,
       kept-put (a .s) (a .m .now) (a .words .now) (set (a .made .now) (a .p) 1) (a .p) (c .ready-word .result) (st .pre .port) (k .wide) (rw length-set (k .marked))
-      (λ r hr d i. k .right r hr (sym (getD-set-other (a .made .now) (a .p) r 1 0 d) ∙ i))
-      (c .ready-word .ensures))
+          (λ r hr d i. k .right r hr (sym (getD-set-other (a .made .now) (a .p) r 1 0 d) ∙ i))
+          (c .ready-word .ensures),
+    )
 
 pub word-of-spec : {M : Type 1} → statement M
 word-of-spec =
