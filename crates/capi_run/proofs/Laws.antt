@@ -5,7 +5,7 @@ use Prim.Native.Nat.{ℕ}
 use native.Mathlib.Omega.{arith}
 use Rattle.layout.specs.Picture.{State}
 use Rattle.memory.specs.Memory.{state-dec}
-use Rattle.memory.specs.Runs.{Report, refusedRun, did, ran, runTested, runOn}
+use Rattle.memory.specs.Runs.{Report, refusedRun, ran, runTested, runOn}
 use Rattle.capi_run.specs.Told.{numberIn, countIn, whyIn, toldRun}
 
 pub tells-run : (count why : ℕ) {report : Report} {m room : List ℕ} {out : Report × List ℕ × List ℕ} {n count′ why′ : ℕ} → (report, m, room) ≡ out

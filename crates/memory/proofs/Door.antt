@@ -17,7 +17,8 @@ use Rattle.memory.specs.Repair.{repairMem, repaired}
 use Rattle.memory.specs.Rounds.{roundOn, roundCalls, RoundIsCalls}
 use Rattle.memory.specs.Runs.{Report, runOn, runCalls, RunIsCalls}
 use Rattle.memory.specs.Rounds.{LeavesSoonInMemory, DoorToDoorInMemory, NobodyStarvesInRoundsInMemory}
-use Rattle.memory.specs.Deeds.{LentDeed, lent-call, lent-round, lent-run, lent-audit, lent-find, lent-repair, leftBy, callsBy, callsIn, isRepair, DeedsAreCalls}
+use Rattle.memory.specs.Deeds.{LentDeed, lent-call, lent-round, lent-run, lent-audit, lent-find, lent-repair}
+use Rattle.memory.specs.Deeds.{leftBy, callsBy, callsIn, isRepair, DeedsAreCalls}
 use Rattle.memory.proofs.Demands.{pictured-state, memory-faithful}
 use Rattle.memory.proofs.Rounds.{round-is-calls}
 use Rattle.memory.proofs.Runs.{run-is-calls}

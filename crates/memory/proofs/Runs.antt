@@ -1,19 +1,19 @@
 -- A run is the same calls one by one, and its room tells what each of them answers. Assumes nothing.
 use mathlib.Core.Path.{_≡_, refl, sym, ap, _∙_, subst}
-use mathlib.Core.List.{List, [], map}
+use mathlib.Core.List.{List, map}
 use Prim.Native.Nat.{ℕ, _*_, _<_}
 use native.Mathlib.Nat.{not-suc-le-zero}
 use native.Mathlib.Omega.{arith}
 use lib.ListN.{length, getD, take, drop, length-map, List·getD-map}
 use Rattle.ledger.specs.Settings.{Settings}
-use Rattle.ledger.specs.Calls.{Act, ready, Reply, done}
-use Rattle.ledger.specs.Desk.{Desk, has, Call, act, afterCalls, answersOf}
+use Rattle.ledger.specs.Calls.{Act, ready, done}
+use Rattle.ledger.specs.Desk.{Desk, Call, act, afterCalls, answersOf}
 use Rattle.ledger.specs.Rounds.{answerBytes, answersIn, runs, doneBy}
 use Rattle.ledger.proofs.Told.{none-told, read-told}
 use Rattle.layout.specs.Picture.{settingsIn, StateOf, State}
 use Rattle.memory.specs.Memory.{state-dec, deskOf, picture, M}
 use Rattle.memory.specs.Demands.{onMemory}
-use Rattle.memory.specs.Rounds.{afterActs, answersTo}
+use Rattle.memory.specs.Rounds.{answersTo}
 use Rattle.memory.specs.Runs.{Report, refusedRun, stretchOf, ran, runTested, runOn, reportOf, RunIsCalls, AnswersTell}
 use Rattle.memory.proofs.Rounds.{acts-leave, acts-answer, answers-length, answer-at, call-after, take-map}
 

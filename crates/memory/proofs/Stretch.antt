@@ -5,7 +5,7 @@ use Prim.Native.Nat.{ℕ, zero, suc, _≤_}
 use lib.ListN.{length}
 use Rattle.ledger.specs.Calls.{Act}
 use Rattle.fields.proofs.Fields.{field-end}
-use Rattle.memory.specs.Runs.{does, bad, ended, askedBy, askedAt, theEnd, badField, noRoom, Stretch, stops, stretch}
+use Rattle.memory.specs.Runs.{does, bad, ended, askedBy, askedAt, theEnd, badField, noRoom, stops, stretch}
 
 -- past the last byte the fields have ended
 pub asked-end : (size : ℕ) (s : List ℕ) (at : ℕ) → length s ≤ at → askedAt size s at ≡ ended

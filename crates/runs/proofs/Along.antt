@@ -1,14 +1,13 @@
 -- Where a run stands between two of its calls: what it did, and that the whole is that and the rest from here. Assumes nothing.
-use mathlib.Core.Path.{_≡_, refl, sym, ap, _∙_, subst}
+use mathlib.Core.Path.{_≡_, refl, sym, ap, _∙_}
 use mathlib.Core.List.{List, [], _∷_, _++_, append-nil, append-assoc}
-use Prim.Native.Nat.{ℕ, zero, suc, _+_, _-_, _*_, _/_, _≤_, _<_}
+use Prim.Native.Nat.{ℕ, suc, _+_, _-_, _*_, _/_, _≤_, _<_}
 use native.Mathlib.Omega.{arith}
-use lib.ListN.{length, getD, take, drop, replicate, getD-replicate, length-append}
-use Rattle.crc.specs.Crc.{Steps}
+use lib.ListN.{length, take, drop, replicate, getD-replicate, length-append}
 use Rattle.ledger.specs.Settings.{Settings}
 use Rattle.ledger.specs.Header.{form, headerSize}
 use Rattle.ledger.specs.Calls.{Act, Reply}
-use Rattle.ledger.specs.Rounds.{answerBytes, answersIn}
+use Rattle.ledger.specs.Rounds.{answersIn}
 use Rattle.ledger.proofs.Told.{none-told, told-next}
 use Rattle.layout.specs.declared.Shape.{Shape}
 use Rattle.layout.specs.Tables.{settingsOf}
@@ -18,12 +17,12 @@ use Rattle.memory.specs.Rounds.{afterActs, answersTo}
 use Rattle.memory.specs.Runs.{does, bad, ended, askedAt, theEnd, badField, noRoom, Stretch, stops, stretch, Report, did, ran}
 use Rattle.memory.proofs.Rounds.{after-append, answers-append, answers-length}
 use Rattle.memory.proofs.Stretch.{stretch-bad, stretch-ended, stretch-full, stretch-goes}
-use Rattle.words.specs.Kept.{Kept}
 use Rattle.asks.specs.Asks.{askOf}
 use Rattle.asks.specs.declared.Task.{Task}
 use Rattle.asks.specs.declared.Asked.{Asked}
 use Rattle.asks.specs.declared.Asked.the-variants.{Call, Bad, End}
-use Rattle.runs.specs.Runs.{whyOf, stopOf, Going, Done}
+use Rattle.tasks.specs.Tasks.{Going, Done}
+use Rattle.runs.specs.Runs.{whyOf, stopOf}
 
 -- the fields, the memory and the room that a run was lent, and what it found of them before its loop
 module _ (s : Shape) (fields m₀ room₀ : List ℕ) (size fits : ℕ) where

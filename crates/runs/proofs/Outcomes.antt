@@ -4,7 +4,6 @@ use Prim.Native.Nat.{ℕ}
 use native.Mathlib.Omega.{arith}
 use Rattle.ledger.specs.Answers.{numberOf}
 use Rattle.ledger.proofs.Answers.{number-inj}
-use Rattle.memory.specs.Runs.{Report, refusedRun, did}
 use Rattle.runs.specs.Runs.{whyOf, reportIn}
 use Rattle.runs.specs.declared.Ran.{Ran}
 use Rattle.runs.specs.declared.Why.{Why}

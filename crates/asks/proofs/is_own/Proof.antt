@@ -1,5 +1,4 @@
 -- `asks::is_own` meets its contract: by the tag. Assumes nothing.
-use mathlib.Core.Path.{_≡_}
 use borrow.Author.Tests.{eq-eqb, ne-eqb}
 use borrow.Author.Needs.{needs}
 use Rattle.asks.proofs.is_own.Statement.{statement}

@@ -7,7 +7,6 @@ use native.Mathlib.Omega.{arith}
 use types.Run.{miss}
 use borrow.Author.Needs.{needs}
 use lib.ListN.{length}
-use Rattle.crc.specs.Crc.{Steps}
 use Rattle.ledger.specs.Header.{form, headerSize, leastLength}
 use Rattle.ledger.proofs.Header.{narrow, header-small}
 use Rattle.layout.specs.Tables.{settingsOf}
@@ -54,7 +53,8 @@ small : (st : tie.Start Inv-loop μ-loop) → st .args .s .least - 2 ≤ 12
 small st =
     let r = st .pre .laid .roomy in
     let s = st .args .s in
-    omega (arith, less st, header-small (form (settingsOf s)) (narrow (s .edition) (s .ports) (s .queues) (r .some-ports) (r .few-ports) (r .some-queues) (r .few-queues)) .1)
+    let thin = narrow (s .edition) (s .ports) (s .queues) (r .some-ports) (r .few-ports) (r .some-queues) (r .few-queues) in
+    omega (arith, less st, header-small (form (settingsOf s)) thin .1)
 
 -- a room has no more bytes than a machine's word counts
 short : (l : tie.At-loop Inv-loop μ-loop) → length (start (begun l) .args .room .now) < 2 ^ 63
@@ -110,7 +110,8 @@ returns-2 c =
     let an = asked ac in
     let l = inside an in
     rw (c .stopped2 .ensures .0, c .stopped2 .ensures .1)
-    (full-along _ _ _ _ _ _ (l .loop .inv) (less (start (begun l))) refl _ _ (sym (an .asked-at .ensures .0) ∙ ap (askOf _) (ac .asked .given .1)) (th .if1 .taken))
+    (full-along _ _ _ _ _ _ (l .loop .inv) (less (start (begun l))) refl _ _
+    (sym (an .asked-at .ensures .0) ∙ ap (askOf _) (ac .asked .given .1)) (th .if1 .taken))
 
 slice-aggregate-carry-out : tie.Need-slice-aggregate-carry-out Inv-loop μ-loop
 slice-aggregate-carry-out c = search needs
@@ -160,7 +161,8 @@ loop-again c =
     let ac = roomy e in
     let an = asked ac in
     let l = inside an in
-    next-along _ _ _ _ _ _ (l .loop .inv) _ _ (sym (an .asked-at .ensures .0) ∙ ap (askOf _) (ac .asked .given .1)) (e .if1 .left) (co .carry-out .ensures) (pt .put .ensures)
+    next-along _ _ _ _ _ _ (l .loop .inv) _ _ (sym (an .asked-at .ensures .0) ∙ ap (askOf _) (ac .asked .given .1)) (e .if1 .left)
+    (co .carry-out .ensures) (pt .put .ensures)
     (mb .m .given) (rb .room .given) (wd .words2 .given) (md .made2 .given)
 
 same-length-5 : tie.Need-same-length-5 Inv-loop μ-loop

@@ -1,5 +1,5 @@
 -- `turns::next_queue` meets its contract: the word is the port's, and the queue that it gives is ready. Assumes nothing.
-use mathlib.Core.Path.{_≡_, sym, ap₂, _∙_}
+use mathlib.Core.Path.{_≡_, ap₂, _∙_}
 use native.Mathlib.Omega.{arith}
 use borrow.Author.Needs.{needs}
 use Rattle.ledger.specs.Ledger.{lastOf, last}

@@ -1,5 +1,5 @@
 -- `turns::turn` meets its contract: refused, idle, or the picked queue's oldest packet leaves. Assumes nothing.
-use mathlib.Core.Path.{_≡_, sym, _∙_}
+use mathlib.Core.Path.{sym, _∙_}
 use borrow.Author.Needs.{needs}
 use Rattle.layout.specs.Tables.{settingsOf}
 use Rattle.turns.proofs.Laws as laws

@@ -1,11 +1,9 @@
 -- `words::renew` meets its contract: the one bit that an act may have changed is made again. Assumes nothing.
 use mathlib.Core.Path.{_≡_}
-use mathlib.Core.Logic.{_≢_}
-use Prim.Native.Nat.{ℕ, _+_, _<_, _^_}
+use Prim.Native.Nat.{ℕ, _<_, _^_}
 use native.Mathlib.Omega.{arith}
 use native.Mathlib.Decide.{ℕ-discrete}
 use borrow.Author.Needs.{needs}
-use lib.ListN.{length}
 use lib.Pow.{pow-mono}
 use Rattle.ledger.specs.Ready.{isReady, readyWord}
 use Rattle.ledger.proofs.Places.{bit-le}

@@ -45,7 +45,8 @@ returns-2 c =
     let a = st .args in
     let k = st .pre .kept in (
       c .ready-word .ensures,
-      kept-put (a .s) (a .m .now) (a .words .now) (set (a .made .now) (a .p) 1) (a .p) (c .ready-word .result) (st .pre .port) (k .wide) (rw length-set (k .marked))
+      kept-put (a .s) (a .m .now) (a .words .now) (set (a .made .now) (a .p) 1) (a .p) (c .ready-word .result)
+          (st .pre .port) (k .wide) (rw length-set (k .marked))
           (λ r hr d i. k .right r hr (sym (getD-set-other (a .made .now) (a .p) r 1 0 d) ∙ i))
           (c .ready-word .ensures),
     )

@@ -1,13 +1,13 @@
--- `runs::credit` meets its contract: refused, or done and the bit made again. Assumes nothing.
+-- `tasks::credit` meets its contract: refused, or done and the bit made again. Assumes nothing.
 use mathlib.Core.Path.{refl, ap}
 use borrow.Author.Needs.{needs}
 use Rattle.ledger.specs.Answers.{plainReply}
 use Rattle.ledger.specs.Calls as calls
 use Rattle.ledger.specs.Calls.{credit}
 use Rattle.ledger.specs.Rounds.{answerBytes}
-use Rattle.runs.proofs.Laws.{credit-stale, done-refused, done-renewed}
-use Rattle.runs.proofs.credit.Statement.{statement}
-use Rattle.runs.proofs.credit.Tie as tie
+use Rattle.tasks.proofs.Laws.{credit-stale, done-refused, done-renewed}
+use Rattle.tasks.proofs.credit.Statement.{statement}
+use Rattle.tasks.proofs.credit.Tie as tie
 
 -- the moments, each from the next
 abbrev start : tie.After-credit → tie.Start
@@ -37,7 +37,8 @@ renew-requires c κs =
     let cr = done an in
     let st = start cr in
     let a = st .args in
-    credit-stale (a .s) (a .m .now) (a .words .now) (a .made .now) (st .pre) (a .port) (a .queue) (a .amount) _ _ (ap plainReply (an .enum-told .given .1)) (cr .credit .ensures)
+    credit-stale (a .s) (a .m .now) (a .words .now) (a .made .now) (st .pre) (a .port) (a .queue) (a .amount) _ _
+    (ap plainReply (an .enum-told .given .1)) (cr .credit .ensures)
 
 same-length : tie.Need-same-length
 same-length c = search needs

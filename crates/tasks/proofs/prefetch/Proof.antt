@@ -1,11 +1,11 @@
--- `runs::prefetch` meets its contract: refused, or done and the bit made again. Assumes nothing.
+-- `tasks::prefetch` meets its contract: refused, or done and the bit made again. Assumes nothing.
 use mathlib.Core.Path.{ap}
 use borrow.Author.Needs.{needs}
 use Rattle.ledger.specs.Answers.{entryReply}
 use Rattle.ledger.specs.Calls.{prefetch, entry}
-use Rattle.runs.proofs.Laws.{prefetch-stale, done-refused, done-renewed}
-use Rattle.runs.proofs.prefetch.Statement.{statement}
-use Rattle.runs.proofs.prefetch.Tie as tie
+use Rattle.tasks.proofs.Laws.{prefetch-stale, done-refused, done-renewed}
+use Rattle.tasks.proofs.prefetch.Statement.{statement}
+use Rattle.tasks.proofs.prefetch.Tie as tie
 
 -- the moments, each from the next
 abbrev start : tie.After-prefetch → tie.Start
@@ -35,7 +35,8 @@ renew-requires c κs =
     let pf = done an in
     let st = start pf in
     let a = st .args in
-    prefetch-stale (a .s) (a .m .now) (a .words .now) (a .made .now) (st .pre) (a .port) (a .queue) _ _ _ (ap entryReply (an .answer2 .given .1)) (pf .prefetch .ensures)
+    prefetch-stale (a .s) (a .m .now) (a .words .now) (a .made .now) (st .pre) (a .port) (a .queue) _ _ _
+    (ap entryReply (an .answer2 .given .1)) (pf .prefetch .ensures)
 
 of-node-requires : tie.Need-of-node-requires
 of-node-requires c κs = search needs

@@ -1,21 +1,20 @@
--- `runs::turn` meets its contract: refused, idle, or the picked queue's oldest packet departs. Assumes nothing.
+-- `tasks::turn` meets its contract: refused, idle, or the picked queue's oldest packet departs. Assumes nothing.
 use mathlib.Core.Path.{_≡_, refl, sym, ap, _∙_}
 use mathlib.Core.List.{List}
 use Prim.Native.Nat.{ℕ}
 use borrow.Author.Needs.{needs}
 use Rattle.ledger.specs.Buckets.{untimed}
-use Rattle.ledger.specs.Ledger.{Packet, prefetched}
+use Rattle.ledger.specs.Ledger.{prefetched}
 use Rattle.ledger.specs.Calls.{Reply, turn, entry, leaves, sideOf}
-use Rattle.ledger.specs.Ready.{readyWord}
 use Rattle.ledger.specs.Rounds.{answerBytes}
 use Rattle.layout.specs.Tables.{settingsOf}
-use Rattle.layout.specs.Picture.{packetAt, ledgerIn}
+use Rattle.layout.specs.Picture.{packetAt}
 use Rattle.memory.specs.Writes.{headOf, serveMem}
 use Rattle.memory.specs.Memory.{acted}
 use Rattle.turns.proofs.Laws.{turn-no-port, turn-leaves}
-use Rattle.runs.proofs.Laws.{turn-stale, done-refused, done-idle, done-renewed, leaves-told}
-use Rattle.runs.proofs.turn.Statement.{statement}
-use Rattle.runs.proofs.turn.Tie as tie
+use Rattle.tasks.proofs.Laws.{turn-stale, done-refused, done-idle, done-renewed, leaves-told}
+use Rattle.tasks.proofs.turn.Statement.{statement}
+use Rattle.tasks.proofs.turn.Tie as tie
 
 -- the moments, each from the next
 abbrev start : tie.Else1 → tie.Start

@@ -1,11 +1,11 @@
--- `runs::carry_out` meets its contract: task by task. Assumes nothing.
+-- `tasks::carry_out` meets its contract: task by task. Assumes nothing.
 use mathlib.Core.Path.{refl, sym, ap, _∙_}
 use borrow.Author.Needs.{needs}
 use Rattle.ledger.specs.Calls.{arrive}
 use Rattle.asks.specs.Asks.{taskAct}
-use Rattle.runs.proofs.Laws.{done-untouched, as-task}
-use Rattle.runs.proofs.carry_out.Statement.{statement}
-use Rattle.runs.proofs.carry_out.Tie as tie
+use Rattle.tasks.proofs.Laws.{done-untouched, as-task}
+use Rattle.tasks.proofs.carry_out.Statement.{statement}
+use Rattle.tasks.proofs.carry_out.Tie as tie
 
 -- the start, from where the header was found
 abbrev start : tie.After-header-of → tie.Start
@@ -69,8 +69,10 @@ returns c =
     let h = ta .before .before in
     let st = start h in
     let a = st .args in
-    as-task (a .s) _ _ (ap (taskAct (a .fields .now)) (ta .task .given .1) ∙ ap (arrive (ta .task .given .0 .0)) (sym (h .header-of .ensures _ _ _ (ta .task .given .1))))
-    (done-untouched (a .s) (a .m .now) (a .words .now) (a .made .now) (st .pre .going) (arrive _ _) _ (ar .arrive-by .ensures) (c .of-entry .ensures) (λ r t. refl))
+    as-task (a .s) _ _ (ap (taskAct (a .fields .now)) (ta .task .given .1)
+    ∙ ap (arrive (ta .task .given .0 .0)) (sym (h .header-of .ensures _ _ _ (ta .task .given .1))))
+    (done-untouched (a .s) (a .m .now) (a .words .now) (a .made .now) (st .pre .going) (arrive _ _) _
+    (ar .arrive-by .ensures) (c .of-entry .ensures) (λ r t. refl))
 
 same-length-2 : tie.Need-same-length-2
 same-length-2 c = search needs

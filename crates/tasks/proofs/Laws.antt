@@ -1,17 +1,15 @@
 -- What the acts of a run do to the words that it keeps, with no code. Assumes nothing.
 use mathlib.Core.Path.{_≡_, refl, sym, ap, _∙_, subst}
-use mathlib.Core.Logic.{_≢_}
-use mathlib.Core.Bool.{Bool, true, false, _&&_, _||_}
+use mathlib.Core.Bool.{false, _&&_}
 use mathlib.Core.List.{List, [], _∷_}
-use Prim.Native.Nat.{ℕ, zero, suc, _+_, _-_, _<_}
+use Prim.Native.Nat.{ℕ, _+_, _-_, _<_}
 use native.Mathlib.Omega.{arith}
 use lib.Dec.{eqb, leb}
 use lib.ListN.{take, drop}
 use Rattle.ledger.specs.Settings.{Settings}
-use Rattle.ledger.specs.Rules.{guard}
-use Rattle.ledger.specs.Ledger.{Packet, Ledger, prefetched, lastOf}
+use Rattle.ledger.specs.Ledger.{Packet, Ledger, lastOf}
 use Rattle.ledger.specs.Buckets.{untimed}
-use Rattle.ledger.specs.Calls.{Act, arrive, stitch, prefetch, credit, mapTo, turn, Reply, refused, done, entry, idle, leaves, sideOf, rules, result}
+use Rattle.ledger.specs.Calls.{Act, prefetch, credit, turn, Reply, refused, done, entry, idle, leaves, sideOf, rules, result}
 use Rattle.ledger.specs.Ready.{readyWord, pick}
 use Rattle.ledger.specs.Rounds.{answerBytes}
 use Rattle.ledger.proofs.Tests.{leb-no, eqb-is, eqb-not, or-left}
@@ -19,17 +17,17 @@ use Rattle.ledger.proofs.Steps.{guarded}
 use Rattle.ledger.proofs.Words.{touches}
 use Rattle.layout.specs.declared.Shape.{Shape}
 use Rattle.layout.specs.Tables.{settingsOf}
-use Rattle.layout.specs.Picture.{packetAt, ledgerIn}
-use Rattle.memory.specs.Writes.{headOf, serveMem, refusedMem, write}
+use Rattle.layout.specs.Picture.{ledgerIn}
+use Rattle.memory.specs.Writes.{refusedMem, write}
 use Rattle.memory.specs.Judged.{Works}
 use Rattle.memory.specs.Memory.{acted}
 use Rattle.memory.proofs.Rounds.{works-after}
-use Rattle.turns.proofs.Laws.{idle-is, turn-no-port, leaves-is}
+use Rattle.turns.proofs.Laws.{idle-is}
 use Rattle.asks.specs.declared.Task.{Task}
 use Rattle.asks.specs.declared.Task.the-variants.{Arrive}
 use Rattle.words.specs.Kept.{Kept, Stale}
 use Rattle.words.proofs.Laws.{kept-untouched, kept-refused, stale}
-use Rattle.runs.specs.Runs.{Going, Done}
+use Rattle.tasks.specs.Tasks.{Going, Done}
 
 module _ (s : Shape) (m words made : List ℕ) (g : Going s m words made) where
   abbrev S : Settings

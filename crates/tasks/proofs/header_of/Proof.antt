@@ -1,5 +1,5 @@
--- `runs::header_of` meets its contract: by whether the task is an arrival, of which what it requires speaks. Assumes nothing.
-use mathlib.Core.Path.{_≡_, subst}
+-- `tasks::header_of` meets its contract: by whether the task is an arrival, of which what it requires speaks. Assumes nothing.
+use mathlib.Core.Path.{subst}
 use mathlib.Core.List.{[], _∷_}
 use Prim.Native.Nat.{_+_, _≤_}
 use native.Mathlib.Omega.{arith}
@@ -7,9 +7,9 @@ use lib.ListN.{length}
 use types.Run.{miss}
 use borrow.Author.Needs.{needs}
 use Rattle.asks.specs.Asks.{HeaderIn}
-use Rattle.runs.proofs.Laws.{same-header}
-use Rattle.runs.proofs.header_of.Statement.{statement}
-use Rattle.runs.proofs.header_of.Tie as tie
+use Rattle.tasks.proofs.Laws.{same-header}
+use Rattle.tasks.proofs.header_of.Statement.{statement}
+use Rattle.tasks.proofs.header_of.Tie as tie
 
 -- an arrival's header stands in the fields
 within : (c : tie.After-task) → let h = c .task .given .0 .1 in h .0 + h .1 .0 ≤ length (c .before .before .args .fields .now)
