@@ -1,10 +1,11 @@
--- Neither rounds nor audits read a bucket (paper 02, Q-13): a round is calls none of which is a reading, and an audit tells what where answers.
+-- Neither rounds, runs nor audits read a bucket (paper 02, Q-13): a round is calls none of which is a reading, and so is a run; an audit tells
+-- what where answers.
 -- Nor do repairs, which write over them all.
 -- Assumes nothing.
 use mathlib.Core.Path.{_≡_, refl, sym, ap, ap₂, _∙_, subst}
 use mathlib.Core.Bool.{Bool, true, false, cond}
 use mathlib.Core.List.{List, [], _∷_, _++_, map}
-use Prim.Native.Nat.{ℕ, _*_, _<_}
+use Prim.Native.Nat.{ℕ, zero, suc, _*_, _/_, _<_}
 use native.Mathlib.Omega.{arith}
 use lib.ListN.{length, drop}
 use Rattle.ledger.specs.Settings.{Settings, ids}
@@ -17,11 +18,21 @@ use Rattle.ledger.specs.Sound.{All}
 use Rattle.ledger.specs.Repair.{mended}
 use Rattle.ledger.specs.Audit.{nodeAt, placeRoom, auditRules}
 use Rattle.ledger.specs.Rounds.{each, stitches, prefetches, turns, roundActs, roundRules, roundReply, answersIn, round, Carried, nothing, wholeRound, doneBy}
-use Rattle.ledger.specs.Rounds.{turnAnswers}
+use Rattle.ledger.specs.Rounds.{turnAnswers, runs}
+use Rattle.ledger.specs.Header.{form, headerSize}
 use Rattle.ledger.specs.Tally.{AgreeBut, both-none, both-have, isReading, isReadingCall, AlikeBut}
 use Rattle.ledger.proofs.Lists.{All-append}
 use Rattle.ledger.proofs.Chances.{all-each}
 use Rattle.ledger.proofs.Steps.{guarded}
+use Rattle.fields.specs.Field.{fieldAt}
+use Rattle.fields.specs.Calls.{wholeTold}
+use Rattle.fields.specs.Orders.{headerIn, callIn}
+use Rattle.fields.specs.declared.Field.{Field}
+use Rattle.fields.specs.declared.Field.the-variants as field
+use Rattle.fields.specs.declared.Order.{Order}
+use Rattle.fields.specs.declared.Order.the-variants.{Setup, Arrive, Stitch, Prefetch, Turn, Credit, Map}
+use Rattle.fields.specs.declared.Read.{Read}
+use Rattle.fields.specs.declared.Read.the-variants as read
 use Rattle.layout.specs.declared.Table.the-variants.{Mapped, Buckets}
 use Rattle.layout.specs.Tables.{all, get, put}
 use Rattle.layout.specs.Picture.{settingsIn, opens, StateOf}
@@ -29,14 +40,17 @@ use Rattle.layout.proofs.Tables.{length-put, get-put-else, drop-put, settings-p
 use Rattle.memory.specs.Memory.{picture, M}
 use Rattle.memory.specs.Demands.{onMemory}
 use Rattle.memory.specs.Rounds.{roundOn, roundCalls, RoundIsCalls}
+use Rattle.memory.specs.Runs.{Ask, does, bad, ended, ofCall, ofBench, isOwn, ownArrival, askedBy, askedAt, goesOn, halts}
+use Rattle.memory.specs.Runs.{stretch, stretchOf, runOn, runCalls, reportOf, RunIsCalls}
 use Rattle.memory.specs.Audit.{block, placeTold, audited, auditOn}
 use Rattle.memory.specs.Image.{setupMem}
 use Rattle.memory.specs.Repair.{repairMem, repaired}
-use Rattle.memory.specs.Tally.{WaitsUnreadInMemory, RoundsUnread, AuditsUnread, RepairsUnread}
+use Rattle.memory.specs.Tally.{WaitsUnreadInMemory, RoundsUnread, RunsUnread, AuditsUnread, RepairsUnread}
 use Rattle.memory.proofs.Picture.{picture-state}
 use Rattle.memory.proofs.Demands.{pictured-state, on-settings}
 use Rattle.memory.proofs.Tally.{waits-unread-in-memory}
 use Rattle.memory.proofs.Rounds.{round-is-calls}
+use Rattle.memory.proofs.Runs.{run-is-calls}
 use Rattle.memory.proofs.Repair.{fill-ext}
 use Rattle.memory.proofs.Audit.{joined-same, audit-on, audit-off}
 
@@ -103,6 +117,74 @@ rounds-unread m n same o room =
     × AgreeBut (picture (afterCalls onMemory m cs)) (picture (afterCalls onMemory n es)))
     is
     (same-reply (picture m) (picture n) o k, ap (λ (rs : List Reply). answersIn (turnAnswers cs rs) room) told, w .agree)))
+
+-- ---- runs
+
+-- no field asks for a reading
+abbrev Asks : Ask → Type 0
+Asks (does a next) = Other a
+Asks bad = Unit
+Asks ended = Unit
+
+order-asks : (order : Order) (h : List ℕ) (next : ℕ) → Asks (ofCall (callIn order h) next)
+order-asks (Setup nodes beat slots credit) h next = tt
+order-asks (Arrive port at) h next = refl
+order-asks (Stitch port) h next = refl
+order-asks (Prefetch port queue) h next = refl
+order-asks (Turn port) h next = refl
+order-asks (Credit port queue amount) h next = refl
+order-asks (Map id port) h next = refl
+
+bench-asks : (s : List ℕ) (r : Read) → Asks (ofBench s r)
+bench-asks s (read.Call order next) = order-asks order (headerIn s order) next
+bench-asks s read.Bad = tt
+bench-asks s read.End = tt
+
+field-asks : (size : ℕ) (s : List ℕ) (f : Field) → Asks (askedBy size s f)
+field-asks size s (field.Whole tag v len next) = go (isOwn size tag len)
+  where
+    go : (b : Bool) → Asks (cond b (does (ownArrival size s v) next) (ofBench s (wholeTold s tag v len next)))
+    go true = refl
+    go false = bench-asks s (wholeTold s tag v len next)
+field-asks size s field.Cut = tt
+field-asks size s field.End = tt
+
+stretch-unreading : (size : ℕ) (s : List ℕ) (n at : ℕ) → All Other (stretch size s n at .acts)
+unfolding stretch askedAt
+stretch-unreading size s zero at = go (askedAt size s at)
+  where
+    go : (a : Ask) → All Other (halts a .acts)
+    go (does a next) = tt
+    go bad = tt
+    go ended = tt
+stretch-unreading size s (suc n) at = go (askedAt size s at) (field-asks size s (fieldAt s at)) (λ next. stretch-unreading size s n next)
+  where
+    go : (a : Ask) → Asks a → ((next : ℕ) → All Other (stretch size s n next .acts)) → All Other (goesOn a (λ next. stretch size s n next) .acts)
+    go (does a next) h rec = (h, rec next)
+    go bad h rec = tt
+    go ended h rec = tt
+
+-- what a run is goes by the settings alone
+abbrev runAt : Desk → List ℕ → ℕ → List Call
+runAt D s k = doneBy D (runs (λ S. stretchOf S s k .acts)) .calls
+
+same-run : (D E : Desk) → AgreeBut D E → (s : List ℕ) (k : ℕ) → (runAt D s k ≡ runAt E s k) × (reportOf D s k ≡ reportOf E s k)
+same-run D E both-none s k = (refl, refl)
+same-run D E (both-have S L N b) s k = (refl, refl)
+
+run-unreading : (D : Desk) (s : List ℕ) (k : ℕ) → Unreading (runAt D s k)
+run-unreading none s k = tt
+run-unreading (has S L) s k = acts-unreading (stretchOf S s k .acts) (stretch-unreading (headerSize (form S)) s (k / 4) 0)
+
+pub runs-unread : RunsUnread
+unfolding RunsUnread RunIsCalls WaitsUnreadInMemory
+runs-unread m n same o s room =
+    let k : ℕ = length room in
+    let cs : List Call = runCalls m s room in
+    let is = same-run (picture m) (picture n) o s k in
+    let w = waits-unread-in-memory m n same o cs in
+    let told = same-answers m n cs (w .answers) (run-unreading (picture m) s k) in
+    rw (run-is-calls m s room, run-is-calls n s room, ← is .0) (is .1, ap (λ (rs : List Reply). answersIn rs room) told, w .agree)
 
 -- ---- audits
 

@@ -18,6 +18,7 @@ use Rattle.memory.specs.Writes.{tickMem}
 use Rattle.memory.specs.Memory.{picture, M}
 use Rattle.memory.specs.Demands.{onMemory}
 use Rattle.memory.specs.Rounds.{roundOn}
+use Rattle.memory.specs.Runs.{runOn}
 use Rattle.memory.specs.Audit.{auditOn}
 use Rattle.memory.specs.Repair.{repaired}
 
@@ -45,6 +46,13 @@ unfoldable pub RoundsUnread : Type 0
 RoundsUnread =
     (m n : List ℕ) → length m ≡ length n → AgreeBut (picture m) (picture n) → (room : List ℕ)
     → (roundOn m room .0 ≡ roundOn n room .0) × (roundOn m room .2 ≡ roundOn n room .2) × AgreeBut (picture (roundOn m room .1)) (picture (roundOn n room .1))
+
+-- nor does a run: its report and its room are one
+unfoldable pub RunsUnread : Type 0
+RunsUnread =
+    (m n : List ℕ) → length m ≡ length n → AgreeBut (picture m) (picture n) → (s room : List ℕ)
+    → (runOn m s room .0 ≡ runOn n s room .0) × (runOn m s room .2 ≡ runOn n s room .2)
+    × AgreeBut (picture (runOn m s room .1)) (picture (runOn n s room .1))
 
 unfoldable pub AuditsUnread : Type 0
 AuditsUnread = (m n : List ℕ) → length m ≡ length n → AgreeBut (picture m) (picture n) → (room : List ℕ) → auditOn m room ≡ auditOn n room
