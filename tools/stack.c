@@ -24,6 +24,17 @@ static void setup(void) { vr_setup(memory, memory_len, &settings); }
 static void arrive(void) { uint16_t entry; vr_arrive(memory, memory_len, 0, header, header_len, &entry); }
 static void turn(void) { uint8_t sent[16]; vr_turn(memory, memory_len, 0, sent); }
 static void round_(void) { vr_round(memory, memory_len, lent, lent_len); }
+/* A run: an arrival, whose checksum is tried, and a turn, which makes the port's ready word. */
+static void many(void) {
+    static const uint8_t turn_field[] = {5, 0, 1, 0};
+    uint8_t fields[4 + sizeof header + sizeof turn_field] = {2, 0, (uint8_t)(1 + header_len), 0}, answers[8];
+    uint64_t count;
+    uint32_t why;
+    memcpy(fields + 4, header, header_len);
+    memcpy(fields + 4 + header_len, turn_field, sizeof turn_field);
+    vr_run(memory, memory_len, fields, 4 + header_len + sizeof turn_field, answers, sizeof answers, &count, &why);
+    if (count != 2) abort();
+}
 static void clear(void) { vr_clear(memory, memory_len, 0); }
 static void report(void) { uint32_t mark; vr_report(memory, memory_len, 0, &mark); }
 static void timed_turn(void) { uint8_t sent[16]; vr_timed_turn(memory, memory_len, 0, 7, sent); }
@@ -72,8 +83,8 @@ int main(void) {
         taken(nothing); /* the first thread may bring in more */
         size_t bare = taken(nothing);
         setup();
-        printf("  setup %zu, arrive %zu, turn %zu, round %zu, audit %zu", taken(setup) - bare, taken(arrive) - bare, taken(turn) - bare,
-               taken(round_) - bare, taken(audit) - bare);
+        printf("  setup %zu, arrive %zu, turn %zu, round %zu, run %zu, audit %zu", taken(setup) - bare, taken(arrive) - bare, taken(turn) - bare,
+               taken(round_) - bare, taken(many) - bare, taken(audit) - bare);
         printf(", clear %zu, report %zu, timed turn %zu, bucket %zu, find %zu", taken(clear) - bare, taken(report) - bare,
                taken(timed_turn) - bare, taken(bucket) - bare, taken(find) - bare);
         memory[memory_len / 2] ^= 0x55;

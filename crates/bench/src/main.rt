@@ -82,7 +82,7 @@ fn run(m: &mut [u8; 65536], bytes: &mut [u8; 4096], out: &mut [u8; 4096]) {
     output::flush(out, p.waiting);
 }
 
-// The memory is enough for 1,143 nodes a port; a setup of more is refused 1.
+// The memory is enough for 1,133 nodes a port; a setup of more is refused 1.
 fn main() {
     let mut memory = [0u8; 65536];
     let mut bytes = [0u8; 4096];
