@@ -41,7 +41,7 @@ use Rattle.memory.specs.Memory.{picture, M}
 use Rattle.memory.specs.Demands.{onMemory}
 use Rattle.memory.specs.Rounds.{roundOn, roundCalls, RoundIsCalls}
 use Rattle.memory.specs.Runs.{Ask, does, bad, ended, ofCall, ofBench, isOwn, ownArrival, askedBy, askedAt, goesOn, halts}
-use Rattle.memory.specs.Runs.{stretch, stretchOf, runOn, runCalls, reportOf, RunIsCalls}
+use Rattle.memory.specs.Runs.{stretch, stretchOf, runCalls, reportOf, RunIsCalls}
 use Rattle.memory.specs.Audit.{block, placeTold, audited, auditOn}
 use Rattle.memory.specs.Image.{setupMem}
 use Rattle.memory.specs.Repair.{repairMem, repaired}
