@@ -6,7 +6,7 @@ ghost use mathlib.Core.Path.{_≡_};
 ghost use Rattle.layout.specs.declared.Table.the-variants.{Head, Count};
 ghost use Rattle.layout.specs.Tables.{get, settingsOf};
 ghost use Rattle.memory.specs.Ends.{link, pushMem};
-ghost use Rattle.lists.specs.Ends.{InList, CanTake, CanPut, CanLink, CanShift, Taken, Shifted};
+ghost use Rattle.lists.specs.Ends.{InList, CanTake, CanPut, CanLink, Taken};
 
 // How many nodes a list has.
 pub fn count(m: &[u8], s: Shape, l: usize) -> u32
@@ -60,14 +60,4 @@ pub fn push(m: &mut [u8], s: Shape, b: usize, x: EntryId)
     link(m, s, b, x, n);
     layout::put2(m, s, Table::Tail, b, x.0);
     layout::put4(m, s, Table::Count, b, n + 1);
-}
-
-// The first node of list a, which goes to the end of list b.
-pub fn shift(m: &mut [u8], s: Shape, a: usize, b: usize) -> EntryId
-    requires { ⌜ CanShift s a b (now m) ⌝ }
-    ensures { λ r. ⌜ Shifted s a b (r .0) (now (m .entry)) (now (m .exit)) ⌝ }
-{
-    let x = pop(m, s, a);
-    push(m, s, b, x);
-    x
 }

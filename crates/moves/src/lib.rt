@@ -57,7 +57,9 @@ pub fn prefetch(m: &mut [u8], s: Shape, port: u32, queue: u32) -> Entry
             let q = queue as usize;
             let from = geometry::egress_list(s, p, q);
             let to = geometry::prefetch_list(s, p, q);
-            let x = lists::shift(m, s, from, to);
+            // two calls, so that the compiler takes both in: a call of one function for both would copy the shape
+            let x = lists::pop(m, s, from);
+            lists::push(m, s, to, x);
             Entry::Node(x)
         }
     }
@@ -107,7 +109,9 @@ pub fn stitch(m: &mut [u8], s: Shape, port: u32) -> Stitched
             let k = records::packet(m, s, lists::first(m, s, from));
             let to = parts::mapped(m, s, k.destination as usize);
             let at = geometry::egress_list(s, to as usize, k.queue as usize);
-            lists::shift(m, s, from, at);
+            // two calls, so that the compiler takes both in: a call of one function for both would copy the shape
+            let x = lists::pop(m, s, from);
+            lists::push(m, s, at, x);
             Stitched {
                 answer: Plain::Done,
                 record: record_of(k, to),

@@ -213,14 +213,14 @@ module _
         subst (λ (k : Packet). arrivalOf S (ledgerIn S m) (owner (k .node)) q + k .price < 65536) (j-is S ok m s p q hp hq filled)
         (given-fits S ok m s p q hp hq filled)
 
-    -- the list, the free list of its home, the credits, the shift and the settling make up what serving writes
-    pub serve-mem : {m′ n : List ℕ} {a b h g l : ℕ}
-        → a ≡ place# S (prefetched p q) → b ≡ place# S (free h) → h ≡ owner x
+    -- the home, the credits, the shift and the settling make up what serving writes
+    pub serve-mem : {m′ n : List ℕ} {h g l : ℕ} → h ≡ owner x
         → g ≡ arrivalOf S (ledgerIn S m) (owner x) q + P .price → l ≡ outwardOf S (ledgerIn S m) p q - P .price
-        → n ≡ pushMem S b (get S m Head a) (popMem S a m) → m′ ≡ put S Last p q (creditMem S Outward p q l (creditMem S Arrival h q g n))
+        → n ≡ pushMem S (place# S (free h)) x (popMem S (place# S (prefetched p q)) m)
+        → m′ ≡ put S Last p q (creditMem S Outward p q l (creditMem S Arrival h q g n))
         → m′ ≡ serveMem S p q P m
     unfolding serveMem moveMem packetAt
-    serve-mem ea eb eh eg el en e = e ∙ rw (en, ea, eb, eh, eg, el)
+    serve-mem eh eg el en e = e ∙ rw (en, eh, eg, el)
 
 -- what leaves, as the code has it
 pub turn-leaves : (S : Settings) (m : List ℕ) (p : ℕ) (hp : p < S .ports) (s : StateOf S m) (n : readyWord S (ledgerIn S m) p ≡ 0 → ⊥)

@@ -109,7 +109,10 @@ pub fn depart(m: &mut [u8], s: Shape, p: usize, q: usize) -> EntryId
     let cost = records::price(m, s, x) as u16;
     let given = parts::arrival(m, s, home, q) + cost;
     let left = parts::outward(m, s, p, q) - cost;
-    lists::shift(m, s, from, geometry::free_list(s, home));
+    let to = geometry::free_list(s, home);
+    // two calls, so that the compiler takes both in: a call of one function for both would copy the shape
+    let y = lists::pop(m, s, from);
+    lists::push(m, s, to, y);
     settle(m, s, p, q, home, given, left);
     x
 }

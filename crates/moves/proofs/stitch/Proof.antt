@@ -1,6 +1,6 @@
--- `moves::stitch` meets its contract: the judge decides, and where it lets the call go the node is shifted and its record made.
--- Assumes nothing.
-use mathlib.Core.Path.{_≡_, refl, sym, ap, ap₂, _∙_}
+-- `moves::stitch` meets its contract: the judge decides, and where it lets the call go the node is taken off and put on, and its
+-- record made. Assumes nothing.
+use mathlib.Core.Path.{_≡_, refl, sym, ap, _∙_}
 use mathlib.Core.List.{List}
 use Prim.Native.Nat.{ℕ, _<_}
 use borrow.Author.Needs.{needs}
@@ -12,12 +12,13 @@ use Rattle.ledger.proofs.Places.{place#-lt}
 use Rattle.layout.specs.declared.Table.the-variants.{Head}
 use Rattle.layout.specs.Tables.{settingsOf, lists, get}
 use Rattle.layout.specs.Picture.{packetAt, ledgerIn}
-use Rattle.memory.specs.Ends.{popMem, pushMem}
 use Rattle.memory.specs.Writes.{headOf}
 use Rattle.memory.specs.Judged.{good, judgementOf, judged}
 use Rattle.memory.proofs.Chains.{state-tidy}
 use Rattle.memory.proofs.Judged.{acted-bad}
 use Rattle.ledger.specs.Answers.{recordIn}
+use Rattle.lists.specs.Ends.{CanShift}
+use Rattle.lists.proofs.Laws.{can-take, can-put, shifted}
 use Rattle.moves.proofs.Laws.{ingress-in, Stitches, stitched-on}
 use Rattle.moves.proofs.stitch.Statement.{statement}
 use Rattle.moves.proofs.stitch.Tie as tie
@@ -46,6 +47,15 @@ met c = c .before
 
 abbrev read : tie.After-mapped → tie.After-packet
 read c = c .before .before .before
+
+abbrev aimed : tie.After-egress-list → tie.After-mapped
+aimed c = c .before .before
+
+abbrev placed : tie.After-pop → tie.After-egress-list
+placed c = c .before .before
+
+abbrev popped : tie.After-push → tie.After-pop
+popped c = c .before .before .before .before
 
 -- the settings and the memory at the start, the oldest node and its packet
 abbrev S : tie.Start → Settings
@@ -126,21 +136,31 @@ egress-list-requires c κs =
     let mp = c .before in
     record { laid = begun (listed (met (read mp))) .pre .laid; port = goes mp .to-in; queue = goes mp .queue-in }
 
-shift-requires : tie.Need-shift-requires
-shift-requires c κs =
-    let mp = c .before .before .before in
-    let g = goes mp in
-    let l = listed (met (read mp)) in
-    let st = begun l in
+-- the oldest ingress node can go to the egress list
+can : (c : tie.After-mapped) → let st = begun (listed (met (read c))) in
+    CanShift (st .args .s) (place# (S st) (ingress (st .args .port))) (place# (S st) (egress (c .mapped .result) (read c .packet .result .queue))) (m st)
+can c =
+    let g = goes c in
+    let st = begun (listed (met (read c))) in
     record {
       take = record {
         laid = st .pre .laid;
         tidy = state-tidy (S st) (m st) (st .pre .state);
-        inside = from-in l;
-        some = rw (l .ingress-list .ensures) (g .some);
+        inside = ingress-in (S st) (m st) (st .args .port) (st .pre .laid .roomy) (g .port);
+        some = g .some;
       };
-      target = rw (c .before .egress-list .ensures) (place#-lt (S st) (egress _ _) (g .to-in, g .queue-in));
+      target = place#-lt (S st) (egress _ _) (g .to-in, g .queue-in);
     }
+
+pop-requires : tie.Need-pop-requires
+pop-requires c κs = let mp = aimed (c .before) in can-take (listed (met (read mp)) .ingress-list .ensures) (can mp)
+
+push-requires : tie.Need-push-requires
+push-requires c κs =
+    let po = c .before .before .before in
+    let e = placed po in
+    let mp = aimed e in
+    can-put (listed (met (read mp)) .ingress-list .ensures) (e .egress-list .ensures) (can mp) (po .pop .ensures)
 
 record-of-requires : tie.Need-record-of-requires
 record-of-requires c κs = search needs
@@ -160,18 +180,14 @@ same-length-2 c = search needs
 
 returns-2 : tie.Need-returns-2
 returns-2 c =
-    let sh = c .before .before .before in
-    let mp = sh .before .before .before .before in
+    let pu = c .before .before .before in
+    let po = popped pu in
+    let e = placed po in
+    let mp = aimed e in
     let g = goes mp in
     let l = listed (met (read mp)) in
-    let st = begun l in
-    let from = place# (S st) (ingress (st .args .port)) in
-    let to = place# (S st) (egress (mp .mapped .result) (read mp .packet .result .queue)) in
-    let memory : sh .shift .last .0 ≡ pushMem (S st) to (oldest st) (popMem (S st) from (m st)) =
-    sh .shift .ensures .memory
-    ∙ ap₂ (λ (a b : ℕ). pushMem (S st) b (get (S st) (m st) Head a) (popMem (S st) a (m st)))
-    (l .ingress-list .ensures) (sh .before .before .egress-list .ensures) in
-    (rw (c .record-of .ensures, memory) (sym (g .outcome)), c .record-of .ensures ∙ sym (ap (λ (out : Reply × List ℕ). recordIn (out .0)) (g .outcome)))
+    let sh = shifted (l .ingress-list .ensures) (e .egress-list .ensures) (po .pop .ensures) (pu .push .ensures) in
+    (rw (c .record-of .ensures, sh .memory) (sym (g .outcome)), c .record-of .ensures ∙ sym (ap (λ (out : Reply × List ℕ). recordIn (out .0)) (g .outcome)))
 
 pub stitch-spec : {M : Type 1} → statement M
 stitch-spec =
@@ -188,7 +204,8 @@ stitch-spec =
     cast-egress-list
     cast-egress-list-2
     egress-list-requires
-    shift-requires
+    pop-requires
+    push-requires
     record-of-requires
     same-length
     returns

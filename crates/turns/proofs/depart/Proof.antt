@@ -1,4 +1,4 @@
--- `turns::depart` meets its contract: the oldest packet's price is read, its node shifted home, the price settled. Assumes nothing.
+-- `turns::depart` meets its contract: the oldest packet's price is read, its node taken off and put on at home, the price settled. Assumes nothing.
 use mathlib.Core.Path.{_≡_, ap, ap₂, _∙_}
 use mathlib.Core.Bool.{true}
 use mathlib.Core.List.{List}
@@ -6,12 +6,14 @@ use Prim.Native.Nat.{ℕ, _+_, _-_, _<_}
 use native.Mathlib.Omega.{arith}
 use borrow.Author.Needs.{needs}
 use Rattle.ledger.specs.Settings.{Settings}
-use Rattle.ledger.specs.Ledger.{owner, isNode, Packet, prefetched, place#, arrivalOf}
+use Rattle.ledger.specs.Ledger.{owner, isNode, Packet, free, prefetched, place#, arrivalOf}
 use Rattle.layout.specs.declared.Table.the-variants.{Head}
 use Rattle.layout.specs.Tables.{settingsOf, lists, get}
 use Rattle.layout.specs.Picture.{packetAt, ledgerIn}
 use Rattle.memory.specs.Writes.{headOf}
 use Rattle.memory.proofs.Chains.{head-is-node, state-tidy}
+use Rattle.lists.specs.Ends.{CanShift}
+use Rattle.lists.proofs.Laws.{can-take, can-put, shifted}
 use Rattle.turns.proofs.Laws.{l-in, home-in, given-small, free-in, serve-mem}
 use Rattle.turns.proofs.depart.Statement.{statement}
 use Rattle.turns.proofs.depart.Tie as tie
@@ -35,8 +37,17 @@ priced c = c .before .before
 abbrev given : tie.After-outward → tie.After-arrival
 given c = c .before .before
 
-abbrev left : tie.After-shift → tie.After-outward
-left c = c .before .before .before
+abbrev left : tie.After-free-list → tie.After-outward
+left c = c .before
+
+abbrev aimed : tie.After-pop → tie.After-free-list
+aimed c = c .before .before
+
+abbrev popped : tie.After-push → tie.After-pop
+popped c = c .before .before .before .before
+
+abbrev pushed : tie.After-settle → tie.After-push
+pushed c = c .before .before .before .before
 
 -- the settings and the memory at the start, the oldest node, its packet, and the credit of its home
 abbrev S : tie.Start → Settings
@@ -140,32 +151,45 @@ sub-left c =
 
 free-list-requires : tie.Need-free-list-requires
 free-list-requires c κs =
-    let h = homed (priced (given (c .before))) in
+    let h = homed (priced (given c)) in
     record { laid = start (listed (met h)) .pre .works .laid; port = home h }
 
-shift-requires : tie.Need-shift-requires
-shift-requires c κs =
-    let h = homed (priced (given (c .before .before))) in
-    let l = listed (met h) in
-    let st = start l in
+-- the oldest node can go home
+can : (c : tie.After-port) → let st = start (listed (met c)) in
+    CanShift (st .args .s) (place# (S st) (prefetched (st .args .p) (st .args .q))) (place# (S st) (free (c .port .result))) (m st)
+can c =
+    let st = start (listed (met c)) in
     record {
       take = record {
         laid = st .pre .works .laid;
         tidy = state-tidy (S st) (m st) (st .pre .works .state);
-        inside = at-in l;
-        some = rw (l .prefetch-list .ensures) (st .pre .some);
+        inside = place-in st;
+        some = st .pre .some;
       };
-      target = rw (c .free-list .ensures) (free-in (S st) (st .pre .works .laid .roomy) (h .port .result) (home h));
+      target = free-in (S st) (st .pre .works .laid .roomy) (c .port .result) (home c);
     }
+
+pop-requires : tie.Need-pop-requires
+pop-requires c κs =
+    let h = homed (priced (given (left (c .before)))) in
+    can-take (listed (met h) .prefetch-list .ensures) (can h)
+
+push-requires : tie.Need-push-requires
+push-requires c κs =
+    let po = c .before .before .before in
+    let f = aimed po in
+    let h = homed (priced (given (left f))) in
+    can-put (listed (met h) .prefetch-list .ensures) (f .free-list .ensures) (can h) (po .pop .ensures)
 
 settle-requires : tie.Need-settle-requires
 settle-requires c κs =
-    let sh = c .before .before .before in
-    let h = homed (priced (given (left sh))) in
+    let pu = c .before .before .before in
+    let po = popped pu in
+    let h = homed (priced (given (left (aimed po)))) in
     let p = start (listed (met h)) .pre in
     record {
       laid = p .works .laid;
-      long = omega (arith, p .works .state .long, sh .shift .kept .0);
+      long = omega (arith, p .works .state .long, po .pop .kept .0, pu .push .kept .0);
       port = p .port;
       queue = p .queue;
       owner-in = home h;
@@ -177,8 +201,10 @@ same-length c = search needs
 returns : tie.Need-returns
 returns c =
     let se = c .before .before in
-    let sh = se .before .before .before .before in
-    let o = left sh in
+    let pu = pushed se in
+    let po = popped pu in
+    let f = aimed po in
+    let o = left f in
     let ar = given o in
     let pr = priced ar in
     let h = homed pr in
@@ -188,9 +214,8 @@ returns c =
       node = first-is (met h);
       memory =
           serve-mem (S st) (m st) (st .pre .works .state) (st .args .p) (st .args .q) (st .pre .port) (st .pre .queue) (st .pre .some)
-          (l .prefetch-list .ensures) (sh .before .free-list .ensures) (home-is h)
-          (ap₂ _+_ (arrival-is ar) (price-is pr)) (ap₂ (λ (x y : ℕ). x - y) (o .outward .ensures) (price-is pr))
-          (sh .shift .ensures .memory) (se .settle .ensures);
+          (home-is h) (ap₂ _+_ (arrival-is ar) (price-is pr)) (ap₂ (λ (x y : ℕ). x - y) (o .outward .ensures) (price-is pr))
+          (shifted (l .prefetch-list .ensures) (f .free-list .ensures) (po .pop .ensures) (pu .push .ensures) .memory) (se .settle .ensures);
     }
 
 pub depart-spec : {M : Type 1} → statement M
@@ -208,7 +233,8 @@ depart-spec =
     outward-requires
     sub-left
     free-list-requires
-    shift-requires
+    pop-requires
+    push-requires
     settle-requires
     same-length
     returns)
