@@ -56,7 +56,7 @@
  * uint16_t, uint32_t, uint64_t and the structs are aligned; the memories lent to one call do not overlap; and no two calls run at once on a
  * memory that one of them may change.
  *
- * A call takes up to 25,694 bytes of stack, a finding up to 33,486, whatever the settings (measured on x86-64 by tools/stack.c, not proved):
+ * A call takes up to 25,902 bytes of stack, a finding up to 33,486, whatever the settings (measured on x86-64 by tools/stack.c, not proved):
  * the test for a state keeps a bit for each of up to 65,536 nodes there, and a sum for each port and queue but 0.
  *
  * Numbers, and structs of numbers, are the machine's own; the rooms of bytes and the fields of a run are big-endian.
