@@ -2,8 +2,9 @@
 -- leave and answer one by one is `run-is-calls` (proofs/Runs.antt). Assumes nothing.
 use mathlib.Core.Path.{_≡_}
 use mathlib.Core.Bool.{Bool, cond, _&&_}
+use mathlib.Core.Logic.{_⊎_}
 use mathlib.Core.List.{List, [], _∷_}
-use Prim.Native.Nat.{ℕ, zero, suc, _+_, _*_, _/_, _<_}
+use Prim.Native.Nat.{ℕ, zero, suc, _+_, _*_, _/_, _≤_, _<_}
 use lib.Dec.{eqb}
 use lib.ListN.{length, getD, take, drop}
 use Rattle.numbers.specs.Bytes.{number}
@@ -147,3 +148,31 @@ AnswersTell =
     (m s room : List ℕ) (j : ℕ) → j < length (runCalls m s room)
     → take 4 (drop (4 * j) (runOn m s room .2))
     ≡ answerBytes (M (getD (runCalls m s room) j (act (ready 0))) (afterCalls onMemory m (take j (runCalls m s room))) .0)
+
+-- ---- which fields a run does, and where and why it stops, in words
+
+-- from place `at` on the fields ask these acts, one after another, and what is behind them stands at place `stop`
+abbrev pub AskedInTurn : ℕ → List ℕ → ℕ → List Act → ℕ → Type 0
+AskedInTurn size s at [] stop = at ≡ stop
+AskedInTurn size s at (a ∷ acts) stop = (next : ℕ) × (askedAt size s at ≡ does a next) × AskedInTurn size s next acts stop
+
+-- a good field stands at a place
+abbrev pub GoodAt : ℕ → List ℕ → ℕ → Type 0
+GoodAt size s at = (a : Act) × (next : ℕ) × (askedAt size s at ≡ does a next)
+
+-- there the fields have ended; or a bad one stands there; or a good one, where there is no room
+abbrev pub StoppedFor : ℕ → List ℕ → ℕ → Type 0 → ℕ → Type 0
+StoppedFor size s stop full why =
+    ((why ≡ theEnd) × (askedAt size s stop ≡ ended))
+    ⊎ ((why ≡ badField) × (askedAt size s stop ≡ bad))
+    ⊎ ((why ≡ noRoom) × full × GoodAt size s stop)
+
+-- A run into n bytes of room does the fields from the first on, none left out, as many as have room, up to the first that is bad, the end, or
+-- a good one "where four bytes no longer fit".
+unfoldable pub RunStops : Type 0
+RunStops =
+    (S : Settings) (s : List ℕ) (n : ℕ)
+    → let size = headerSize (form S) in
+    let t = stretchOf S s n in
+    (4 * length (t .acts) ≤ n)
+    × (stop : ℕ) × AskedInTurn size s 0 (t .acts) stop × StoppedFor size s stop (n < 4 * length (t .acts) + 4) (t .why)
