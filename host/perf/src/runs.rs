@@ -1,20 +1,5 @@
 //! A run of fields beside lean's, on the same streams; and what short runs cost.
 
-mod c {
-    extern "C" {
-        pub fn vr_run(
-            mem: *mut u8,
-            len: usize,
-            fields: *const u8,
-            fields_len: usize,
-            answers: *mut u8,
-            answers_len: usize,
-            count: *mut u64,
-            why: *mut u32,
-        ) -> u32;
-    }
-}
-
 use lean::{EarlyOut, Lean, Ran, WholeWord, Why};
 use model::{size, Shape};
 use ventorupo::calls;
@@ -33,20 +18,7 @@ const PAGE: usize = 4096;
 /// The proved run: how many fields it did, and why it stopped.
 fn run(memory: &mut [u8], fields: &[u8], answers: &mut [u8]) -> (u64, u32) {
     let (mut count, mut why) = (0, 0);
-    // Sound: the lengths are those of the slices, which don't overlap, and each of
-    // the two numbers is lent for itself.
-    let number = unsafe {
-        c::vr_run(
-            memory.as_mut_ptr(),
-            memory.len(),
-            fields.as_ptr(),
-            fields.len(),
-            answers.as_mut_ptr(),
-            answers.len(),
-            &mut count,
-            &mut why,
-        )
-    };
+    let number = calls::run(memory, fields, answers, &mut count, &mut why);
     assert_eq!(number, 0);
     (count, why)
 }
