@@ -73,6 +73,7 @@ module _ {A : Type 0} (room : Reply → A → A) (kept : Keeps room) where
   refusal-only (found v i) old h = absurd (h refl)
   refusal-only (reported n) old h = absurd (h refl)
   refusal-only (counted n) old h = absurd (h refl)
+  refusal-only (part x n) old h = absurd (h refl)
 
   pub nothing-differs : (c : Call) → isArrivalCall c ≡ false → (m : List ℕ) (old : A) → (numberIn (M c m .0) ≡ 0 → ⊥)
       → toldIn room old (M c m) ≡ (numberIn (M c m .0), m, old)
@@ -92,6 +93,7 @@ numbered-reply (word w n) h = absurd (h refl)
 numbered-reply (found v i) h = absurd (h refl)
 numbered-reply (reported n) h = absurd (h refl)
 numbered-reply (counted n) h = absurd (h refl)
+numbered-reply (part x n) h = absurd (h refl)
 
 pub but-the-mark : (p : ℕ) (h m : List ℕ) (old : ℕ) → (numberIn (M (act (arrive p h)) m .0) ≡ 0 → ⊥) →
     let out = toldIn entryRoom old (M (act (arrive p h)) m) in

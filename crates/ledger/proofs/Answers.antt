@@ -6,11 +6,11 @@ use Prim.Native.Nat.{ℕ}
 use native.Mathlib.Omega.{arith}
 use lib.ListN.{getD}
 use Rattle.ledger.specs.Answers.{numberOf, kindOf, exitOf, sentOf, plainReply, stitchReply, entryReply, turnReply, readyReply, whereReply, reportReply}
-use Rattle.ledger.specs.Answers.{bucketReply}
+use Rattle.ledger.specs.Answers.{bucketReply, showReply}
 use Rattle.ledger.specs.declared.Refusal.{Refusal}
 use Rattle.ledger.specs.declared.Refusal.the-variants.{ShortMemory, BadSetting, NoState, NoPort, NoQueue, HeaderSize, Checksum, Source}
 use Rattle.ledger.specs.declared.Refusal.the-variants.{TooShort, NoCredit, NoFreeNode, NothingThere, SlotsInUse, TooMuchCredit, NoSuchId}
-use Rattle.ledger.specs.declared.Refusal.the-variants.{HeaderQueue, ReservedBit, NoFit, ShortRoom}
+use Rattle.ledger.specs.declared.Refusal.the-variants.{PacketBytes, PacketMemory, HeaderQueue, ReservedBit, NoFit, OtherKind, ShortRoom}
 use Rattle.ledger.specs.declared.ListKind.{ListKind}
 use Rattle.ledger.specs.declared.ListKind.the-variants.{Free, Ingress, Egress, Prefetch}
 use Rattle.ledger.specs.declared.Exit.{Exit}
@@ -30,6 +30,8 @@ use Rattle.ledger.specs.declared.Reported.{Reported}
 use Rattle.ledger.specs.declared.Reported.the-variants as reports
 use Rattle.ledger.specs.declared.Bucketed.{Bucketed}
 use Rattle.ledger.specs.declared.Bucketed.the-variants as counts
+use Rattle.ledger.specs.declared.Shown.{Shown}
+use Rattle.ledger.specs.declared.Shown.the-variants as parts
 use Rattle.ledger.specs.Calls.{refused, entry, leaves, found, Side}
 use Rattle.ledger.specs.Ledger.{Packet, Place}
 
@@ -37,8 +39,8 @@ use Rattle.ledger.specs.Ledger.{Packet, Place}
 refusals : List Refusal
 refusals =
     ShortMemory ∷ ShortMemory ∷ BadSetting ∷ NoState ∷ NoPort ∷ NoQueue ∷ HeaderSize ∷ Checksum ∷ Source ∷ TooShort
-    ∷ NoCredit ∷ NoFreeNode ∷ NothingThere ∷ SlotsInUse ∷ TooMuchCredit ∷ NoSuchId ∷ ShortMemory ∷ ShortMemory ∷ ShortMemory ∷ HeaderQueue
-    ∷ ReservedBit ∷ NoFit ∷ ShortMemory ∷ ShortMemory ∷ ShortMemory ∷ ShortMemory ∷ ShortMemory ∷ ShortRoom ∷ []
+    ∷ NoCredit ∷ NoFreeNode ∷ NothingThere ∷ SlotsInUse ∷ TooMuchCredit ∷ NoSuchId ∷ PacketBytes ∷ PacketMemory ∷ ShortMemory ∷ HeaderQueue
+    ∷ ReservedBit ∷ NoFit ∷ ShortMemory ∷ ShortMemory ∷ OtherKind ∷ ShortMemory ∷ ShortMemory ∷ ShortRoom ∷ []
 
 refusalOf : ℕ → Refusal
 refusalOf n = getD refusals n ShortMemory
@@ -60,9 +62,12 @@ refusal-back NothingThere = refl
 refusal-back SlotsInUse = refl
 refusal-back TooMuchCredit = refl
 refusal-back NoSuchId = refl
+refusal-back PacketBytes = refl
+refusal-back PacketMemory = refl
 refusal-back HeaderQueue = refl
 refusal-back ReservedBit = refl
 refusal-back NoFit = refl
+refusal-back OtherKind = refl
 refusal-back ShortRoom = refl
 
 pub number-inj : (r s : Refusal) → numberOf r ≡ numberOf s → r ≡ s
@@ -188,3 +193,12 @@ bucket-inj (counts.Count v) (counts.Count w) e = cc
 bucket-inj (counts.Count v) (counts.No s) e = cc
 bucket-inj (counts.No r) (counts.Count w) e = cc
 bucket-inj (counts.No r) (counts.No s) e = ap counts.No (same-refusal r s e)
+
+pub show-inj : (a b : Shown) → showReply a ≡ showReply b → a ≡ b
+show-inj (parts.Part x m) (parts.Part y n) e =
+    let p : x .0 ≡ y .0 = cc in
+    let q : m ≡ n = cc in
+    rw q (ap (λ (i : ℕ). parts.Part (record { 0 = i }) n) p)
+show-inj (parts.Part x m) (parts.No s) e = cc
+show-inj (parts.No r) (parts.Part y n) e = cc
+show-inj (parts.No r) (parts.No s) e = ap parts.No (same-refusal r s e)

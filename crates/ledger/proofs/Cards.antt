@@ -3,7 +3,7 @@ use mathlib.Core.Path.{refl}
 use Rattle.numbers.specs.Bytes.{number}
 use Rattle.numbers.specs.Fields.{bits}
 use Rattle.crc.specs.Crc.{crcBit, crcBits, crcByte, crcFrom, crc8}
-use Rattle.ledger.specs.Settings.{isBeat, portsIn, queuesIn, inRows, row, size}
+use Rattle.ledger.specs.Settings.{isBeat, portsIn, queuesIn, packetsIn, inRows, row, size, packetRoom}
 use Rattle.ledger.specs.Header.{widthOf, formOf, frontBits, frontBytes, spare, bodySize, headerSize, leastLength, fieldsOf, price}
 use Rattle.ledger.specs.Ledger.{isNode, recorded, place#, placeOf, cell, creditAt, setCredit, pop, push, move}
 use Rattle.ledger.specs.Ledger.{start, change}
@@ -16,7 +16,7 @@ use Rattle.ledger.specs.Rounds.{roundActs, answerBytes, bytesOf, answers
 use Rattle.ledger.specs.Cards.{Holds, cards}
 
 pub cards-hold : All Holds cards
-unfolding number bits crcBit crcBits crcByte crcFrom crc8 isBeat portsIn queuesIn inRows row size widthOf formOf frontBits
+unfolding number bits crcBit crcBits crcByte crcFrom crc8 isBeat portsIn queuesIn packetsIn inRows row size packetRoom widthOf formOf frontBits
     frontBytes spare bodySize headerSize leastLength fieldsOf price isNode recorded place# placeOf cell creditAt
     setCredit pop push move change start isReady wordOf readyWord maskedAbove pick arrived stitchRecord served roundActs answerBytes
     bytesOf answersIn lib.Count.ones lib.Count.leadingZeros lib.Count.trailingZeros onRefusal markedFor
@@ -65,7 +65,13 @@ cards-hold = (
                                           refl,
                                           (
                                             refl,
-                                            (refl, (refl, (refl, (refl, (refl, (refl, (refl, (refl, (refl, (refl, (refl, (refl, tt)))))))))))),
+                                            (
+                                              refl,
+                                              (
+                                                refl,
+                                                (refl, (refl, (refl, (refl, (refl, (refl, (refl, (refl, (refl, (refl, (refl, (refl, tt)))))))))))),
+                                              ),
+                                            ),
                                           ),
                                         ),
                                       ),

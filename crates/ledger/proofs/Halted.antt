@@ -12,15 +12,15 @@ use lib.Seq.{getD-set-other}
 use lib.Dec.{eqb, ltb}
 use Rattle.ledger.specs.Settings.{Settings}
 use Rattle.ledger.specs.Rules.{Rule, refuse, guard}
-use Rattle.ledger.specs.Header.{form, fieldsOf, arrivalRules}
+use Rattle.ledger.specs.Header.{form, fieldsOf, Load, bytesIn}
 use Rattle.ledger.specs.Ledger.{owner, Packet, bare, recorded, Place, free, ingress, egress, prefetched, place#, creditAt, setCredit, Column, column#}
 use Rattle.ledger.specs.Buckets.{Clock, untimed, at, waitOf, bucketOf, oneMore, bucket#}
 use Rattle.ledger.specs.Ledger.{arrival, outward, last, mapped, halted, buckets, Ledger, arrivalOf, outwardOf, lastOf, mapOf, markOf}
 use Rattle.ledger.specs.Ledger.{oldest, pop, push, move, change, putIn}
 use Rattle.ledger.specs.Ready.{isReady, readyWord, pick}
 use Rattle.ledger.specs.Halt.{marks, heldUp, OnlyMark}
-use Rattle.ledger.specs.Calls.{Act, arrive, stitch, prefetch, credit, mapTo, turn, ready, whereIs, clear, report, bucket, isArrival}
-use Rattle.ledger.specs.Calls.{Reply, refused, entry, idle, reported, noPort, firstOf, arriving, lastRules, arrived, served, ticked, serve}
+use Rattle.ledger.specs.Calls.{Act, arrive, stitch, prefetch, credit, mapTo, turn, ready, whereIs, clear, report, bucket, show, isArrival}
+use Rattle.ledger.specs.Calls.{Reply, refused, entry, idle, reported, firstOf, arriving, soundRules, lastRules, arrived, served, ticked, serve}
 use Rattle.ledger.specs.Calls.{rules, result, markedFor, onRefusal, step}
 use Rattle.ledger.specs.Sound.{All, Orderly}
 use Rattle.ledger.specs.Desk.{Desk, has, Call, setup, act, desk, afterCalls, answersOf, SetupsRefused}
@@ -29,9 +29,9 @@ use Rattle.ledger.proofs.Tests.{true≢false, eqb-is, eqb-not, ltb-not,
 use Rattle.ledger.proofs.Columns.{other-column, change-here, change-other, only-changed}
 use Rattle.ledger.proofs.Buckets.{ticked-numbers}
 use Rattle.ledger.proofs.Halt.{marks-first, marked-by, not-held}
-use Rattle.ledger.proofs.Passes.{guard-after, passes, Admits, admits}
+use Rattle.ledger.proofs.Passes.{guard-after, comes, comes-clear, Admits, admits}
 use Rattle.ledger.proofs.Steps.{guarded-both, cleared, stepped, refused-by, refused-else}
-use Rattle.ledger.proofs.Promises.{refusal-marks, means-sound}
+use Rattle.ledger.proofs.Promises.{refusal-marks}
 use Rattle.ledger.proofs.Courses.{Faithful, act-answer, act-shows, refused-shows, desk-faithful}
 
 -- ---- two ledgers under the same rules
@@ -44,15 +44,15 @@ guard-then (refuse n false ∷ rs) ts no′ out = guard-then rs ts no′ out
 
 -- ---- an arrival reads its own port's free list, credit and mark
 
-module _ (S : Settings) (L N : Ledger) (r : ℕ) (h : List ℕ) (g : AgreeAt S r L N) where
+module _ (S : Settings) (L N : Ledger) (r : ℕ) (h : Load) (g : AgreeAt S r L N) where
   -- the rules that read the ledger are the same, of a queue that the switch has
   same-last : arriving S L r h .queue < S .queues → lastRules S N r (arriving S N r h) ≡ lastRules S L r (arriving S L r h)
   unfolding recorded
-  same-last low = rw (g .same-free, g .same-mark, g .same-credit (fieldsOf (form S) h .queue) low)
+  same-last low = rw (g .same-free, g .same-mark, g .same-credit (fieldsOf (form S) (bytesIn h) .queue) low)
 
   pub same-answer : step S N (arrive r h) .0 ≡ step S L (arrive r h) .0
   same-answer =
-      let first : List Rule = noPort S r ∷ arrivalRules (form S) (S .queues) r h in
+      let first : List Rule = soundRules S r h in
       let no₁ : ℕ → Reply × Ledger = λ n. (refused n, onRefusal S n (arrive r h) N) in
       let no₂ : ℕ → Reply × Ledger = λ n. (refused n, onRefusal S n (arrive r h) L) in
       let out₁ : Reply × Ledger = result S N (arrive r h) in
@@ -64,7 +64,7 @@ module _ (S : Settings) (L N : Ledger) (r : ℕ) (h : List ℕ) (g : AgreeAt S r
       (λ n. refl)
       (λ c.
       subst (λ (rs : List Rule). Same (guard rs no₁ out₁) (guard last₂ no₂ out₂))
-      (sym (same-last (unfold recorded in passes (form S) (S .queues) r h (c .1) .queue)))
+      (sym (same-last (unfold recorded in comes S r h c .header .queue)))
       (guarded-both Same last₂ no₁ no₂ out₁ out₂ (λ n. refl) (λ d. ap (λ (ks : List Packet). entry (oldest ks .node)) (g .same-free)))))
     where
       Same : Reply × Ledger → Reply × Ledger → Type 0
@@ -80,7 +80,7 @@ agree-elsewhere S L N p r o other = record {
   same-mark = o .other-marks r other;
 }
 
-pub refused-agree : (S : Settings) (L : Ledger) → Orderly S L → (p : ℕ) (h : List ℕ) (n : ℕ) → step S L (arrive p h) .0 ≡ refused n
+pub refused-agree : (S : Settings) (L : Ledger) → Orderly S L → (p : ℕ) (h : Load) (n : ℕ) → step S L (arrive p h) .0 ≡ refused n
     → (r : ℕ) → r ≢ p → AgreeAt S r L (step S L (arrive p h) .1)
 refused-agree S L s p h n e r other = agree-elsewhere S L (step S L (arrive p h) .1) p r (refusal-marks S L s p h n e .only) other
 
@@ -247,6 +247,7 @@ module _ (S : Settings) (p : ℕ) (ys : List ℕ) (N : Ledger) (b : Behind p N (
   result-alike (clear r) = (λ n. refl, behind-put b r 0)
   result-alike (report r) = (λ n. ap reported (sym (b .only .other-marks r (λ e. n (ap report e)))), b)
   result-alike (bucket r d) = (λ n. refl, b)
+  result-alike (show ns r d) = (λ n. refl, b)
 
   -- nor do the rules, but an arrival's
   else-rules : (a : Act) → isArrival a ≡ false → rules S (remark ys N) a ≡ rules S N a
@@ -262,9 +263,10 @@ module _ (S : Settings) (p : ℕ) (ys : List ℕ) (N : Ledger) (b : Behind p N (
   else-rules (clear r) i = refl
   else-rules (report r) i = refl
   else-rules (bucket r d) i = refl
+  else-rules (show ns r d) i = refl
 
   -- and those read their own port's
-  elsewhere-rules : (r : ℕ) (h : List ℕ) → r ≢ p → rules S (remark ys N) (arrive r h) ≡ rules S N (arrive r h)
+  elsewhere-rules : (r : ℕ) (h : Load) → r ≢ p → rules S (remark ys N) (arrive r h) ≡ rules S N (arrive r h)
   unfolding remark change
   elsewhere-rules r h other = rw (b .only .other-marks r other)
 
@@ -278,7 +280,7 @@ module _ (S : Settings) (p : ℕ) (ys : List ℕ) (N : Ledger) (b : Behind p N (
       (guarded-both (Alike p a) (rules S N a) no₁ no₂ (result S (remark ys N) a) (result S N a) (λ n. (λ i. refl, left n)) (λ c. result-alike a))
 
   -- an arrival at p that L takes in, N takes in: its mark is L's, or none
-  taken-too : (h : List ℕ) → Admits S (remark ys N) p h → step S N (arrive p h) ≡ result S N (arrive p h)
+  taken-too : (h : Load) → Admits S (remark ys N) p h → step S N (arrive p h) ≡ result S N (arrive p h)
   unfolding remark change
   taken-too h a =
       let k : Packet = arriving S N p h in
@@ -286,10 +288,10 @@ module _ (S : Settings) (p : ℕ) (ys : List ℕ) (N : Ledger) (b : Behind p N (
       let out : Reply × Ledger = result S N (arrive p h) in
       let goes : heldUp (k .queue) (markOf N p) ≡ false = ⊎-elim (λ e. rw e (a .goes-on)) (λ e. rw e (not-held (k .queue))) (b .low) in
       let pays : ltb (arrivalOf S N p (k .queue)) (k .price) ≡ false = ltb-not (arrivalOf S N p (k .queue)) (k .price) (a .afford) in
-      guard-after (noPort S p ∷ arrivalRules (form S) (S .queues) p h) (lastRules S N p k) no′ out (means-sound S p h (a .port) (a .header))
+      guard-after (soundRules S p h) (lastRules S N p k) no′ out (comes-clear S p h (a .sound))
       ∙ cleared (lastRules S N p k) no′ out (rw (goes, pays), (a .some, tt))
 
-  own-arrival : (h : List ℕ) → Kept p (arrive p h) N (step S (remark ys N) (arrive p h)) (step S N (arrive p h))
+  own-arrival : (h : Load) → Kept p (arrive p h) N (step S (remark ys N) (arrive p h)) (step S N (arrive p h))
   own-arrival h =
       stepped S (remark ys N) (arrive p h) (λ out. Kept p (arrive p h) N out (step S N (arrive p h)))
       (λ n. record {
@@ -327,6 +329,7 @@ module _ (S : Settings) (p : ℕ) (ys : List ℕ) (N : Ledger) (b : Behind p N (
   one-act (clear r) = else-act (clear r) refl refl
   one-act (report r) = else-act (report r) refl refl
   one-act (bucket r d) = else-act (bucket r d) refl refl
+  one-act (show ns r d) = else-act (show ns r d) refl refl
 
 any-act : (S : Settings) (p : ℕ) (N L : Ledger) → Behind p N L → (a : Act) → Kept p a N (step S L a) (step S N a)
 any-act S p N L b a =
@@ -337,7 +340,7 @@ any-act S p N L b a =
 -- ---- any calls
 
 module _ {X : Type 0} (call : X → Call → Reply × X) (shows : X → Desk) (long : X → ℕ) (faithful : Faithful call shows long) (S : Settings) where
-  pub arrival-alike : (x y : X) (L N : Ledger) → shows x ≡ has S L → shows y ≡ has S N → (r : ℕ) → AgreeAt S r L N → (h : List ℕ)
+  pub arrival-alike : (x y : X) (L N : Ledger) → shows x ≡ has S L → shows y ≡ has S N → (r : ℕ) → AgreeAt S r L N → (h : Load)
       → call y (act (arrive r h)) .0 ≡ call x (act (arrive r h)) .0
   arrival-alike x y L N e f r g h =
       act-answer call shows long faithful S y N f (arrive r h)
@@ -449,6 +452,7 @@ module _ (S : Settings) (p : ℕ) (L : Ledger) (some : 0 < markOf L p) where
       rw (change-here halted (λ xs. set xs r 0) L) (getD-set-other (L .numbers halted) r p 0 0 (λ i. d (ap clear (sym i))))
   result-lasts (report r) d = refl
   result-lasts (bucket r b) d = refl
+  result-lasts (show ns r q) d = refl
 
   pub step-lasts : (a : Act) → a ≢ clear p → markOf (step S L a .1) p ≡ markOf L p
   step-lasts a d = stepped S L a (λ out. markOf (out .1) p ≡ markOf L p) (refused-lasts a) (λ c. result-lasts a d)

@@ -11,13 +11,14 @@ use lib.ListN.{length, getD, drop, length-append}
 use lib.Seq.{drop-append-le, getD-append-add}
 use lib.Dec.{eqb}
 use Rattle.ledger.specs.Settings.{Settings}
+use Rattle.ledger.specs.Header.{Load}
 use Rattle.ledger.specs.Rules.{Clear}
 use Rattle.ledger.specs.Ledger.{owner, Packet, bare, recorded, Place, free, ingress, egress, prefetched, Ledger, listAt, lastOf, mapOf, move}
 use Rattle.ledger.specs.Ledger.{change, Place·In}
 use Rattle.ledger.specs.Ready.{bit, readyWord, pick}
 use Rattle.ledger.specs.Calls.{Act, arrive, stitch, prefetch, credit, mapTo, turn, ready, whereIs, Reply, stitched, idle, isEmpty}
 use Rattle.ledger.specs.Buckets.{Clock, untimed}
-use Rattle.ledger.specs.Calls.{clear, report, bucket, firstOf, stitchRecord, arriving, arrived, served, serve, turned, rules, result, step}
+use Rattle.ledger.specs.Calls.{clear, report, bucket, show, firstOf, stitchRecord, arriving, arrived, served, serve, turned, rules, result, step}
 use Rattle.ledger.specs.Sound.{All, Orderly, Roomy}
 use Rattle.ledger.specs.Demand.{isTurn, InHand}
 use Rattle.ledger.specs.Rounds.{each, stitches, prefetches, turns, roundActs}
@@ -44,6 +45,7 @@ isStitch r (whereIs y) = false
 isStitch r (clear p) = false
 isStitch r (report p) = false
 isStitch r (bucket p b) = false
+isStitch r (show ns p q) = false
 
 -- the act is a stitch that takes packet k, the oldest in ingress at port r, to the port that its destination is mapped to at that moment
 pub record Stitching (S : Settings) (r : ℕ) (k : Packet) (L : Ledger) (a : Act) : Type 0 where
@@ -70,7 +72,7 @@ module _ (S : Settings) (ok : Roomy S) (r : ℕ) (hr : r < S .ports) where
         → v ≢ ingress r → Longer (move S v w k L)
     longer-moved v w hv hw e d k same n = grown-moved S ok L s v w hv hw e d k same (ingress r) door-in n
 
-    longer-arrived : (p : ℕ) (h : List ℕ) → Admits S L p h → Longer (arrived S L p (arriving S L p h))
+    longer-arrived : (p : ℕ) (h : Load) → Admits S L p h → Longer (arrived S L p (arriving S L p h))
     unfolding arrived change
     longer-arrived p h a =
         let v-in : Place·In S (free p) = (a .port, some-queue S ok L s) in
@@ -125,6 +127,7 @@ module _ (S : Settings) (ok : Roomy S) (r : ℕ) (hr : r < S .ports) where
     longer-result (clear p) i c = unfold change in longer-refl
     longer-result (report p) i c = longer-refl
     longer-result (bucket p b) i c = longer-refl
+    longer-result (show ns p q) i c = longer-refl
 
     longer-step : (a : Act) → isStitch r a ≡ false → Longer (step S L a .1)
     longer-step a i =
@@ -173,6 +176,7 @@ module _ (S : Settings) (ok : Roomy S) (r : ℕ) (hr : r < S .ports) where
   stitch-is (clear p) i = absurd (true≢false (sym i))
   stitch-is (report p) i = absurd (true≢false (sym i))
   stitch-is (bucket p b) i = absurd (true≢false (sym i))
+  stitch-is (show ns p q) i = absurd (true≢false (sym i))
 
   module _ (k : Packet) (n : ℕ) (L : Ledger) (s : Orderly S L) (w : Heads k n L) where
     abbrev After : Act → Type 0

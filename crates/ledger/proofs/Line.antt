@@ -10,12 +10,14 @@ use lib.ListN.{length, getD, set, drop, length-append}
 use lib.Seq.{getD-set-same, getD-set-other}
 use lib.Dec.{eqb, leb}
 use Rattle.ledger.specs.Settings.{Settings}
+use Rattle.ledger.specs.Header.{Load}
 use Rattle.ledger.specs.Rules.{Clear}
 use Rattle.ledger.specs.Ledger.{owner, Packet, bare, recorded, Place, free, ingress, egress, prefetched, place#, Ledger, listAt, outwardOf}
 use Rattle.ledger.specs.Ledger.{lastOf, mapOf, creditAt, setCredit, cell, move, outward, last, mapped, change, Place·In}
 use Rattle.ledger.specs.Ready.{bit, covered, isReady, readyWord, pick}
 use Rattle.ledger.specs.Calls.{Act, arrive, stitch, prefetch, credit, mapTo, turn, ready, whereIs, Reply, idle, leaves, sideOf}
-use Rattle.ledger.specs.Calls.{clear, report, bucket, isEmpty, firstOf, arriving, arrived, served, ticked, serve, turned, rules, result, step, onRefusal}
+use Rattle.ledger.specs.Calls.{clear, report, bucket, show, isEmpty, firstOf, arriving, arrived, served}
+use Rattle.ledger.specs.Calls.{ticked, serve, turned, rules, result, step, onRefusal}
 use Rattle.ledger.specs.Buckets.{Clock}
 use Rattle.ledger.specs.Sound.{sum, Orderly, Roomy}
 use Rattle.ledger.specs.Demand.{isTurn, InHand}
@@ -141,7 +143,7 @@ module _ (S : Settings) (ok : Roomy S) (p q : ℕ) (hp : p < S .ports) (hq : q <
             ∙ sym (append-nil (lineOf S L p q));
       }
 
-  spared-arrived : (L : Ledger) → Orderly S L → (r : ℕ) (h : List ℕ) → Admits S L r h → Spared L (arrived S L r (arriving S L r h))
+  spared-arrived : (L : Ledger) → Orderly S L → (r : ℕ) (h : Load) → Admits S L r h → Spared L (arrived S L r (arriving S L r h))
   unfolding arrived change
   spared-arrived L s r h a =
       let v-in : Place·In S (free r) = (a .port, some-queue S ok L s) in
@@ -510,6 +512,7 @@ module _ (S : Settings) (ok : Roomy S) (p q : ℕ) (hp : p < S .ports) (hq : q <
     }
     aside-result (report r) i c = aside-refl L
     aside-result (bucket r b) i c = aside-refl L
+    aside-result (show ns r q) i c = aside-refl L
 
     aside-refused : (n : ℕ) (a : Act) → Aside L (onRefusal S n a L)
     aside-refused n a = record {
@@ -554,6 +557,7 @@ module _ (S : Settings) (ok : Roomy S) (p q : ℕ) (hp : p < S .ports) (hq : q <
   turn-is (clear r) i = absurd (true≢false (sym i))
   turn-is (report r) i = absurd (true≢false (sym i))
   turn-is (bucket r b) i = absurd (true≢false (sym i))
+  turn-is (show ns r q) i = absurd (true≢false (sym i))
 
   -- ---- the course of the wait
 

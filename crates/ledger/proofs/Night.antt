@@ -9,6 +9,7 @@ use native.Mathlib.Decide.{ℕ-discrete, decLe}
 use lib.ListN.{length, getD, length-map}
 use lib.Dec.{eqb, ltb}
 use Rattle.ledger.specs.Settings.{Settings}
+use Rattle.ledger.specs.Header.{Load}
 use Rattle.ledger.specs.Ledger.{owner, index, entryId, isNode, Packet, recorded, Place, free, ingress, egress, prefetched, place#, placeOf}
 use Rattle.ledger.specs.Ledger.{Ledger, listAt, arrivalOf, pop, move, putCredit, arrival, halted, change, setCredit, Place·In}
 use Rattle.ledger.specs.Ready.{bit}
@@ -32,7 +33,7 @@ use Rattle.ledger.proofs.Columns.{change-other}
 
 -- ---- an arrival at port p, whatever its bytes
 
-module _ (S : Settings) (ok : Roomy S) (L : Ledger) (s : Orderly S L) (p : ℕ) (h : List ℕ) where
+module _ (S : Settings) (ok : Roomy S) (L : Ledger) (s : Orderly S L) (p : ℕ) (h : Load) where
   taken-in : Admits S L p h → TakenIn S L p h (firstOf S L (free p) .node) (arrived S L p (arriving S L p h))
   unfolding arrived change
   taken-in a =
@@ -79,11 +80,11 @@ module _ (S : Settings) (ok : Roomy S) (L : Ledger) (s : Orderly S L) (p : ℕ) 
       (λ c. taken (firstOf S L (free p) .node) (arrived S L p (arriving S L p h)) (taken-in (admits S L p h c)))
 
 -- no field of a header decides whose node is taken: any two headers that are taken in here take the same node
-pub whose-node : (S : Settings) (L : Ledger) (p : ℕ) (h h′ : List ℕ) (x y : ℕ)
+pub whose-node : (S : Settings) (L : Ledger) (p : ℕ) (h h′ : Load) (x y : ℕ)
     → step S L (arrive p h) .0 ≡ entry x → step S L (arrive p h′) .0 ≡ entry y → x ≡ y
 whose-node S L p h h′ x y d e = first h x d ∙ sym (first h′ y e)
   where
-    first : (g : List ℕ) (z : ℕ) → step S L (arrive p g) .0 ≡ entry z → z ≡ firstOf S L (free p) .node
+    first : (g : Load) (z : ℕ) → step S L (arrive p g) .0 ≡ entry z → z ≡ firstOf S L (free p) .node
     first g z =
         stepped S L (arrive p g) (λ out. out .0 ≡ entry z → z ≡ firstOf S L (free p) .node)
         (λ n i. absurd (let o : _≡_ {A = ℕ} 0 1 = cc in omega arith))
@@ -196,7 +197,7 @@ module _ (S : Settings) (ok : Roomy S) (L : Ledger) (s : Orderly S L) (p : ℕ) 
 
 module _ {X : Type 0} (call : X → Call → Reply × X) (shows : X → Desk) (long : X → ℕ) (faithful : Faithful call shows long) (S : Settings) (ok : Roomy S)
     (x : X) (L : Ledger) (e : shows x ≡ has S L) (s : Orderly S L) where
-  pub arrival-shows : (p : ℕ) (h : List ℕ)
+  pub arrival-shows : (p : ℕ) (h : Load)
       → (N : Ledger) × (shows (call x (act (arrive p h)) .1) ≡ has S N) × Arrival S L p h (call x (act (arrive p h)) .0) N
   arrival-shows p h = (
     step S L (arrive p h) .1,

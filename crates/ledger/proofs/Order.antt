@@ -16,7 +16,7 @@ use Rattle.ledger.specs.Ledger.{move, mapped, change, Place·In, kindIn,
 use Rattle.ledger.specs.Ready.{readyWord, pick}
 use Rattle.ledger.specs.Calls.{Act, arrive, stitch, prefetch, credit, mapTo, turn, ready, whereIs, Reply, refused, idle, isEmpty, firstOf}
 use Rattle.ledger.specs.Buckets.{Clock}
-use Rattle.ledger.specs.Calls.{clear, report, bucket, stitchRecord, arriving, arrived, served, serve, rules, result, step, run, onRefusal}
+use Rattle.ledger.specs.Calls.{clear, report, bucket, show, stitchRecord, arriving, arrived, served, serve, rules, result, step, run, onRefusal}
 use Rattle.ledger.specs.Desk.{Desk, has, Call, setup, act, desk, answersOf, SetupsRefused}
 use Rattle.ledger.specs.Sound.{Orderly, Roomy}
 use Rattle.ledger.specs.Order.{samePlace, Movement, stays, moves, movement, cameBy, leftBy, cameTo, leftFrom, idsAt}
@@ -175,6 +175,7 @@ module _ (S : Settings) (ok : Roomy S) (L : Ledger) (s : Orderly S L) where
   result-moved (clear p) c = unfold change in unmoved
   result-moved (report p) c = unmoved
   result-moved (bucket p b) c = unmoved
+  result-moved (show ns p q) c = unmoved
 
   -- a refusal names no node
   refused-stays : (a : Act) (n : ℕ) → movement a (refused n) ≡ stays
@@ -189,6 +190,7 @@ module _ (S : Settings) (ok : Roomy S) (L : Ledger) (s : Orderly S L) where
   refused-stays (clear p) n = refl
   refused-stays (report p) n = refl
   refused-stays (bucket p b) n = refl
+  refused-stays (show ns p q) n = refl
 
   refused-moved : (a : Act) (n : ℕ) → Moved (movement a (refused n)) (onRefusal S n a L)
   refused-moved a n = rw (refused-stays a n, refused-lists S n a L) unmoved

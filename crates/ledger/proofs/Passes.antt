@@ -9,10 +9,11 @@ use lib.Dec.{eqb, ltb}
 use Rattle.crc.specs.Crc.{crc8}
 use Rattle.ledger.specs.Settings.{Settings}
 use Rattle.ledger.specs.Rules.{Rule, refuse, guard, Clear}
-use Rattle.ledger.specs.Header.{Form, form, bodySize, headerSize, leastLength, fieldsOf, arrivalRules}
+use Rattle.ledger.specs.Header.{Form, form, bodySize, headerSize, leastLength, fieldsOf, Load, alone, whole, bytesIn, missized, miscounted}
+use Rattle.ledger.specs.Header.{arrivalRules}
 use Rattle.ledger.specs.Ledger.{free, Ledger, listAt, arrivalOf, markOf}
 use Rattle.ledger.specs.Halt.{heldUp}
-use Rattle.ledger.specs.Calls.{arrive, isEmpty, arriving, lastRules, rules}
+use Rattle.ledger.specs.Calls.{arrive, isEmpty, otherKind, wrongMemory, arriving, soundRules, lastRules, rules}
 use Rattle.ledger.proofs.Tests.{true≢false, leb-no, leb-not, ltb-no, ltb-not, eqb-yes, eqb-is, not-yes, or-left, or-right}
 
 -- ---- rules one after another
@@ -31,15 +32,16 @@ guard-after [] ts no′ out c = refl
 guard-after (refuse n true ∷ rs) ts no′ out c = absurd (true≢false (c .0))
 guard-after (refuse n false ∷ rs) ts no′ out c = guard-after rs ts no′ out (c .1)
 
--- ---- a header with no fault of its own, of form F, at port p of a switch of n queues
+-- ---- what arrives with no fault of its own, by headers of form F, at port p of a switch of n queues
 
-pub record Passes (F : Form) (n p : ℕ) (h : List ℕ) : Type 0 where
-  pub sized : length h ≡ headerSize F
-  pub summed : fieldsOf F h .check ≡ crc8 (take (bodySize F) h)
-  pub unreserved : fieldsOf F h .reserved ≡ 0
-  pub own : fieldsOf F h .source ≡ p
-  pub long : leastLength F ≤ fieldsOf F h .len
-  pub queue : fieldsOf F h .queue < n
+pub record Passes (F : Form) (n p : ℕ) (h : Load) : Type 0 where
+  pub sized : missized F h ≡ false
+  pub summed : fieldsOf F (bytesIn h) .check ≡ crc8 (take (bodySize F) (bytesIn h))
+  pub unreserved : fieldsOf F (bytesIn h) .reserved ≡ 0
+  pub own : fieldsOf F (bytesIn h) .source ≡ p
+  pub long : leastLength F ≤ fieldsOf F (bytesIn h) .len
+  pub counted : miscounted F h ≡ false
+  pub queue : fieldsOf F (bytesIn h) .queue < n
 
 same : (a b : ℕ) → not (eqb a b) ≡ false → a ≡ b
 same a b e = eqb-yes a b (not-yes (eqb a b) e)
@@ -47,54 +49,89 @@ same a b e = eqb-yes a b (not-yes (eqb a b) e)
 not-other : (a b : ℕ) → a ≡ b → not (eqb a b) ≡ false
 not-other a b e = ap not (eqb-is a b e)
 
-module _ (F : Form) (n p : ℕ) (h : List ℕ) where
+module _ (F : Form) (n p : ℕ) (h : Load) where
   pub passes : Clear (arrivalRules F n p h) → Passes F n p h
-  passes c = record {
-    sized = same (length h) (headerSize F) (c .0);
-    summed = same (fieldsOf F h .check) (crc8 (take (bodySize F) h)) (c .1 .0);
-    unreserved = same (fieldsOf F h .reserved) 0 (c .1 .1 .0);
-    own = same (fieldsOf F h .source) p (c .1 .1 .1 .0);
-    long = ltb-no (fieldsOf F h .len) (leastLength F) (c .1 .1 .1 .1 .0);
-    queue = leb-no n (fieldsOf F h .queue) (c .1 .1 .1 .1 .1 .0);
-  }
+  passes c =
+      let f = fieldsOf F (bytesIn h) in
+      record {
+        sized = c .0;
+        summed = same (f .check) (crc8 (take (bodySize F) (bytesIn h))) (c .1 .0);
+        unreserved = same (f .reserved) 0 (c .1 .1 .0);
+        own = same (f .source) p (c .1 .1 .1 .0);
+        long = ltb-no (f .len) (leastLength F) (c .1 .1 .1 .1 .0);
+        counted = c .1 .1 .1 .1 .1 .0;
+        queue = leb-no n (f .queue) (c .1 .1 .1 .1 .1 .1 .0);
+      }
 
   -- and these facts are all that the rules ask
   pub passes-clear : Passes F n p h → Clear (arrivalRules F n p h)
   passes-clear f = (
-    not-other (length h) (headerSize F) (f .sized),
+    f .sized,
     (
-      not-other (fieldsOf F h .check) (crc8 (take (bodySize F) h)) (f .summed),
+      not-other (fieldsOf F (bytesIn h) .check) (crc8 (take (bodySize F) (bytesIn h))) (f .summed),
       (
-        not-other (fieldsOf F h .reserved) 0 (f .unreserved),
+        not-other (fieldsOf F (bytesIn h) .reserved) 0 (f .unreserved),
         (
-          not-other (fieldsOf F h .source) p (f .own),
+          not-other (fieldsOf F (bytesIn h) .source) p (f .own),
           (
-            ltb-not (fieldsOf F h .len) (leastLength F) (f .long),
-            (leb-not n (fieldsOf F h .queue) (f .queue), tt),
+            ltb-not (fieldsOf F (bytesIn h) .len) (leastLength F) (f .long),
+            (f .counted, (leb-not n (fieldsOf F (bytesIn h) .queue) (f .queue), tt)),
           ),
         ),
       ),
     ),
   )
 
--- ---- an arrival that is taken in
+-- a header alone has its form's size; a packet has a header, and as many bytes as its length says
+pub alone-sized : (F : Form) (n p : ℕ) (h : List ℕ) → Passes F n p (alone h) → length h ≡ headerSize F
+alone-sized F n p h f = same (length h) (headerSize F) (f .sized)
 
-pub record Admits (S : Settings) (L : Ledger) (p : ℕ) (h : List ℕ) : Type 0 where
+module _ (F : Form) (n p room : ℕ) (b : List ℕ) (f : Passes F n p (whole room b)) where
+  pub whole-sized : headerSize F ≤ length b
+  whole-sized = ltb-no (length b) (headerSize F) (f .sized)
+
+  pub whole-counted : length b ≡ fieldsOf F b .len
+  whole-counted = same (length b) (fieldsOf F b .len) (f .counted)
+
+-- ---- an arrival that is sound, and one that is taken in
+
+-- of its own kind, with a packet memory of the right size where one is lent, at a port of the switch, with no fault of its own
+pub record Comes (S : Settings) (p : ℕ) (h : Load) : Type 0 where
+  pub kind : otherKind S h ≡ false
+  pub memory : wrongMemory S h ≡ false
+  pub port : p < S .ports
+  pub header : Passes (form S) (S .queues) p h
+
+pub comes : (S : Settings) (p : ℕ) (h : Load) → Clear (soundRules S p h) → Comes S p h
+comes S p h c = record {
+  kind = c .0;
+  memory = c .1 .0;
+  port = leb-no (S .ports) p (c .1 .1 .0);
+  header = passes (form S) (S .queues) p h (c .1 .1 .1);
+}
+
+pub comes-clear : (S : Settings) (p : ℕ) (h : Load) → Comes S p h → Clear (soundRules S p h)
+comes-clear S p h f = (f .kind, (f .memory, (leb-not (S .ports) p (f .port), passes-clear (form S) (S .queues) p h (f .header))))
+
+pub record Admits (S : Settings) (L : Ledger) (p : ℕ) (h : Load) : Type 0 where
+  pub sound : Comes S p h
   pub port : p < S .ports
   pub header : Passes (form S) (S .queues) p h
   pub goes-on : heldUp (arriving S L p h .queue) (markOf L p) ≡ false
   pub afford : arriving S L p h .price ≤ arrivalOf S L p (arriving S L p h .queue)
   pub some : isEmpty (listAt S L (free p)) ≡ false
 
-pub admits : (S : Settings) (L : Ledger) (p : ℕ) (h : List ℕ) → Clear (rules S L (arrive p h)) → Admits S L p h
+pub admits : (S : Settings) (L : Ledger) (p : ℕ) (h : Load) → Clear (rules S L (arrive p h)) → Admits S L p h
 admits S L p h c =
     let k = arriving S L p h in
     let held = heldUp (k .queue) (markOf L p) in
     let dear = ltb (arrivalOf S L p (k .queue)) (k .price) in
-    let last : Clear (lastRules S L p (arriving S L p h)) = clear-right (arrivalRules (form S) (S .queues) p h) (lastRules S L p (arriving S L p h)) (c .1) in
+    let first = comes S p h (clear-left (soundRules S p h) (lastRules S L p k) c) in
+    let last : Clear (lastRules S L p k) = clear-right (soundRules S p h) (lastRules S L p k) c in
     record {
-      port = leb-no (S .ports) p (c .0);
-      header = passes (form S) (S .queues) p h (clear-left (arrivalRules (form S) (S .queues) p h) (lastRules S L p (arriving S L p h)) (c .1));
+      sound = first;
+      port = first .port;
+      header = first .header;
       goes-on = or-left held dear (last .0);
       afford = ltb-no (arrivalOf S L p (k .queue)) (k .price) (or-right held dear (last .0));
       some = last .1 .0;

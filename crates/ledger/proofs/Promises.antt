@@ -10,14 +10,14 @@ use lib.ListN.{length, getD}
 use lib.Dec.{eqb, ltb}
 use Rattle.ledger.specs.Settings.{Settings, inRows}
 use Rattle.ledger.specs.Rules.{refuse, guard, Clear}
-use Rattle.ledger.specs.Header.{form, fieldsOf, arrivalRules}
+use Rattle.ledger.specs.Header.{form, fieldsOf, Load, bytesIn}
 use Rattle.ledger.specs.Ledger.{owner, isNode, Packet, bare, recorded, Place, free, prefetched, place#, Ledger, listAt, arrivalOf, lastOf}
 use Rattle.ledger.specs.Ledger.{halted, markOf, start, change, Place·In}
 use Rattle.ledger.specs.Ready.{isReady, wordOf, countOf, readyWord, pick}
 use Rattle.ledger.specs.Calls.{Act, arrive, stitch, prefetch, credit, mapTo, turn, ready, whereIs, Side, inside, outside, Reply, refused, done}
-use Rattle.ledger.specs.Calls.{entry, idle, leaves, word, isRefused, sideOf, noPort, isEmpty, firstOf, arriving, lastRules, arrived, served}
+use Rattle.ledger.specs.Calls.{entry, idle, leaves, word, isRefused, sideOf, isEmpty, firstOf, arriving, soundRules, lastRules, arrived, served}
 use Rattle.ledger.specs.Buckets.{Clock}
-use Rattle.ledger.specs.Calls.{clear, report, bucket, isArrival, serve, rules, result, step, onRefusal}
+use Rattle.ledger.specs.Calls.{clear, report, bucket, show, isArrival, serve, rules, result, step, onRefusal}
 use Rattle.ledger.specs.Halt.{halts, heldUp, TurnedAway}
 use Rattle.ledger.specs.Desk.{Desk, none, has, Call, setup, act, isArrivalCall, setupRules, desk, after}
 use Rattle.ledger.specs.Sound.{All, OwnPort, Proper, Orderly, Roomy, Sound}
@@ -29,7 +29,7 @@ use Rattle.ledger.proofs.Rows.{roomy}
 use Rattle.ledger.proofs.Ready.{count-is-ones}
 use Rattle.ledger.proofs.Find.{where-right, one-place}
 use Rattle.ledger.proofs.Start.{start-sound}
-use Rattle.ledger.proofs.Passes.{guard-after, Passes, passes, passes-clear, admits}
+use Rattle.ledger.proofs.Passes.{guard-after, admits}
 use Rattle.ledger.proofs.Halt.{unmarked, turned-away, held-up}
 use Rattle.ledger.proofs.Steps.{guarded, recorded-proper, picked-some, keep-step, keep-marked, stepped, refused-else}
 
@@ -51,6 +51,7 @@ result-given S L (whereIs y) = refl
 result-given S L (clear p) = refl
 result-given S L (report p) = refl
 result-given S L (bucket p b) = refl
+result-given S L (show ns p q) = refl
 
 pub refusal-leaves : (S : Settings) (L : Ledger) (a : Act) (n : ℕ) → step S L a .0 ≡ refused n → step S L a .1 ≡ onRefusal S n a L
 refusal-leaves S L a n =
@@ -59,7 +60,7 @@ refusal-leaves S L a n =
     (λ c e. absurd (true≢false (sym (ap isRefused e) ∙ result-given S L a)))
 
 -- an arrival's: at most the arriving port's mark, and only for 7, 8 or 18
-pub refusal-marks : (S : Settings) (L : Ledger) → Orderly S L → (p : ℕ) (h : List ℕ) (n : ℕ) → step S L (arrive p h) .0 ≡ refused n
+pub refusal-marks : (S : Settings) (L : Ledger) → Orderly S L → (p : ℕ) (h : Load) (n : ℕ) → step S L (arrive p h) .0 ≡ refused n
     → TurnedAway S p n L (step S L (arrive p h) .1)
 refusal-marks S L s p h n e =
     rw (refusal-leaves S L (arrive p h) n e) (unfold onRefusal in (turned-away S p n L (s .shaped .numbers-long halted)))
@@ -139,20 +140,14 @@ ready-counts S L p hp = rw (leb-not (S .ports) p hp, count-is-ones (isReady S L 
 
 -- ---- a sound arrival is turned away only for want of credit, which a halt is taken for, or of a node
 
--- no refusal tested before 10 applies: 4, 6, 7, 20, 8, 9 and 19 (3 is the desk's: there is a ledger)
-abbrev pub SoundArrival : Settings → ℕ → List ℕ → Type 0
-SoundArrival S p h = Clear (noPort S p ∷ arrivalRules (form S) (S .queues) p h)
-
--- that is, the port is in the switch and the header has no fault of its own
-pub sound-means : (S : Settings) (p : ℕ) (h : List ℕ) → SoundArrival S p h → (p < S .ports) × Passes (form S) (S .queues) p h
-sound-means S p h c = (leb-no (S .ports) p (c .0), passes (form S) (S .queues) p h (c .1))
-
-pub means-sound : (S : Settings) (p : ℕ) (h : List ℕ) → p < S .ports → Passes (form S) (S .queues) p h → SoundArrival S p h
-means-sound S p h hp f = (leb-not (S .ports) p hp, passes-clear (form S) (S .queues) p h f)
+-- no refusal tested before 10 applies: 24, 17, 4, 6 or 16, 7, 20, 8, 9, 16 and 19 (3 is the desk's: there is a ledger); in words, `Comes`
+-- (`comes`, `comes-clear`)
+abbrev pub SoundArrival : Settings → ℕ → Load → Type 0
+SoundArrival S p h = Clear (soundRules S p h)
 
 -- why it may be turned away all the same, with nothing changed; else, with neither of these, it is taken in, by the oldest free node and as
 -- the ledger says
-pub data Wanting (S : Settings) (L : Ledger) (p : ℕ) (h : List ℕ) : Reply × Ledger → Type 0 where
+pub data Wanting (S : Settings) (L : Ledger) (p : ℕ) (h : Load) : Reply × Ledger → Type 0 where
   port-halted : 0 < arriving S L p h .queue → 0 < markOf L p → Wanting S L p h (refused 10, L)
   no-credit : arrivalOf S L p (arriving S L p h .queue) < arriving S L p h .price → Wanting S L p h (refused 10, L)
   no-node : heldUp (arriving S L p h .queue) (markOf L p) ≡ false → arriving S L p h .price ≤ arrivalOf S L p (arriving S L p h .queue)
@@ -164,10 +159,10 @@ empty-is : (ks : List Packet) → isEmpty ks ≡ true → ks ≡ []
 empty-is [] e = refl
 empty-is (k ∷ ks) e = absurd (true≢false (sym e))
 
-pub sound-arrival : (S : Settings) (L : Ledger) (p : ℕ) (h : List ℕ) → SoundArrival S p h → Wanting S L p h (step S L (arrive p h))
+pub sound-arrival : (S : Settings) (L : Ledger) (p : ℕ) (h : Load) → SoundArrival S p h → Wanting S L p h (step S L (arrive p h))
 sound-arrival S L p h c =
     let no′ : ℕ → Reply × Ledger = λ n. (refused n, onRefusal S n (arrive p h) L) in
-    rw (guard-after (noPort S p ∷ arrivalRules (form S) (S .queues) p h) (lastRules S L p (arriving S L p h)) no′ (result S L (arrive p h)) c)
+    rw (guard-after (soundRules S p h) (lastRules S L p (arriving S L p h)) no′ (result S L (arrive p h)) c)
     (go (heldUp (k .queue) (markOf L p)) refl (ltb (arrivalOf S L p (k .queue)) (k .price)) refl (isEmpty (listAt S L (free p))) refl)
   where
     k : Packet
@@ -193,7 +188,7 @@ none-for-nothing S ok k h above =
     rw (h .price-is) (price-pays (S .beat) (k .queue) (k .len) (omega (arith, ok .low-beat)) above (omega (arith, h .len-low, least-some (form S))))
 
 -- and the queue is the one that the header names: a header that is taken in pays unless it names queue 0
-pub no-free-ride : (S : Settings) → Roomy S → (L : Ledger) (p : ℕ) (h : List ℕ) → Clear (rules S L (arrive p h)) → 0 < fieldsOf (form S) h .queue
+pub no-free-ride : (S : Settings) → Roomy S → (L : Ledger) (p : ℕ) (h : Load) → Clear (rules S L (arrive p h)) → 0 < fieldsOf (form S) (bytesIn h) .queue
     → 0 < arriving S L p h .price
 unfolding recorded
 no-free-ride S ok L p h c above =

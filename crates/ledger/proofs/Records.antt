@@ -17,7 +17,8 @@ use Rattle.ledger.specs.Ledger.{lastOf, mapOf, pop, move, mapped, change
 use Rattle.ledger.specs.Ready.{bit, readyWord, pick}
 use Rattle.ledger.specs.Calls.{Act, arrive, stitch, prefetch, credit, mapTo, turn, ready, whereIs, Side, Reply, refused, idle, leaves}
 use Rattle.ledger.specs.Buckets.{Clock}
-use Rattle.ledger.specs.Calls.{clear, report, bucket, stitched, isEmpty, firstOf, stitchRecord, arriving, arrived, served, serve, rules, result, step}
+use Rattle.ledger.specs.Calls.{clear, report, bucket, show, stitched, isEmpty, firstOf, stitchRecord}
+use Rattle.ledger.specs.Calls.{arriving, arrived, served, serve, rules, result, step}
 use Rattle.ledger.specs.Calls.{run, onRefusal}
 use Rattle.ledger.specs.Desk.{Desk, has, Call, setup, act, desk, afterCalls, answersOf, SetupsRefused}
 use Rattle.ledger.specs.Sound.{All, Everywhere, sum, weigh, one, Proper, Orderly, Roomy}
@@ -224,6 +225,7 @@ module _ (S : Settings) (ok : Roomy S) where
     result-holds (clear p) c = nothing-in (result S L (clear p) .1) (unfold change in e)
     result-holds (report p) c = nothing-in L e
     result-holds (bucket p b) c = nothing-in L e
+    result-holds (show ns p q) c = nothing-in L e
 
     -- a refusal brings nothing in
     refused-none : (a : Act) (n : ℕ) → broughtBy S a (refused n) ≡ []
@@ -238,6 +240,7 @@ module _ (S : Settings) (ok : Roomy S) where
     refused-none (clear p) n = refl
     refused-none (report p) n = refl
     refused-none (bucket p b) n = refl
+    refused-none (show ns p q) n = refl
 
     refused-holds : (a : Act) (n : ℕ) → Holds (known ++ broughtBy S a (refused n)) (onRefusal S n a L)
     refused-holds a n = rw (refused-none a n, append-nil known, refused-lists S n a L) e

@@ -9,8 +9,8 @@ use native.Mathlib.Decide.{ℕ-discrete}
 use native.Mathlib.Omega.{arith}
 use lib.Dec.{eqb, leb}
 use lib.Count.{ones}
-use Rattle.ledger.specs.Settings.{Settings, tenBytes, wide, isBeat, portsIn, queuesIn, settingCount, inRow, rowsFrom, inRows, outFrom, firstOut}
-use Rattle.ledger.specs.Settings.{row, size}
+use Rattle.ledger.specs.Settings.{Settings, tenBytes, wide, isBeat, portsIn, queuesIn, packetsIn, settingCount, inRow, rowsFrom, inRows}
+use Rattle.ledger.specs.Settings.{outFrom, firstOut, row, size}
 use Rattle.ledger.specs.Sound.{Roomy}
 use Rattle.ledger.proofs.Tests.{is-false, leb-yes, leb-is, eqb-yes, eqb-is, eqb-not, and-left, and-right}
 
@@ -134,6 +134,23 @@ pub in-queues : (e q : ℕ) → QueuesIn e q → queuesIn e q ≡ true
 unfolding queuesIn
 in-queues e q c = in-count 24 64 e q c
 
+-- packets go with the ten-byte edition alone, and are kept or not
+pub packets-low : (e k : ℕ) → packetsIn e k ≡ true → k ≤ 1
+unfolding packetsIn
+packets-low e k t = go (eqb e tenBytes) t
+  where
+    go : (b : Bool) → cond b (leb k 1) (eqb k 0) ≡ true → k ≤ 1
+    go true t = leb-yes k 1 t
+    go false t = let z = eqb-yes k 0 t in omega arith
+
+pub packets-ten : (e k : ℕ) → packetsIn e k ≡ true → k ≢ 0 → e ≡ tenBytes
+unfolding packetsIn
+packets-ten e k t some = go (eqb e tenBytes) refl t
+  where
+    go : (b : Bool) → eqb e tenBytes ≡ b → cond b (leb k 1) (eqb k 0) ≡ true → e ≡ tenBytes
+    go true i t = eqb-yes e tenBytes i
+    go false i t = absurd (some (eqb-yes k 0 t))
+
 pub ports-range : (e p : ℕ) → portsIn e p ≡ true → (2 ≤ p) × (p ≤ 32)
 ports-range e p t = count-range 4 32 e p (omega arith) (omega arith) (ports-in e p t)
 
@@ -150,7 +167,7 @@ pub record Rows (S : Settings) : Type 0 where
   pub few-slots : S .slots ≤ 8
   pub low-credit : S .credit ≤ 65535
   pub is-edition : S .edition ≤ wide
-  pub no-packets : S .packets ≡ 0
+  pub are-packets : packetsIn (S .edition) (S .packets) ≡ true
 
 pub and-true : (a : Bool) → (a && true) ≡ a
 and-true true = refl
@@ -183,16 +200,21 @@ module _ (S : Settings) (h : inRows S ≡ true) where
         few-slots = d .1;
         low-credit = leb-yes (S .credit) 65535 (row-at 5 (omega arith));
         is-edition = leb-yes (S .edition) wide (row-at 6 (omega arith));
-        no-packets = eqb-yes (S .packets) 0 (row-at 7 (omega arith));
+        are-packets = row-at 7 (omega arith);
       }
 
   -- the ten-byte edition's ports and queues
   pub ten-byte-counts : S .edition ≡ tenBytes → (S .ports ≡ 4) × (S .queues ≡ 24)
   ten-byte-counts e = (ports-in (S .edition) (S .ports) (rows .are-ports) .0 e, queues-in (S .edition) (S .queues) (rows .are-queues) .0 e)
 
+  -- a switch that keeps packets has four ports
+  pub packets-four : S .packets ≢ 0 → S .ports ≡ 4
+  packets-four some = ten-byte-counts (packets-ten (S .edition) (S .packets) (rows .are-packets) some) .0
+
   pub roomy : Roomy S
   roomy =
       let r = rows in
+      let k = packets-low (S .edition) (S .packets) (rows .are-packets) in
       let b = beat-range (S .beat) (rows .is-beat) in
       let p = ports-range (S .edition) (S .ports) (rows .are-ports) in
       let q = queues-range (S .edition) (S .queues) (rows .are-queues) in
@@ -292,7 +314,7 @@ module _ (S : Settings) where
     left-none h = let e : i ≡ settingCount = omega (arith, l .low) in e ∙ (rw e at (l .rest))
 
 -- the last setting's row, of a number that is none of the others'
-pub row-last : (S : Settings) (i : ℕ) → i ≢ 0 → i ≢ 1 → i ≢ 2 → i ≢ 3 → i ≢ 4 → i ≢ 5 → i ≢ 6 → inRow S i ≡ eqb (S .packets) 0
+pub row-last : (S : Settings) (i : ℕ) → i ≢ 0 → i ≢ 1 → i ≢ 2 → i ≢ 3 → i ≢ 4 → i ≢ 5 → i ≢ 6 → inRow S i ≡ packetsIn (S .edition) (S .packets)
 row-last S zero a b c d e f g = absurd (a refl)
 row-last S (suc zero) a b c d e f g = absurd (b refl)
 row-last S (suc (suc zero)) a b c d e f g = absurd (c refl)

@@ -9,13 +9,13 @@ use lib.ListN.{length}
 use lib.Dec.{eqb}
 use Rattle.ledger.specs.Settings.{Settings}
 use Rattle.ledger.specs.Rules.{Rule, refuse, guard, Clear}
-use Rattle.ledger.specs.Header.{form, fieldsOf}
+use Rattle.ledger.specs.Header.{form, fieldsOf, Load, bytesIn}
 use Rattle.ledger.specs.Ledger.{owner, Packet, bare, recorded, free, ingress, egress, prefetched, Ledger, listAt, arrivalOf, outwardOf, lastOf}
 use Rattle.ledger.specs.Ledger.{mapOf, markOf, move, change, putCredit, arrival, outward, last, mapped, halted, Column, Place·In}
 use Rattle.ledger.specs.Buckets.{Clock}
 use Rattle.ledger.specs.Ready.{covered, isReady, wordOf, readyWord, pick}
 use Rattle.ledger.specs.Calls.{Act, arrive, stitch, prefetch, credit, mapTo, turn, ready, whereIs, refused, idle, isEmpty, firstOf, arriving}
-use Rattle.ledger.specs.Calls.{clear, report, bucket, isArrival}
+use Rattle.ledger.specs.Calls.{clear, report, bucket, show, isArrival}
 use Rattle.ledger.specs.Calls.{arrived, served, serve, turned, rules, result, step, run, markedFor, onRefusal, Reply}
 use Rattle.ledger.specs.Sound.{Proper, owes, Orderly, Marked, Roomy}
 use Rattle.ledger.proofs.Tests.{leb-no, ltb-no}
@@ -66,6 +66,7 @@ module _ (S : Settings) (n : ℕ) (a : Act) (L : Ledger) where
       go (clear p) = f
       go (report p) = f
       go (bucket p b) = f
+      go (show ns p q) = f
 
   pub refused-lists : onRefusal S n a L .lists ≡ L .lists
   refused-lists = refused-by (λ N. N .lists ≡ L .lists) refl (λ p. marked-lists S p n L)
@@ -93,6 +94,7 @@ module _ (S : Settings) (n : ℕ) (a : Act) (L : Ledger) where
       go (clear p) i = refl
       go (report p) i = refl
       go (bucket p b) i = refl
+      go (show ns p q) i = refl
 
   refused-marked : Orderly S L → Marked S L → Marked S (onRefusal S n a L)
   refused-marked s f =
@@ -116,10 +118,10 @@ covered-some q c (k ∷ ks) e = refl
 
 module _ (S : Settings) (roomy : Roomy S) where
   -- what is recorded of a header with no fault is proper
-  pub recorded-proper : (x p : ℕ) (h : List ℕ) → Passes (form S) (S .queues) p h → Proper S (recorded S x (fieldsOf (form S) h))
+  pub recorded-proper : (x p : ℕ) (h : Load) → Passes (form S) (S .queues) p h → Proper S (recorded S x (fieldsOf (form S) (bytesIn h)))
   unfolding recorded
   recorded-proper x p h good =
-      let f = fields-in (form S) h in
+      let f = fields-in (form S) (bytesIn h) in
       record {
         len-low = good .long;
         len-high = f .len;
@@ -145,7 +147,7 @@ module _ (S : Settings) (roomy : Roomy S) where
         (r .0, ready-some L p (pick (lastOf L p) (wordOf (isReady S L p) (S .queues))) (r .1))
 
     -- arrive
-    keep-arrived : (p : ℕ) (h : List ℕ) → Admits S L p h → Orderly S (arrived S L p (arriving S L p h))
+    keep-arrived : (p : ℕ) (h : Load) → Admits S L p h → Orderly S (arrived S L p (arriving S L p h))
     unfolding arrived
     keep-arrived p h a =
         let k : Packet = arriving S L p h in
@@ -243,6 +245,7 @@ module _ (S : Settings) (roomy : Roomy S) where
     keep-result (clear p) c = keep-put S roomy L s halted (λ i. let z : _≡_ {A = ℕ} 0 1 = cc in omega arith) p 0 (omega arith)
     keep-result (report p) c = s
     keep-result (bucket p b) c = s
+    keep-result (show ns p q) c = s
 
     pub keep-step : (a : Act) → Orderly S (step S L a .1)
     keep-step a = stepped S L a (λ out. Orderly S (out .1)) (λ n. refused-orderly S n a L roomy s) (keep-result a)
@@ -270,6 +273,7 @@ module _ (S : Settings) (roomy : Roomy S) where
     result-marked (clear p) f = put-marked S L p 0 no-mark f (s .shaped .numbers-long halted)
     result-marked (report p) f = f
     result-marked (bucket p b) f = f
+    result-marked (show ns p q) f = f
 
     pub keep-marked : (a : Act) → Marked S L → Marked S (step S L a .1)
     keep-marked a f = stepped S L a (λ out. Marked S (out .1)) (λ n. refused-marked S n a L s f) (λ c. result-marked a f)

@@ -16,7 +16,7 @@ use Rattle.ledger.specs.Ledger.{buckets, tall, Ledger, lastOf, bucketAt}
 use Rattle.ledger.specs.Ledger.{move, change, putIn, start}
 use Rattle.ledger.specs.Buckets.{untimed, at, waitOf, bucketOf, stop, oneMore, bucket#}
 use Rattle.ledger.specs.Ready.{bit, readyWord, pick}
-use Rattle.ledger.specs.Calls.{Act, arrive, stitch, prefetch, credit, mapTo, turn, ready, whereIs, clear, report, bucket, Side, Reply, refused}
+use Rattle.ledger.specs.Calls.{Act, arrive, stitch, prefetch, credit, mapTo, turn, ready, whereIs, clear, report, bucket, show, Side, Reply, refused}
 use Rattle.ledger.specs.Calls.{idle, leaves, sideOf, firstOf, arrived, served, ticked, serve, rules, result, step, onRefusal}
 use Rattle.ledger.specs.Desk.{Desk, has, Call, setup, act, desk, afterCalls, answersOf, SetupsRefused}
 use Rattle.ledger.specs.Sound.{Orderly, Roomy}
@@ -145,6 +145,7 @@ no-wait p (whereIs y) n = refl
 no-wait p (clear r) n = refl
 no-wait p (report r) n = refl
 no-wait p (bucket r b) n = refl
+no-wait p (show ns r q) n = refl
 
 module _ (S : Settings) (L : Ledger) (s : Orderly S L) (p : ℕ) (hp : p < S .ports) (b : ℕ) (hb : b < bucketCount) where
   -- bucket b of port p, after act a
@@ -227,6 +228,7 @@ module _ (S : Settings) (L : Ledger) (s : Orderly S L) (p : ℕ) (hp : p < S .po
   result-grown (clear r) = unfold change in ungrown
   result-grown (report r) = ungrown
   result-grown (bucket r d) = ungrown
+  result-grown (show ns r d) = ungrown
 
   step-grown : (a : Act) → Grown a (step S L a)
   step-grown a =

@@ -8,7 +8,7 @@ use native.Mathlib.Omega.{arith}
 use native.Mathlib.Decide.{decLe}
 use lib.ListN.{length, getD, take, drop, length-append, List·getD-append}
 use lib.Seq.{take-at, drop-append-add, drop-drop, getD-at}
-use Rattle.ledger.specs.Calls.{Act, Reply, refused, done, entry, stitched, idle, leaves, word, found, reported, counted}
+use Rattle.ledger.specs.Calls.{Act, Reply, refused, done, entry, stitched, idle, leaves, word, found, reported, counted, part}
 use Rattle.ledger.specs.Rounds.{each, answerBytes, bytesOf, answersIn}
 
 answer-length : (r : Reply) → length (answerBytes r) ≡ 4
@@ -23,6 +23,7 @@ answer-length (word w n) = refl
 answer-length (found v i) = refl
 answer-length (reported n) = refl
 answer-length (counted n) = refl
+answer-length (part x n) = refl
 
 bytes-length : (rs : List Reply) → length (bytesOf rs) ≡ 4 * length rs
 unfolding bytesOf

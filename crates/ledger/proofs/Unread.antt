@@ -14,7 +14,8 @@ use Rattle.ledger.specs.Ledger.{move, change, putIn, start}
 use Rattle.ledger.specs.Buckets.{Clock, untimed, at}
 use Rattle.ledger.specs.Ready.{isReady, readyWord, pick}
 use Rattle.ledger.specs.Halt.{marks}
-use Rattle.ledger.specs.Calls.{Act, arrive, stitch, prefetch, credit, mapTo, turn, ready, whereIs, clear, report, bucket, Reply, refused, done, idle}
+use Rattle.ledger.specs.Calls.{Act, arrive, stitch, prefetch, credit, mapTo, turn, ready, whereIs}
+use Rattle.ledger.specs.Calls.{clear, report, bucket, show, Reply, refused, done, idle}
 use Rattle.ledger.specs.Calls.{firstOf, arriving, arrived, served, ticked, serve, rules, result, step, markedFor, onRefusal}
 use Rattle.ledger.specs.Desk.{Desk, has, Call, setup, act, setupRules, desk}
 use Rattle.ledger.specs.Sound.{Sound}
@@ -110,6 +111,7 @@ module _ (S : Settings) (ys : List ℕ) (L : Ledger) (b : ButBuckets L (recount 
   result-alike (clear r) = (λ n. refl, but-change b halted (λ xs. set xs r 0))
   result-alike (report r) = (λ n. refl, b)
   result-alike (bucket r d) = (λ n. absurd (true≢false n), b)
+  result-alike (show ns r d) = (λ n. refl, b)
 
   -- no rule reads a bucket
   same-rules : (a : Act) → rules S (recount ys L) a ≡ rules S L a
@@ -125,6 +127,7 @@ module _ (S : Settings) (ys : List ℕ) (L : Ledger) (b : ButBuckets L (recount 
   same-rules (clear r) = refl
   same-rules (report r) = refl
   same-rules (bucket r d) = refl
+  same-rules (show ns r d) = refl
 
   marked-alike : (p n : ℕ) → ButBuckets (markedFor S p n L) (markedFor S p n (recount ys L))
   unfolding recount change markedFor
@@ -147,6 +150,7 @@ module _ (S : Settings) (ys : List ℕ) (L : Ledger) (b : ButBuckets L (recount 
   refused-alike (clear p) n = b
   refused-alike (report p) n = b
   refused-alike (bucket p d) n = b
+  refused-alike (show ns p d) n = b
 
   step-alike : (a : Act) → Alike a (step S L a) (step S (recount ys L) a)
   step-alike a =

@@ -14,7 +14,7 @@ use Rattle.ledger.specs.Ledger.{arrivalOf, outwardOf, lastOf, mapOf, set
 use Rattle.ledger.specs.Ledger.{Column, arrival, outward, last, mapped, halted, buckets}
 use Rattle.ledger.specs.Buckets.{Clock}
 use Rattle.ledger.specs.Ready.{covered, isReady, bit, readyWord, pick}
-use Rattle.ledger.specs.Calls.{Act, arrive, stitch, prefetch, credit, mapTo, turn, ready, whereIs, clear, report, bucket, refused, idle}
+use Rattle.ledger.specs.Calls.{Act, arrive, stitch, prefetch, credit, mapTo, turn, ready, whereIs, clear, report, bucket, show, refused, idle}
 use Rattle.ledger.specs.Calls.{isEmpty, firstOf, arriving, arrived, served, serve, turned, rules, result, step, onRefusal}
 use Rattle.ledger.specs.Sound.{Orderly, Roomy}
 use Rattle.ledger.proofs.Tests.{true≢false, leb-no, eqb-is, or-left}
@@ -41,6 +41,7 @@ touches S L (whereIs y) r t = false
 touches S L (clear p) r t = false
 touches S L (report p) r t = false
 touches S L (bucket p b) r t = false
+touches S L (show ns p q) r t = false
 
 -- a queue that is not touched is another port's, or another
 apart : (p q r t : ℕ) → (eqb p r && eqb q t) ≡ false → p ≡ r → q ≡ t → ⊥
@@ -169,6 +170,7 @@ module _ (S : Settings) (ok : Roomy S) (L : Ledger) (s : Orderly S L) where
     ready-result (clear p) c u = ready-changed S r t L halted (other-column halted outward (omega arith)) (λ xs. set xs p 0)
     ready-result (report p) c u = refl
     ready-result (bucket p b) c u = refl
+    ready-result (show ns p q) c u = refl
 
   -- elsewhere, and by every refused act, readiness stays
   pub ready-kept : (a : Act) (r t : ℕ) → r < S .ports → t < S .queues → touches S L a r t ≡ false → isReady S (step S L a .1) r t ≡ isReady S L r t

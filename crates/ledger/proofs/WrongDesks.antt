@@ -8,12 +8,12 @@ use native.Mathlib.Omega.{arith}
 use lib.ListN.{length, getD, replicate}
 use lib.Dec.{eqb}
 use Rattle.ledger.specs.Settings.{Settings, settings, row}
-use Rattle.ledger.specs.Header.{widthOf, formOf, frontBits, frontBytes, bodySize, headerSize}
+use Rattle.ledger.specs.Header.{widthOf, formOf, frontBits, frontBytes, bodySize, headerSize, Load, alone}
 use Rattle.ledger.specs.Ledger.{owner, Packet, bare, free, place#, placeOf, Ledger, arrival, halted, buckets, markOf, bucketAt, change, putIn, pop, start}
 use Rattle.ledger.specs.Halt.{halts, marks}
 use Rattle.ledger.specs.Calls.{Act, arrive, stitch, prefetch, credit, mapTo, turn, ready, whereIs, Side, outside, Reply, refused, done, entry}
 use Rattle.ledger.specs.Buckets.{untimed, at, waitOf, bucketOf, bucket#}
-use Rattle.ledger.specs.Calls.{clear, report, bucket, stitched, idle, leaves, isRefused, sideOf, arriving, step, markedFor, onRefusal}
+use Rattle.ledger.specs.Calls.{clear, report, bucket, show, stitched, idle, leaves, isRefused, sideOf, arriving, step, markedFor, onRefusal}
 use Rattle.ledger.specs.Desk.{Desk, none, has, Call, setup, act, desk, afterCalls, SetupsRefused}
 use Rattle.ledger.specs.Demand.{turnsIn, Stands, InHand, NobodyStarvesFrom}
 use Rattle.ledger.specs.Order.{idsAt, KeepsOrder, GoesAlong}
@@ -112,6 +112,7 @@ idleTurns n D (act (whereIs y)) = desk n D (act (whereIs y))
 idleTurns n D (act (clear p)) = desk n D (act (clear p))
 idleTurns n D (act (report p)) = desk n D (act (report p))
 idleTurns n D (act (bucket p b)) = desk n D (act (bucket p b))
+idleTurns n D (act (show ns p q)) = desk n D (act (show ns p q))
 
 pub never-leaves : (n : ℕ) (S : Settings) (D : Desk) (r : ℕ) → r < S .ports → (k : Packet)
     → (deeds : List Deed) → SetupsRefused (idleTurns n) D (callsOf (doneFrom (idleTurns n) (λ E. E) D deeds))
@@ -159,14 +160,14 @@ sent-from-nowhere k g = g .sends untimed 0 k outside refl
 abbrev pub leaks : ℕ → Desk → Call → Reply × Desk
 leaks n D c = (desk n D c .0, relisted (cond (isRefused (desk n D c .0)) (pop 0) (λ ls. ls)) (desk n D c .1))
 
-pub pool-leaked : (n : ℕ) → PoolKept (leaks n) (λ D. D) two (start two) 0 (has two (start two)) (act (arrive 0 []) ∷ []) → ⊥
+pub pool-leaked : (n : ℕ) → PoolKept (leaks n) (λ D. D) two (start two) 0 (has two (start two)) (act (arrive 0 (alone [])) ∷ []) → ⊥
 unfolding oldestFree start row place# pop onRefusal markedFor halts marks widthOf formOf frontBits frontBytes bodySize headerSize lib.Count.leadingZeros
 pool-leaked n k =
     let e : _≡_ {A = ℕ} 1 0 = ap oldestFree (k .shown) ∙ ap (λ (xs : List ℕ). getD xs 0 0) (k .in-order .stays-behind) in
     omega arith
 
 -- and had port 0's refused arrival never been sent, it would have that node: more than its mark differs
-pub more-than-a-mark : (n : ℕ) → OwnMarkAlone (leaks n) (λ D. D) two 0 (has two (start two)) (act (arrive 0 []) ∷ []) → ⊥
+pub more-than-a-mark : (n : ℕ) → OwnMarkAlone (leaks n) (λ D. D) two 0 (has two (start two)) (act (arrive 0 (alone [])) ∷ []) → ⊥
 unfolding oldestFree start row place# pop onRefusal markedFor halts marks widthOf formOf frontBits frontBytes bodySize headerSize lib.Count.leadingZeros
 more-than-a-mark n k =
     let e : _≡_ {A = ℕ} 1 0 =
@@ -180,7 +181,7 @@ abbrev pub sulks : ℕ → Desk × Bool → Call → Reply × (Desk × Bool)
 sulks n x c = (cond (x .1) idle (desk n (x .0) c .0), (desk n (x .0) c .1, isRefused (desk n (x .0) c .0)))
 
 pub another-answered-idle : (n : ℕ)
-    → OwnMarkAlone (sulks n) (λ x. x .0) two 0 (has two (start two), false) (act (arrive 0 []) ∷ act (ready 1) ∷ []) → ⊥
+    → OwnMarkAlone (sulks n) (λ x. x .0) two 0 (has two (start two), false) (act (arrive 0 (alone [])) ∷ act (ready 1) ∷ []) → ⊥
 unfolding widthOf formOf frontBits frontBytes bodySize headerSize lib.Count.leadingZeros
 another-answered-idle n k =
     let e = k .answers .0 (λ i. let z : _≡_ {A = ℕ} 0 1 = cc in omega arith) in
@@ -190,7 +191,7 @@ another-answered-idle n k =
 -- ---- an arrival that is refused and changes more than its port's mark, overwrites a mark, marks for nothing or doesn't mark; one that takes
 -- another port's node
 
-module _ (S : Settings) (L : Ledger) (p : ℕ) (h : List ℕ) where
+module _ (S : Settings) (L : Ledger) (p : ℕ) (h : Load) where
   module _ (n : ℕ) (N : Ledger) where
     pub refused-and-moved : (N .lists ≡ L .lists → ⊥) → Arrival S L p h (refused n) N → ⊥
     refused-and-moved other (turned-away m M t) = other (t .only .same-lists)
@@ -240,7 +241,7 @@ halt-forgotten n k =
 
 -- ---- a sound arrival: a desk that takes it in at a halted port for a queue above 0, or says there that no node is free
 
-module _ (S : Settings) (L : Ledger) (p : ℕ) (h : List ℕ) (above : 0 < arriving S L p h .queue) (held : 0 < markOf L p) where
+module _ (S : Settings) (L : Ledger) (p : ℕ) (h : Load) (above : 0 < arriving S L p h .queue) (held : 0 < markOf L p) where
   pub halted-yet-taken : (x : ℕ) (N : Ledger) → Wanting S L p h (entry x, N) → ⊥
   halted-yet-taken x N (taken-in f d e) = true≢false (sym (held-is (arriving S L p h .queue) (markOf L p) above held) ∙ f)
 
@@ -289,6 +290,7 @@ idleTimed n D (act (whereIs y)) = desk n D (act (whereIs y))
 idleTimed n D (act (clear p)) = desk n D (act (clear p))
 idleTimed n D (act (report p)) = desk n D (act (report p))
 idleTimed n D (act (bucket p b)) = desk n D (act (bucket p b))
+idleTimed n D (act (show ns p q)) = desk n D (act (show ns p q))
 
 pub timed-yet-idle : (n : ℕ) (S : Settings) (L : Ledger) (time p : ℕ) (k : Packet) (t : Side) → step S L (turn untimed p) .0 ≡ leaves k t
     → TimedAsTurn (idleTimed n) (λ D. D) S time p (has S L) → ⊥

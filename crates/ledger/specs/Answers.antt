@@ -2,12 +2,13 @@
 use mathlib.Core.List.{List}
 use Prim.Native.Nat.{ℕ}
 use lib.ListN.{replicate}
+use Rattle.ledger.specs.Header as header
 use Rattle.ledger.specs.Ledger.{Packet, Place, free, ingress, egress, prefetched}
-use Rattle.ledger.specs.Calls.{Side, inside, outside, Reply, refused, done, entry, stitched, idle, leaves, word, found, reported, counted}
+use Rattle.ledger.specs.Calls.{Side, inside, outside, Reply, refused, done, entry, stitched, idle, leaves, word, found, reported, counted, part}
 use Rattle.ledger.specs.declared.Refusal.{Refusal}
 use Rattle.ledger.specs.declared.Refusal.the-variants.{ShortMemory, BadSetting, NoState, NoPort, NoQueue, HeaderSize, Checksum, Source}
 use Rattle.ledger.specs.declared.Refusal.the-variants.{TooShort, NoCredit, NoFreeNode, NothingThere, SlotsInUse, TooMuchCredit, NoSuchId}
-use Rattle.ledger.specs.declared.Refusal.the-variants.{HeaderQueue, ReservedBit, NoFit, ShortRoom}
+use Rattle.ledger.specs.declared.Refusal.the-variants.{PacketBytes, PacketMemory, HeaderQueue, ReservedBit, NoFit, OtherKind, ShortRoom}
 use Rattle.ledger.specs.declared.ListKind.{ListKind}
 use Rattle.ledger.specs.declared.ListKind.the-variants.{Free, Ingress, Egress, Prefetch}
 use Rattle.ledger.specs.declared.Exit.{Exit}
@@ -27,8 +28,12 @@ use Rattle.ledger.specs.declared.Reported.{Reported}
 use Rattle.ledger.specs.declared.Reported.the-variants as reports
 use Rattle.ledger.specs.declared.Bucketed.{Bucketed}
 use Rattle.ledger.specs.declared.Bucketed.the-variants as counts
+use Rattle.ledger.specs.declared.Load.{Load}
+use Rattle.ledger.specs.declared.Load.the-variants as loads
+use Rattle.ledger.specs.declared.Shown.{Shown}
+use Rattle.ledger.specs.declared.Shown.the-variants as parts
 
--- the number of a refusal in the table; 19 to 21 and 27 are paper 02's, and 16 to 18 and 22 to 26 aren't given yet
+-- the number of a refusal in the table; 16 on are paper 02's, of which 18, 22, 23, 25 and 26 aren't given yet
 abbrev pub numberOf : Refusal → ℕ
 numberOf ShortMemory = 1
 numberOf BadSetting = 2
@@ -45,9 +50,12 @@ numberOf NothingThere = 12
 numberOf SlotsInUse = 13
 numberOf TooMuchCredit = 14
 numberOf NoSuchId = 15
+numberOf PacketBytes = 16
+numberOf PacketMemory = 17
 numberOf HeaderQueue = 19
 numberOf ReservedBit = 20
 numberOf NoFit = 21
+numberOf OtherKind = 24
 numberOf ShortRoom = 27
 
 abbrev pub kindOf : ListKind → Place
@@ -71,6 +79,11 @@ sentOf k = record {
   transaction = k .transaction;
   price = k .price;
 }
+
+-- what arrives, with its bytes
+abbrev pub loadOf : Load → List ℕ → header.Load
+loadOf loads.Header b = header.alone b
+loadOf (loads.Packet n) b = header.whole n b
 
 -- ---- the reply that each answer is
 
@@ -108,6 +121,10 @@ abbrev pub bucketReply : Bucketed → Reply
 bucketReply (counts.Count n) = counted n
 bucketReply (counts.No r) = refused (numberOf r)
 
+abbrev pub showReply : Shown → Reply
+showReply (parts.Part x n) = part (x .0) n
+showReply (parts.No r) = refused (numberOf r)
+
 -- the ten bytes beside stitch's answer: the record, or zeros where there is none
 abbrev pub recordIn : Reply → List ℕ
 recordIn (refused n) = replicate 10 0
@@ -120,3 +137,4 @@ recordIn (word w n) = replicate 10 0
 recordIn (found v i) = replicate 10 0
 recordIn (reported n) = replicate 10 0
 recordIn (counted n) = replicate 10 0
+recordIn (part x n) = replicate 10 0

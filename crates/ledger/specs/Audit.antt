@@ -5,7 +5,7 @@ use lib.Dec.{ltb}
 use Rattle.ledger.specs.Settings.{Settings}
 use Rattle.ledger.specs.Rules.{Rule, refuse, guard}
 use Rattle.ledger.specs.Ledger.{entryId, Place, portOf, kindIn, queueIn}
-use Rattle.ledger.specs.Calls.{Reply, refused, done, entry, stitched, idle, leaves, word, found, reported, counted}
+use Rattle.ledger.specs.Calls.{Reply, refused, done, entry, stitched, idle, leaves, word, found, reported, counted, part}
 use Rattle.ledger.specs.Desk.{Desk, none, has}
 
 -- ---- where: eight bytes
@@ -26,6 +26,7 @@ placeRoom y (word w n) old = old
 placeRoom y (found v i) old = placeBytes y v i
 placeRoom y (reported n) old = old
 placeRoom y (counted n) old = old
+placeRoom y (part x n) old = old
 
 -- ---- the audit
 

@@ -6,9 +6,9 @@ use Prim.Native.Nat.{ℕ, zero, suc, _+_, _-_, _/_, _%_, _^_}
 use lib.ListN.{length, getD}
 use lib.Dec.{eqb, ltb, leb}
 use lib.Count.{ones}
-use Rattle.ledger.specs.Settings.{Settings, ids, bucketCount}
+use Rattle.ledger.specs.Settings.{Settings, ids, bucketCount, packetRoom, keepsPackets}
 use Rattle.ledger.specs.Rules.{Rule, refuse, guard}
-use Rattle.ledger.specs.Header.{form, fieldsOf, arrivalRules}
+use Rattle.ledger.specs.Header.{form, fieldsOf, Load, alone, whole, bytesIn, arrivalRules}
 use Rattle.ledger.specs.Ledger.{owner, isNode, Packet, bare, recorded, Place, free, ingress, egress, prefetched, placeOf, Ledger, listAt}
 use Rattle.ledger.specs.Ledger.{arrival, outward, last, mapped, halted, buckets, arrivalOf, outwardOf, lastOf, mapOf, markOf, bucketAt}
 use Rattle.ledger.specs.Ledger.{oldest, move, putIn, putCredit}
@@ -17,7 +17,7 @@ use Rattle.ledger.specs.Buckets.{Clock, untimed, at, waitOf, bucketOf, o
 use Rattle.ledger.specs.Ready.{readyWord, pick}
 
 pub data Act : Type 0 where
-  arrive : ℕ → List ℕ → Act
+  arrive : ℕ → Load → Act
   stitch : ℕ → Act
   prefetch : ℕ → ℕ → Act
   credit : ℕ → ℕ → ℕ → Act
@@ -28,6 +28,7 @@ pub data Act : Type 0 where
   clear : ℕ → Act
   report : ℕ → Act
   bucket : ℕ → ℕ → Act
+  show : List ℕ → ℕ → ℕ → Act
 
 abbrev pub isArrival : Act → Bool
 isArrival (arrive p h) = true
@@ -41,6 +42,7 @@ isArrival (whereIs y) = false
 isArrival (clear p) = false
 isArrival (report p) = false
 isArrival (bucket p b) = false
+isArrival (show ns p q) = false
 
 pub data Side : Type 0 where
   inside outside : Side
@@ -56,6 +58,7 @@ pub data Reply : Type 0 where
   found : Place → ℕ → Reply
   reported : ℕ → Reply
   counted : ℕ → Reply
+  part : ℕ → ℕ → Reply
 
 abbrev pub isRefused : Reply → Bool
 isRefused (refused n) = true
@@ -68,6 +71,7 @@ isRefused (word w n) = false
 isRefused (found v i) = false
 isRefused (reported n) = false
 isRefused (counted n) = false
+isRefused (part x n) = false
 
 -- ---- parts of the rules
 
@@ -81,11 +85,35 @@ isEmpty (k ∷ ks) = false
 abbrev pub firstOf : Settings → Ledger → Place → Packet
 firstOf S L v = oldest (listAt S L v)
 
+-- ---- packets (paper 02, Q-1)
+
+-- "a memory of another size"
+abbrev pub otherSize : Settings → ℕ → Bool
+otherSize S n = not (eqb n (packetRoom S))
+
+-- one of these lengths
+abbrev pub otherSizes : Settings → List ℕ → Bool
+otherSizes S [] = false
+otherSizes S (n ∷ ns) = otherSize S n || otherSizes S ns
+
+-- "Setup now says whether a state keeps packets; an arrive or show of the other kind is refused 24"
+abbrev pub otherKind : Settings → Load → Bool
+otherKind S (alone h) = keepsPackets S
+otherKind S (whole n b) = not (keepsPackets S)
+
+abbrev pub wrongMemory : Settings → Load → Bool
+wrongMemory S (alone h) = false
+wrongMemory S (whole n b) = otherSize S n
+
 -- ---- arrive
 
--- what the packet of header h is at port p: the oldest free node with the header recorded
-abbrev pub arriving : Settings → Ledger → ℕ → List ℕ → Packet
-arriving S L p h = recorded S (firstOf S L (free p) .node) (fieldsOf (form S) h)
+-- what h is as a packet at port p: the oldest free node with the header recorded
+abbrev pub arriving : Settings → Ledger → ℕ → Load → Packet
+arriving S L p h = recorded S (firstOf S L (free p) .node) (fieldsOf (form S) (bytesIn h))
+
+-- the refusals that are tested before 10: an arrival that meets none of them is sound, in demand 2's sense
+abbrev pub soundRules : Settings → ℕ → Load → List Rule
+soundRules S p h = refuse 24 (otherKind S h) ∷ refuse 17 (wrongMemory S h) ∷ noPort S p ∷ arrivalRules (form S) (S .queues) p h
 
 -- port p lacks the credit for price n in queue q: "as if credit were 0" where it is halted and q is above 0
 abbrev pub lacks : Settings → Ledger → ℕ → ℕ → ℕ → Bool
@@ -151,7 +179,7 @@ which y (l ∷ ls) = cond (ltb (position y l) (length l)) 0 (suc (which y ls))
 -- ---- the refusals of each act, in order
 
 abbrev pub rules : Settings → Ledger → Act → List Rule
-rules S L (arrive p h) = noPort S p ∷ (arrivalRules (form S) (S .queues) p h ++ lastRules S L p (arriving S L p h))
+rules S L (arrive p h) = soundRules S p h ++ lastRules S L p (arriving S L p h)
 rules S L (stitch p) = noPort S p ∷ refuse 12 (isEmpty (listAt S L (ingress p))) ∷ []
 rules S L (prefetch p q) =
     noPort S p
@@ -171,6 +199,13 @@ rules S L (whereIs y) = refuse 15 (not (isNode S y)) ∷ []
 rules S L (clear p) = noPort S p ∷ []
 rules S L (report p) = noPort S p ∷ []
 rules S L (bucket p b) = noPort S p ∷ refuse 5 (leb bucketCount b) ∷ []
+rules S L (show ns p q) =
+    refuse 24 (not (keepsPackets S))
+    ∷ refuse 17 (otherSizes S ns)
+    ∷ noPort S p
+    ∷ refuse 5 (leb (S .queues) q)
+    ∷ refuse 12 (isEmpty (listAt S L (prefetched p q)))
+    ∷ []
 
 -- ---- the answer and the ledger after it, where no refusal applies
 
@@ -193,6 +228,9 @@ result S L (whereIs y) =
 result S L (clear p) = (done, putIn halted p 0 L)
 result S L (report p) = (reported (markOf L p), L)
 result S L (bucket p b) = (counted (bucketAt L p b), L)
+result S L (show ns p q) =
+    let k = firstOf S L (prefetched p q) in
+    (part (k .node) (k .len), L)
 
 -- the ledger with port p marked for refusal n, if it marks the port
 unfoldable pub markedFor : Settings → ℕ → ℕ → Ledger → Ledger
@@ -211,6 +249,7 @@ onRefusal S n (whereIs y) L = L
 onRefusal S n (clear p) L = L
 onRefusal S n (report p) L = L
 onRefusal S n (bucket p b) L = L
+onRefusal S n (show ns p q) L = L
 
 -- one act: the answer, and the ledger after it
 abbrev pub step : Settings → Ledger → Act → Reply × Ledger

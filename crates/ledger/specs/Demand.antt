@@ -10,7 +10,7 @@ use Rattle.ledger.specs.Settings.{Settings, tenBytes}
 use Rattle.ledger.specs.Ledger.{Packet, prefetched, Ledger, listAt, outwardOf}
 use Rattle.ledger.specs.Ready.{bit}
 use Rattle.ledger.specs.Buckets.{Clock}
-use Rattle.ledger.specs.Calls.{Act, arrive, stitch, prefetch, credit, mapTo, turn, ready, whereIs, clear, report, bucket, Reply, leaves, sideOf}
+use Rattle.ledger.specs.Calls.{Act, arrive, stitch, prefetch, credit, mapTo, turn, ready, whereIs, clear, report, bucket, show, Reply, leaves, sideOf}
 use Rattle.ledger.specs.Desk.{Desk, has, Call, setup, act, desk, afterCalls, SetupsRefused}
 use Rattle.ledger.specs.Sound.{sum, Roomy, Orderly, Sound}
 
@@ -27,6 +27,7 @@ isTurn p (whereIs y) = false
 isTurn p (clear r) = false
 isTurn p (report r) = false
 isTurn p (bucket r b) = false
+isTurn p (show ns r q) = false
 
 -- packet k stands in the prefetch slots of port p and queue q, behind `ahead`
 pub record Stands (S : Settings) (p q : ℕ) (k : Packet) (ahead : List Packet) (L : Ledger) : Type 0 where

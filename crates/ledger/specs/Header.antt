@@ -1,6 +1,6 @@
 -- Paper 01, "The ten-byte header", and paper 02, Q-7, "The wide headers": a header's form, its fields, its own refusals (6 to 9, and paper
--- 02's 19 and 20), and the price. Assumes nothing.
-use mathlib.Core.Bool.{cond, not}
+-- 02's 16, 19 and 20), and the price. Assumes nothing.
+use mathlib.Core.Bool.{Bool, false, cond, not}
 use mathlib.Core.List.{List, [], _∷_, _++_}
 use Prim.Native.Nat.{ℕ, zero, suc, _+_, _-_, _*_, _/_, _≤_}
 use lib.ListN.{length, getD, take}
@@ -100,24 +100,58 @@ fieldsOf F h = inOrder (unpack (widths F) (number (bodySize F) h 0)) (number 1 h
 
 -- ---- its own refusals
 
--- what a header can be refused for in a switch of n queues, with what is asked of its source in between (paper 02, Q-6: 20 and 19)
-abbrev pub headerRules : Form → ℕ → List Rule → List ℕ → List Rule
-headerRules F n source h =
-    refuse 6 (not (eqb (length h) (headerSize F)))
+-- what bytes can be refused for as a header in a switch of n queues, with what is asked of their size before, of the source and of how many
+-- they are in between (paper 02, Q-6: 20 and 19)
+abbrev pub headerRules : Form → ℕ → Rule → List Rule → List Rule → List ℕ → List Rule
+headerRules F n size source count h =
+    size
     ∷ refuse 7 (not (eqb (fieldsOf F h .check) (crc8 (take (bodySize F) h))))
     ∷ refuse 20 (not (eqb (fieldsOf F h .reserved) 0))
     ∷ (source ++ (
     refuse 9 (ltb (fieldsOf F h .len) (leastLength F))
-    ∷ refuse 19 (leb n (fieldsOf F h .queue))
-    ∷ []
+    ∷ (count ++ (refuse 19 (leb n (fieldsOf F h .queue)) ∷ []))
     ))
 
--- of a header that arrives at port p: that its source is that port
-abbrev pub fromPort : Form → ℕ → List ℕ → List Rule
-fromPort F p h = refuse 8 (not (eqb (fieldsOf F h .source) p)) ∷ []
+-- a header alone has its form's size
+abbrev pub otherLength : Form → List ℕ → Bool
+otherLength F h = not (eqb (length h) (headerSize F))
 
-abbrev pub arrivalRules : Form → ℕ → ℕ → List ℕ → List Rule
-arrivalRules F n p h = headerRules F n (fromPort F p h) h
+-- of a header that arrives nowhere neither its source nor a packet behind it is asked
+abbrev pub readRules : Form → ℕ → List ℕ → List Rule
+readRules F n h = headerRules F n (refuse 6 (otherLength F h)) [] [] h
+
+-- ---- what arrives (paper 02, Q-1)
+
+-- a header alone; or a whole packet, for which so many bytes of packet memory are lent
+pub data Load : Type 0 where
+  alone : List ℕ → Load
+  whole : ℕ → List ℕ → Load
+
+-- its bytes: `fieldsOf` reads the first of them, which of a packet are its header, and no more (`fields-front`)
+abbrev pub bytesIn : Load → List ℕ
+bytesIn (alone h) = h
+bytesIn (whole n b) = b
+
+-- 16 for a packet of fewer bytes than a header has "takes the place of 6"
+abbrev pub sizeNumber : Load → ℕ
+sizeNumber (alone h) = 6
+sizeNumber (whole n b) = 16
+
+abbrev pub missized : Form → Load → Bool
+missized F (alone h) = otherLength F h
+missized F (whole n b) = ltb (length b) (headerSize F)
+
+-- "except that the count against the length is made after 9"
+abbrev pub miscounted : Form → Load → Bool
+miscounted F (alone h) = false
+miscounted F (whole n b) = not (eqb (length b) (fieldsOf F b .len))
+
+-- at port p its source is asked to be that port
+abbrev pub arrivalRules : Form → ℕ → ℕ → Load → List Rule
+arrivalRules F n p h =
+    headerRules F n (refuse (sizeNumber h) (missized F h)) (refuse 8 (not (eqb (fieldsOf F (bytesIn h) .source) p)) ∷ [])
+    (refuse 16 (miscounted F h) ∷ [])
+    (bytesIn h)
 
 -- ---- the price
 

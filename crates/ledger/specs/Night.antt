@@ -8,11 +8,11 @@ use Prim.Native.Nat.{ℕ, _+_, _<_}
 use lib.ListN.{length, getD}
 use lib.Dec.{eqb}
 use Rattle.ledger.specs.Settings.{Settings}
-use Rattle.ledger.specs.Header.{form, fieldsOf}
+use Rattle.ledger.specs.Header.{form, fieldsOf, Load, bytesIn}
 use Rattle.ledger.specs.Ledger.{owner, Packet, recorded, free, ingress, place#, placeOf, Column, arrival, Ledger, listAt, arrivalOf, markOf}
 use Rattle.ledger.specs.Ready.{bit}
 use Rattle.ledger.specs.Halt.{OnlyMark, TurnedAway}
-use Rattle.ledger.specs.Calls.{Act, arrive, stitch, prefetch, credit, mapTo, turn, ready, whereIs, clear, report, bucket, Reply, refused, entry}
+use Rattle.ledger.specs.Calls.{Act, arrive, stitch, prefetch, credit, mapTo, turn, ready, whereIs, clear, report, bucket, show, Reply, refused, entry}
 use Rattle.ledger.specs.Calls.{isRefused}
 use Rattle.ledger.specs.Desk.{Desk, has, Call, setup, act, afterCalls, answersOf}
 use Rattle.ledger.specs.Sound.{All, weigh, owes}
@@ -28,15 +28,15 @@ pub record OnlyAt (S : Settings) (p : ℕ) (L N : Ledger) : Type 0 where
 
 -- port p's oldest free node x, one of its own, took the header in: it stands last in p's ingress list with what the header says recorded,
 -- and p's arrival credit for the queue is lower by the price
-pub record TakenIn (S : Settings) (L : Ledger) (p : ℕ) (h : List ℕ) (x : ℕ) (N : Ledger) : Type 0 where
+pub record TakenIn (S : Settings) (L : Ledger) (p : ℕ) (h : Load) (x : ℕ) (N : Ledger) : Type 0 where
   pub own : owner x ≡ p
   pub from-pool : idsAt S L (free p) ≡ x ∷ idsAt S N (free p)
-  pub to-ingress : listAt S N (ingress p) ≡ listAt S L (ingress p) ++ (recorded S x (fieldsOf (form S) h) ∷ [])
-  pub paid : (q : ℕ) → q < S .queues → arrivalOf S N p q + owes p q (recorded S x (fieldsOf (form S) h)) ≡ arrivalOf S L p q
+  pub to-ingress : listAt S N (ingress p) ≡ listAt S L (ingress p) ++ (recorded S x (fieldsOf (form S) (bytesIn h)) ∷ [])
+  pub paid : (q : ℕ) → q < S .queues → arrivalOf S N p q + owes p q (recorded S x (fieldsOf (form S) (bytesIn h))) ≡ arrivalOf S L p q
   pub only : OnlyAt S p L N
 
 -- what an arrival at port p of any bytes h answers and leaves of the ledger L: a refusal and at most p's mark, or an own node with the header
-pub data Arrival (S : Settings) (L : Ledger) (p : ℕ) (h : List ℕ) : Reply → Ledger → Type 0 where
+pub data Arrival (S : Settings) (L : Ledger) (p : ℕ) (h : Load) : Reply → Ledger → Type 0 where
   turned-away : (n : ℕ) (N : Ledger) → TurnedAway S p n L N → Arrival S L p h (refused n) N
   taken : (x : ℕ) (N : Ledger) → TakenIn S L p h x N → Arrival S L p h (entry x) N
 
@@ -82,6 +82,7 @@ refusedAt p (whereIs y) x = false
 refusedAt p (clear r) x = false
 refusedAt p (report r) x = false
 refusedAt p (bucket r b) x = false
+refusedAt p (show ns r q) x = false
 
 -- of calls and their answers, the acts but such arrivals, each with its answer; a setup, which is refused, is left out
 abbrev pub otherBy : ℕ → Call → Reply → List (Act × Reply) → List (Act × Reply)

@@ -9,11 +9,11 @@ use lib.ListN.{length, getD, take, drop}
 use lib.Dec.{eqb}
 use Rattle.numbers.specs.Bytes.{number}
 use Rattle.ledger.specs.Settings.{Settings}
-use Rattle.ledger.specs.Header.{form, fieldsOf}
+use Rattle.ledger.specs.Header.{form, fieldsOf, bytesIn}
 use Rattle.ledger.specs.Ledger.{owner, Packet, recorded, Place, free, ingress, egress, prefetched, portOf, kindIn, queueIn, placeOf, Ledger, listAt}
 use Rattle.ledger.specs.Buckets.{Clock}
 use Rattle.ledger.specs.Calls.{Act, arrive, stitch, prefetch, credit, mapTo, turn, ready, whereIs, Side, Reply, refused, done, entry, stitched}
-use Rattle.ledger.specs.Calls.{clear, report, bucket, idle, leaves, word, found, reported, counted}
+use Rattle.ledger.specs.Calls.{clear, report, bucket, show, idle, leaves, word, found, reported, counted, part}
 use Rattle.ledger.specs.Desk.{Desk, has, Call, setup, act, afterCalls, answersOf}
 use Rattle.ledger.specs.Sound.{All}
 
@@ -40,6 +40,7 @@ named no′ e s l (word w n) = no′
 named no′ e s l (found v i) = no′
 named no′ e s l (reported n) = no′
 named no′ e s l (counted n) = no′
+named no′ e s l (part x n) = no′
 
 abbrev pub byEntry : Place → Place → Reply → Movement
 byEntry v w = named stays (λ x. moves x v w) (λ b. stays) (λ k. stays)
@@ -64,6 +65,7 @@ movement (whereIs y) r = stays
 movement (clear p) r = stays
 movement (report p) r = stays
 movement (bucket p b) r = stays
+movement (show ns p q) r = stays
 
 abbrev pub movementOf : Call → Reply → Movement
 movementOf (setup T) r = stays
@@ -125,7 +127,7 @@ held S L = heldFrom S 0 (L .lists)
 
 -- the packet that a call brought in: an arrival's header, recorded for the node that its answer names
 abbrev pub broughtBy : Settings → Act → Reply → List Packet
-broughtBy S (arrive p h) r = named [] (λ x. recorded S x (fieldsOf (form S) h) ∷ []) (λ b. []) (λ k. []) r
+broughtBy S (arrive p h) r = named [] (λ x. recorded S x (fieldsOf (form S) (bytesIn h)) ∷ []) (λ b. []) (λ k. []) r
 broughtBy S (stitch p) r = []
 broughtBy S (prefetch p q) r = []
 broughtBy S (credit p q n) r = []
@@ -136,6 +138,7 @@ broughtBy S (whereIs y) r = []
 broughtBy S (clear p) r = []
 broughtBy S (report p) r = []
 broughtBy S (bucket p b) r = []
+broughtBy S (show ns p q) r = []
 
 abbrev pub broughtIn : Settings → Call → Reply → List Packet
 broughtIn S (setup T) r = []

@@ -8,7 +8,7 @@ use Rattle.ledger.specs.Settings.{Settings}
 use Rattle.ledger.specs.Rules.{Rule, refuse, guard}
 use Rattle.ledger.specs.Buckets.{untimed}
 use Rattle.ledger.specs.Calls.{Act, arrive, stitch, prefetch, credit, mapTo, turn, ready, whereIs, Reply, refused, done, entry, stitched, idle}
-use Rattle.ledger.specs.Calls.{clear, report, bucket, leaves, word, found, reported, counted}
+use Rattle.ledger.specs.Calls.{clear, report, bucket, show, leaves, word, found, reported, counted, part}
 use Rattle.ledger.specs.Desk.{Desk, none, has, Call, setup, act}
 
 -- ---- what a round does
@@ -54,6 +54,7 @@ answerBytes (word w n) = 0 ∷ 0 ∷ 0 ∷ 0 ∷ []
 answerBytes (found v i) = 0 ∷ 0 ∷ 0 ∷ 0 ∷ []
 answerBytes (reported n) = 0 ∷ 0 ∷ 0 ∷ 0 ∷ []
 answerBytes (counted n) = 0 ∷ 0 ∷ 0 ∷ 0 ∷ []
+answerBytes (part x n) = 0 ∷ 0 ∷ 0 ∷ 0 ∷ []
 
 unfoldable pub bytesOf : List Reply → List ℕ
 bytesOf [] = []
@@ -106,6 +107,7 @@ ofTurn (act (whereIs y)) r = []
 ofTurn (act (clear p)) r = []
 ofTurn (act (report p)) r = []
 ofTurn (act (bucket p b)) r = []
+ofTurn (act (show ns p q)) r = []
 
 abbrev pub turnAnswers : List Call → List Reply → List Reply
 turnAnswers [] rs = []

@@ -1,7 +1,7 @@
 -- Paper 01, "What the switch has", and paper 02, Q-7: the settings, which values each may have, and the bytes that a state of such settings
 -- takes. Ports and queues are settings like the others: how many there may be, `inRow` alone knows, and `settings` how many go with
 -- the ten-byte header. Assumes nothing.
-use mathlib.Core.Bool.{Bool, true, cond, _&&_}
+use mathlib.Core.Bool.{Bool, true, cond, not, _&&_}
 use Prim.Native.Nat.{ℕ, zero, suc, _+_, _-_, _*_}
 use lib.Dec.{eqb, leb}
 use lib.Count.{ones}
@@ -38,12 +38,16 @@ portsIn e p = cond (eqb e tenBytes) (eqb p 4) (leb 2 p && leb p 32)
 unfoldable pub queuesIn : ℕ → ℕ → Bool
 queuesIn e q = cond (eqb e tenBytes) (eqb q 24) (leb 2 q && leb q 64)
 
+-- whether packets are kept, which 1 says (paper 02, Q-1): the ten-byte edition goes "alone with packets"
+unfoldable pub packetsIn : ℕ → ℕ → Bool
+packetsIn e k = cond (eqb e tenBytes) (leb k 1) (eqb k 0)
+
 -- how many settings there are
 abbrev pub settingCount : ℕ
 settingCount = 8
 
 -- setting i, in the order in which a memory has them, is in its row of the table; N reaches 2,048, the most that an entry id allows
--- (paper 02, Q-5); no switch keeps packets yet
+-- (paper 02, Q-5)
 abbrev pub inRow : Settings → ℕ → Bool
 inRow S zero = portsIn (S .edition) (S .ports)
 inRow S (suc zero) = queuesIn (S .edition) (S .queues)
@@ -52,7 +56,7 @@ inRow S (suc (suc (suc zero))) = isBeat (S .beat)
 inRow S (suc (suc (suc (suc zero)))) = leb 1 (S .slots) && leb (S .slots) 8
 inRow S (suc (suc (suc (suc (suc zero))))) = leb (S .credit) 65535
 inRow S (suc (suc (suc (suc (suc (suc zero)))))) = leb (S .edition) wide
-inRow S (suc (suc (suc (suc (suc (suc (suc i))))))) = eqb (S .packets) 0
+inRow S (suc (suc (suc (suc (suc (suc (suc i))))))) = packetsIn (S .edition) (S .packets)
 
 -- each is, of n settings from i on
 abbrev pub rowsFrom : Settings → ℕ → ℕ → Bool
@@ -77,6 +81,17 @@ ids = 4096
 -- buckets of a port: one for a wait of 0, and one for each bit that may be a wait's highest (paper 02, Q-13)
 abbrev pub bucketCount : ℕ
 bucketCount = 33
+
+-- a port's packet memory (paper 02, Q-1): "N slots of 8,192 bytes"
+abbrev pub slotBytes : ℕ
+slotBytes = 8192
+
+unfoldable pub packetRoom : Settings → ℕ
+packetRoom S = S .nodes * slotBytes
+
+-- does a switch keep packets
+abbrev pub keepsPackets : Settings → Bool
+keepsPackets S = not (eqb (S .packets) 0)
 
 -- lists of a port: free, ingress, and for each queue egress and prefetch
 unfoldable pub row : Settings → ℕ

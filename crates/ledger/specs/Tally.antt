@@ -11,7 +11,7 @@ use Rattle.ledger.specs.Settings.{Settings, bucketCount}
 use Rattle.ledger.specs.Buckets.{untimed, at, waitOf, bucketOf, stop, oneMore, bucket#}
 use Rattle.ledger.specs.Ledger.{Packet, Column, buckets, Ledger, bucketAt}
 use Rattle.ledger.specs.Ready.{bit}
-use Rattle.ledger.specs.Calls.{Act, arrive, stitch, prefetch, credit, mapTo, turn, ready, whereIs, clear, report, bucket, Side, Reply, leaves}
+use Rattle.ledger.specs.Calls.{Act, arrive, stitch, prefetch, credit, mapTo, turn, ready, whereIs, clear, report, bucket, show, Side, Reply, leaves}
 use Rattle.ledger.specs.Desk.{Desk, none, has, Call, setup, act, afterCalls, answersOf}
 use Rattle.ledger.specs.Order.{named, gathered}
 
@@ -51,6 +51,7 @@ waitBy p (whereIs y) x = []
 waitBy p (clear r) x = []
 waitBy p (report r) x = []
 waitBy p (bucket r b) x = []
+waitBy p (show ns r q) x = []
 
 abbrev pub waitOfCall : ℕ → Call → Reply → List ℕ
 waitOfCall p (setup T) x = []
@@ -114,6 +115,7 @@ isReading (whereIs y) = false
 isReading (clear p) = false
 isReading (report p) = false
 isReading (bucket p b) = true
+isReading (show ns p q) = false
 
 abbrev pub isReadingCall : Call → Bool
 isReadingCall (setup T) = false

@@ -13,7 +13,7 @@ use Rattle.ledger.specs.Settings.{Settings}
 use Rattle.ledger.specs.Rules.{refuse, guard}
 use Rattle.ledger.specs.Ledger.{owner, index, entryId, isNode, placeOf, Ledger}
 use Rattle.ledger.specs.Sound.{Roomy}
-use Rattle.ledger.specs.Calls.{Reply, refused, done, entry, stitched, idle, leaves, word, found, reported, counted, whereIs, position, which, isRefused}
+use Rattle.ledger.specs.Calls.{Reply, refused, done, entry, stitched, idle, leaves, word, found, reported, counted, part, whereIs, position, which, isRefused}
 use Rattle.ledger.specs.Desk.{Desk, none, has, act}
 use Rattle.ledger.specs.Audit.{placeBytes, placeRoom, nodeAt, auditReply}
 use Rattle.ledger.proofs.Tests.{true≢false, ltb-is, ltb-not}
@@ -85,6 +85,7 @@ place-room-length y (word w n) old h = h
 place-room-length y (found v i) old h = refl
 place-room-length y (reported n) old h = h
 place-room-length y (counted n) old h = h
+place-room-length y (part x n) old h = h
 
 -- ---- an audit on a state, by whether the room is long enough
 

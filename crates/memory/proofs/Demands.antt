@@ -7,7 +7,7 @@ use Prim.Native.Nat.{ℕ, _*_, _<_}
 use native.Mathlib.Omega.{arith}
 use lib.ListN.{length}
 use Rattle.ledger.specs.Settings.{Settings}
-use Rattle.ledger.specs.Header.{form}
+use Rattle.ledger.specs.Header.{form, Load}
 use Rattle.ledger.specs.Ledger.{isNode, Packet, Place, place#, Ledger, markOf, Place·In}
 use Rattle.ledger.specs.Ready.{isReady, wordOf, countOf}
 use Rattle.ledger.specs.Buckets.{Clock}
@@ -98,11 +98,11 @@ module _ (m : List ℕ) (S : Settings) (L : Ledger) (e : picture m ≡ has S L) 
   memory-pool-kept p hp cs f = pool-kept onMemory picture length memory-faithful S ok m L e (s .orderly) p hp cs f
 
   -- an arrival at port p, whatever its bytes, hurts nobody but p
-  pub memory-hurts-only-itself : (p : ℕ) (h : List ℕ)
+  pub memory-hurts-only-itself : (p : ℕ) (h : Load)
       → (N : Ledger) × (picture (M (act (arrive p h)) m .1) ≡ has S N) × Arrival S L p h (M (act (arrive p h)) m .0) N
   memory-hurts-only-itself p h = arrival-shows onMemory picture length memory-faithful S ok m L e (s .orderly) p h
 
-  pub memory-whose-node : (p : ℕ) (h h′ : List ℕ) (x y : ℕ) → M (act (arrive p h)) m .0 ≡ entry x → M (act (arrive p h′)) m .0 ≡ entry y → x ≡ y
+  pub memory-whose-node : (p : ℕ) (h h′ : Load) (x y : ℕ) → M (act (arrive p h)) m .0 ≡ entry x → M (act (arrive p h′)) m .0 ≡ entry y → x ≡ y
   memory-whose-node p h h′ x y d i = whose-node S L p h h′ x y (sym (on-state (arrive p h)) ∙ d) (sym (on-state (arrive p h′)) ∙ i)
 
   -- what a port's refused arrivals change, over any calls, is its own mark
@@ -115,12 +115,12 @@ module _ (m : List ℕ) (S : Settings) (L : Ledger) (e : picture m ≡ has S L) 
   memory-halt-lasts p some cs f u = halt-lasts onMemory picture length memory-faithful S p m L e some cs f u
 
   -- an arrival at port r is answered alike on any memory of the same settings that agrees at r
-  pub memory-arrival-alike : (m′ : List ℕ) (N : Ledger) → picture m′ ≡ has S N → (r : ℕ) → AgreeAt S r L N → (h : List ℕ)
+  pub memory-arrival-alike : (m′ : List ℕ) (N : Ledger) → picture m′ ≡ has S N → (r : ℕ) → AgreeAt S r L N → (h : Load)
       → M (act (arrive r h)) m′ .0 ≡ M (act (arrive r h)) m .0
   memory-arrival-alike m′ N i r g h = arrival-alike onMemory picture length memory-faithful S m m′ L N e i r g h
 
   -- as the one that a refused arrival at another port leaves does
-  pub memory-refused-agree : (p : ℕ) (h : List ℕ) (n : ℕ) → M (act (arrive p h)) m .0 ≡ refused n → (r : ℕ) → r ≢ p
+  pub memory-refused-agree : (p : ℕ) (h : Load) (n : ℕ) → M (act (arrive p h)) m .0 ≡ refused n → (r : ℕ) → r ≢ p
       → (N : Ledger) × (picture (M (act (arrive p h)) m .1) ≡ has S N) × AgreeAt S r L N
   memory-refused-agree p h n i r d = (
     step S L (arrive p h) .1,
@@ -139,7 +139,7 @@ module _ (m : List ℕ) (S : Settings) (L : Ledger) (e : picture m ≡ has S L) 
   memory-inside-outside c p k t i = inside-outside S ok L (s .orderly) c p k t (sym (on-state (turn c p)) ∙ i)
 
   -- a header with no fault, at a port of the switch: turned away only for want of credit, which a halt is taken for, or of a node
-  pub memory-arrival : (p : ℕ) (h : List ℕ) → p < S .ports → Passes (form S) (S .queues) p h
+  pub memory-arrival : (p : ℕ) (h : Load) → p < S .ports → Passes (form S) (S .queues) p h
       → (N : Ledger) × (picture (M (act (arrive p h)) m .1) ≡ has S N) × Wanting S L p h (M (act (arrive p h)) m .0, N)
   memory-arrival p h hp f = (
     step S L (arrive p h) .1,

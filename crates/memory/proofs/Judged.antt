@@ -7,7 +7,8 @@ use native.Mathlib.Omega.{arith}
 use Rattle.ledger.specs.Settings.{Settings}
 use Rattle.ledger.specs.Rules.{Rule, refuse, guard, Clear}
 use Rattle.ledger.specs.Ledger.{Ledger}
-use Rattle.ledger.specs.Calls.{Act, arrive, stitch, prefetch, credit, mapTo, turn, ready, whereIs, clear, report, bucket, isArrival, refused, rules, result}
+use Rattle.ledger.specs.Calls.{Act, arrive, stitch, prefetch, credit, mapTo, turn, ready, whereIs}
+use Rattle.ledger.specs.Calls.{clear, report, bucket, show, isArrival, refused, rules, result}
 use Rattle.ledger.proofs.Tests.{true≢false}
 use Rattle.ledger.proofs.Steps.{cleared}
 use Rattle.layout.specs.Picture.{ledgerIn}
@@ -55,6 +56,7 @@ kept-else S n (whereIs y) m i = refl
 kept-else S n (clear p) m i = refl
 kept-else S n (report p) m i = refl
 kept-else S n (bucket p b) m i = refl
+kept-else S n (show ns p q) m i = refl
 
 pub acted-bad : (S : Settings) (m : List ℕ) (a : Act) → isArrival a ≡ false → (n : ℕ) → judged S (ledgerIn S m) a ≡ bad n → acted S m a ≡ (refused n, m)
 acted-bad S m a other n e = acted-refused S m a n e ∙ ap (λ (m′ : List ℕ). (refused n, m′)) (kept-else S n a m other)

@@ -4,6 +4,7 @@ use mathlib.Core.Bool.{Bool, true, false, cond}
 use mathlib.Core.List.{List}
 use Prim.Native.Nat.{ℕ}
 use Rattle.ledger.specs.Settings.{Settings}
+use Rattle.ledger.specs.Header.{Load}
 use Rattle.ledger.specs.Halt.{marks}
 use Rattle.ledger.specs.Calls.{arrive, refused}
 use Rattle.ledger.specs.Desk.{act}
@@ -26,6 +27,6 @@ mark-leaves S p n m = go (marks S p (get S m Halted p) n) refl
     go false e = as-it-was e
 
 -- on any memory, whatever bytes arrive
-pub refusal-but-the-mark : (p : ℕ) (h m : List ℕ) (n : ℕ) → M (act (arrive p h)) m .0 ≡ refused n
+pub refusal-but-the-mark : (p : ℕ) (h : Load) (m : List ℕ) (n : ℕ) → M (act (arrive p h)) m .0 ≡ refused n
     → ButTheMark (settingsIn m) p n m (M (act (arrive p h)) m .1)
 refusal-but-the-mark p h m n e = rw (refusal-marks-bytes p h m n e) (mark-leaves (settingsIn m) p n m)

@@ -11,7 +11,7 @@ use lib.ListN.{length, drop}
 use lib.Dec.{eqb}
 use Rattle.ledger.specs.Settings.{Settings, settings, inRows, ids, row, size}
 use Rattle.ledger.specs.Rules.{Rule, refuse, guard, Clear}
-use Rattle.ledger.specs.Header.{form, fieldsOf, price}
+use Rattle.ledger.specs.Header.{form, fieldsOf, price, Load, bytesIn}
 use Rattle.ledger.specs.Ledger.{owner, isNode, Packet, bare, recorded, Place, free, ingress, egress, prefetched, place#, column, portOf, Ledger}
 use Rattle.ledger.specs.Ledger.{listAt, arrivalOf, outwardOf, lastOf, mapOf, markOf, push, move, putCredit, putIn, start, arrival, outward, last, mapped}
 use Rattle.ledger.specs.Ledger.{halted, buckets, bucketAt, tall, change}
@@ -19,7 +19,8 @@ use Rattle.ledger.specs.Halt.{halts, marks}
 use Rattle.ledger.specs.Ready.{readyWord, pick}
 use Rattle.ledger.specs.Calls.{Act, arrive, stitch, prefetch, credit, mapTo, turn, ready, whereIs, Reply, refused, done, idle, isRefused, isEmpty}
 use Rattle.ledger.specs.Buckets.{Clock, untimed, at, waitOf, bucketOf, oneMore, bucket#}
-use Rattle.ledger.specs.Calls.{clear, report, bucket, firstOf, arriving, arrived, served, ticked, serve, turned, rules, result, markedFor, onRefusal, step}
+use Rattle.ledger.specs.Calls.{clear, report, bucket, show, firstOf, arriving, arrived, served, ticked}
+use Rattle.ledger.specs.Calls.{serve, turned, rules, result, markedFor, onRefusal, step}
 use Rattle.ledger.specs.Desk.{Desk, has, Call, setup, act, isArrivalCall, setupRules, desk}
 use Rattle.ledger.specs.Sound.{weigh, one, Proper, Orderly, Marked, Roomy}
 use Rattle.ledger.specs.Ledger.{Place·In}
@@ -115,7 +116,7 @@ module _ (S : Settings) (ok : Roomy S) (m : List ℕ) (s : StateOf S m) where
 
   -- ---- arrive
 
-  module _ (p : ℕ) (h : List ℕ) (a : Admits S L p h) where
+  module _ (p : ℕ) (h : Load) (a : Admits S L p h) where
     hp : p < S .ports
     hp = a .port
 
@@ -126,10 +127,10 @@ module _ (S : Settings) (ok : Roomy S) (m : List ℕ) (s : StateOf S m) where
     v-in = (hp, some-queue S ok L o)
 
     abbrev k : Packet
-    k = recorded S (headOf S m (free p)) (fieldsOf (form S) h)
+    k = recorded S (headOf S m (free p)) (fieldsOf (form S) (bytesIn h))
 
     k-is : arriving S L p h ≡ k
-    k-is = ap (λ (x : ℕ). recorded S x (fieldsOf (form S) h)) (first-free p v-in e)
+    k-is = ap (λ (x : ℕ). recorded S x (fieldsOf (form S) (bytesIn h))) (first-free p v-in e)
 
     k-node : k .node ≡ headOf S m (free p)
     unfolding recorded
@@ -381,6 +382,7 @@ module _ (S : Settings) (ok : Roomy S) (m : List ℕ) (s : StateOf S m) where
       record { kept = column-kept S ok m tidy-of halted p 0 hp; shows = column-paint S ok m tidy-of halted p 0 hp (omega arith) }
   painted (report p) c = same
   painted (bucket p b) c = same
+  painted (show ns p q) c = same
 
   -- a refusal writes what it changes of the ledger
   mark-painted : (p n : ℕ) → Painted (markMem S p n m) (markedFor S p n L)
@@ -415,6 +417,7 @@ module _ (S : Settings) (ok : Roomy S) (m : List ℕ) (s : StateOf S m) where
   refused-painted n (clear p) = same
   refused-painted n (report p) = same
   refused-painted n (bucket p b) = same
+  refused-painted n (show ns p q) = same
 
   -- so an act leaves what the desk's step leaves
   act-painted : (a : Act) → (acted S m a .0 ≡ step S L a .0) × Painted (acted S m a .1) (step S L a .1)
@@ -505,7 +508,7 @@ refusal-keeps-bytes (act a) m other = go (state-dec m)
     go (no n) = λ e. refl
 
 -- an arrival's writes the arriving port's mark, if it halts the port, and nothing else: on any memory, since what is no state is refused 3
-pub refusal-marks-bytes : (p : ℕ) (h m : List ℕ) (n : ℕ) → M (act (arrive p h)) m .0 ≡ refused n → M (act (arrive p h)) m .1 ≡ markMem (settingsIn m) p n m
+pub refusal-marks-bytes : (p : ℕ) (h : Load) (m : List ℕ) (n : ℕ) → M (act (arrive p h)) m .0 ≡ refused n → M (act (arrive p h)) m .1 ≡ markMem (settingsIn m) p n m
 unfolding M acted
 refusal-marks-bytes p h m n = go (state-dec m)
   where

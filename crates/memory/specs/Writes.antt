@@ -4,12 +4,12 @@ use mathlib.Core.List.{List}
 use Prim.Native.Nat.{ℕ, zero, suc, _+_, _-_}
 use lib.Dec.{eqb}
 use Rattle.ledger.specs.Settings.{Settings}
-use Rattle.ledger.specs.Header.{form, fieldsOf}
+use Rattle.ledger.specs.Header.{form, fieldsOf, bytesIn}
 use Rattle.ledger.specs.Ledger.{owner, Packet, recorded, Place, free, ingress, egress, prefetched, place#, cell, arrivalOf, outwardOf, lastOf, mapOf}
 use Rattle.ledger.specs.Ready.{readyWord, pick}
 use Rattle.ledger.specs.Halt.{marks}
 use Rattle.ledger.specs.Buckets.{Clock, untimed, at, waitOf, bucketOf, oneMore, bucket#}
-use Rattle.ledger.specs.Calls.{Act, arrive, stitch, prefetch, credit, mapTo, turn, ready, whereIs, clear, report, bucket}
+use Rattle.ledger.specs.Calls.{Act, arrive, stitch, prefetch, credit, mapTo, turn, ready, whereIs, clear, report, bucket, show}
 use Rattle.layout.specs.declared.Table.{Table}
 use Rattle.layout.specs.declared.Table.the-variants.{Mapped, Last, Halted, Arrival, Outward, Buckets, Head, Length, Stamp, Queue, Dest, Poisoned, Transaction}
 use Rattle.layout.specs.declared.Table.the-variants.{Price}
@@ -70,7 +70,7 @@ turnMem S c p w m =
 
 -- each act where no refusal applies
 abbrev pub write : Settings → List ℕ → Act → List ℕ
-write S m (arrive p h) = arriveMem S p (recorded S (headOf S m (free p)) (fieldsOf (form S) h)) m
+write S m (arrive p h) = arriveMem S p (recorded S (headOf S m (free p)) (fieldsOf (form S) (bytesIn h))) m
 write S m (stitch p) =
     let k = packetAt S m (headOf S m (ingress p)) in
     moveMem S (ingress p) (egress (mapOf (ledgerIn S m) (k .dest)) (k .queue)) m
@@ -83,6 +83,7 @@ write S m (whereIs y) = m
 write S m (clear p) = put S Halted p 0 m
 write S m (report p) = m
 write S m (bucket p b) = m
+write S m (show ns p q) = m
 
 -- memory with port p marked for refusal n, if it marks the port
 unfoldable pub markMem : Settings → ℕ → ℕ → List ℕ → List ℕ
@@ -101,3 +102,4 @@ refusedMem S n (whereIs y) m = m
 refusedMem S n (clear p) m = m
 refusedMem S n (report p) m = m
 refusedMem S n (bucket p b) m = m
+refusedMem S n (show ns p q) m = m

@@ -18,6 +18,7 @@ saidOf (word w n) = Done
 saidOf (found v i) = Done
 saidOf (reported n) = Done
 saidOf (counted n) = Done
+saidOf (part x n) = Done
 
 -- the line and the memory after a call
 abbrev pub carried : Reply × List ℕ → Said × List ℕ

@@ -20,6 +20,7 @@ numberIn (word w n) = 0
 numberIn (found v i) = 0
 numberIn (reported n) = 0
 numberIn (counted n) = 0
+numberIn (part x n) = 0
 
 -- what a call answers and leaves: the number and the memory
 abbrev pub told : Reply × List ℕ → ℕ × List ℕ
@@ -50,6 +51,7 @@ entryRoom (word w n) old = old
 entryRoom (found v i) old = old
 entryRoom (reported n) old = old
 entryRoom (counted n) old = old
+entryRoom (part x n) old = old
 
 -- ---- stitch: the ten bytes of the record
 
@@ -64,6 +66,7 @@ recordRoom (word w n) old = old
 recordRoom (found v i) old = old
 recordRoom (reported n) old = old
 recordRoom (counted n) old = old
+recordRoom (part x n) old = old
 
 -- ---- turn: sixteen bytes
 
@@ -90,6 +93,7 @@ sentRoom (word w n) old = old
 sentRoom (found v i) old = old
 sentRoom (reported n) old = old
 sentRoom (counted n) old = old
+sentRoom (part x n) old = old
 
 -- ---- ready: the word and the count
 
@@ -104,6 +108,7 @@ readyRoom (word w n) old = (w, n)
 readyRoom (found v i) old = old
 readyRoom (reported n) old = old
 readyRoom (counted n) old = old
+readyRoom (part x n) old = old
 
 -- ---- report: the mark
 
@@ -118,6 +123,7 @@ markRoom (word w n) old = old
 markRoom (found v i) old = old
 markRoom (reported n) old = n
 markRoom (counted n) old = old
+markRoom (part x n) old = old
 
 -- ---- bucket: what it counts
 
@@ -132,6 +138,7 @@ bucketRoom (word w n) old = old
 bucketRoom (found v i) old = old
 bucketRoom (reported n) old = old
 bucketRoom (counted n) old = n
+bucketRoom (part x n) old = old
 
 -- ---- find: the rule's number, 1 for (a) and so on, and the item; 0 and 0 where no rule is broken
 
