@@ -14,6 +14,7 @@ pub mod Door
 pub mod Order
 pub mod Night
 pub mod Tally
+pub mod Packets
 pub mod Audit
 pub mod Repair
 pub mod Answers
