@@ -1,7 +1,7 @@
 -- `packets::copy` meets its contract. The loop's invariant: the first i bytes are the packet's, and the others are as they were. Assumes nothing.
 use mathlib.Core.Path.{_≡_, refl, ap, sym, _∙_}
 use mathlib.Core.List.{List, _++_}
-use Prim.Native.Nat.{ℕ, suc, _-_, _≤_, _+_}
+use Prim.Native.Nat.{ℕ, _-_, _≤_, _+_}
 use native.Mathlib.Omega.{arith}
 use lib.ListN.{length, drop, take, set, getD, length-set}
 use lib.Seq.{take-all}

@@ -1,5 +1,5 @@
 -- `packets::part` meets its contract: the slot lies in the memory of the node's owner. Assumes nothing.
-use mathlib.Core.Path.{_≡_, sym, ap, ap₂, _∙_}
+use mathlib.Core.Path.{_≡_, ap, ap₂, _∙_}
 use mathlib.Core.List.{List}
 use Prim.Native.Nat.{ℕ, _*_}
 use native.Mathlib.Omega.{arith}
@@ -7,7 +7,6 @@ use borrow.Author.Needs.{needs}
 use denote.Ref.{RefT, now}
 use lib.ListN.{length}
 use Rattle.ledger.specs.Ledger.{owner}
-use Rattle.ledger.specs.Packets.{slotAt}
 use Rattle.packets.specs.Parts.{among, partOf}
 use Rattle.packets.proofs.Laws.{among-map}
 use Rattle.packets.proofs.part.Statement.{statement}
