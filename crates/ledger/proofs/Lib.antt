@@ -15,6 +15,7 @@ pub mod Start
 pub mod Repair
 pub mod Decide
 pub mod Promises
+pub mod Packets
 pub mod Courses
 pub mod Walk
 pub mod Line
