@@ -3,6 +3,7 @@ use mathlib.Core.Path.{_≡_}
 use mathlib.Core.List.{List}
 use Prim.Native.Nat.{ℕ, _+_, _≤_, _<_}
 use lib.ListN.{length, take, drop}
+use Rattle.ledger.specs.Header.{alone}
 use Rattle.ledger.specs.Buckets.{untimed}
 use Rattle.ledger.specs.Calls as act
 use Rattle.memory.specs.Runs.{Ask, does, bad, ended}
@@ -13,7 +14,7 @@ use Rattle.asks.specs.declared.Asked.the-variants.{Call, Bad, End}
 
 -- the act of a task, s being the fields that it was read in
 abbrev pub taskAct : List ℕ → Task → act.Act
-taskAct s (Arrive port at size) = act.arrive port (take size (drop at s))
+taskAct s (Arrive port at size) = act.arrive port (alone (take size (drop at s)))
 taskAct s (Stitch port) = act.stitch port
 taskAct s (Prefetch port queue) = act.prefetch port queue
 taskAct s (Turn port) = act.turn untimed port

@@ -3,6 +3,7 @@ use mathlib.Core.List.{List, []}
 use Prim.Native.Nat.{ℕ, _+_, _≤_, _<_}
 use lib.ListN.{take, drop}
 use Rattle.ledger.specs.Settings.{settings}
+use Rattle.ledger.specs.Header.{alone}
 use Rattle.ledger.specs.Buckets.{untimed}
 use Rattle.ledger.specs.Calls as act
 use Rattle.ledger.specs.Desk as desk
@@ -24,7 +25,7 @@ headerIn s (Map id port) = []
 -- the call of an order, h being its header
 abbrev pub callIn : Order → List ℕ → desk.Call
 callIn (Setup nodes beat slots credit) h = desk.setup (settings nodes beat slots credit)
-callIn (Arrive port at) h = desk.act (act.arrive port h)
+callIn (Arrive port at) h = desk.act (act.arrive port (alone h))
 callIn (Stitch port) h = desk.act (act.stitch port)
 callIn (Prefetch port queue) h = desk.act (act.prefetch port queue)
 callIn (Turn port) h = desk.act (act.turn untimed port)

@@ -7,7 +7,7 @@ use Prim.Native.Nat.{ℕ, _*_, _<_}
 use native.Mathlib.Omega.{arith}
 use lib.ListN.{length}
 use Rattle.ledger.specs.Settings.{Settings}
-use Rattle.ledger.specs.Header.{form, Load}
+use Rattle.ledger.specs.Header.{Load}
 use Rattle.ledger.specs.Ledger.{isNode, Packet, Place, place#, Ledger, markOf, Place·In}
 use Rattle.ledger.specs.Ready.{isReady, wordOf, countOf}
 use Rattle.ledger.specs.Buckets.{Clock}
@@ -19,8 +19,8 @@ use Rattle.ledger.specs.Night.{Arrival, PoolKept, AgreeAt, OwnMarkAlone, HaltLa
 use Rattle.ledger.proofs.Places.{place#-lt}
 use Rattle.ledger.proofs.Rows.{roomy}
 use Rattle.ledger.proofs.Find.{where-right}
-use Rattle.ledger.proofs.Passes.{Passes}
-use Rattle.ledger.proofs.Promises.{inside-outside, ready-counts, means-sound, Wanting, sound-arrival, OnePlace, each-in-one-place}
+use Rattle.ledger.proofs.Passes.{Comes, comes-clear}
+use Rattle.ledger.proofs.Promises.{inside-outside, ready-counts, Wanting, sound-arrival, OnePlace, each-in-one-place}
 use Rattle.ledger.proofs.Courses.{Faithful, act-answer, act-shows}
 use Rattle.ledger.proofs.Waits.{nobody-starves-from, ten-bytes-from}
 use Rattle.ledger.proofs.Order.{keeps-order}
@@ -138,14 +138,14 @@ module _ (m : List ℕ) (S : Settings) (L : Ledger) (e : picture m ≡ has S L) 
       → M (act (turn c p)) m .0 ≡ leaves k t → (k .queue ≡ 0 → t ≡ inside) × (0 < k .queue → t ≡ outside)
   memory-inside-outside c p k t i = inside-outside S ok L (s .orderly) c p k t (sym (on-state (turn c p)) ∙ i)
 
-  -- a header with no fault, at a port of the switch: turned away only for want of credit, which a halt is taken for, or of a node
-  pub memory-arrival : (p : ℕ) (h : Load) → p < S .ports → Passes (form S) (S .queues) p h
+  -- a sound arrival: turned away only for want of credit, which a halt is taken for, or of a node
+  pub memory-arrival : (p : ℕ) (h : Load) → Comes S p h
       → (N : Ledger) × (picture (M (act (arrive p h)) m .1) ≡ has S N) × Wanting S L p h (M (act (arrive p h)) m .0, N)
-  memory-arrival p h hp f = (
+  memory-arrival p h f = (
     step S L (arrive p h) .1,
     then-pictures (arrive p h),
     subst (λ (r : Reply). Wanting S L p h (r, step S L (arrive p h) .1)) (sym (on-state (arrive p h)))
-        (sound-arrival S L p h (means-sound S p h hp f)),
+        (sound-arrival S L p h (comes-clear S p h f)),
   )
 
 -- ---- on a memory that is no state every act is refused 3

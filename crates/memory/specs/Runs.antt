@@ -9,7 +9,7 @@ use lib.Dec.{eqb}
 use lib.ListN.{length, getD, take, drop}
 use Rattle.numbers.specs.Bytes.{number}
 use Rattle.ledger.specs.Settings.{Settings}
-use Rattle.ledger.specs.Header.{form, headerSize}
+use Rattle.ledger.specs.Header.{form, headerSize, alone}
 use Rattle.ledger.specs.Calls.{Act, arrive, ready}
 use Rattle.ledger.specs.Desk.{Desk, none, has, Call, setup, act, afterCalls, answersOf}
 use Rattle.ledger.specs.Rounds.{answerBytes, answersIn, runs, doneBy}
@@ -48,7 +48,7 @@ abbrev pub isOwn : ℕ → ℕ → ℕ → Bool
 isOwn size tag len = eqb tag 2 && eqb len (1 + size)
 
 abbrev pub ownArrival : ℕ → List ℕ → ℕ → Act
-ownArrival size s v = arrive (number 1 s v) (take size (drop (v + 1) s))
+ownArrival size s v = arrive (number 1 s v) (alone (take size (drop (v + 1) s)))
 
 abbrev pub wholeAsked : ℕ → List ℕ → ℕ → ℕ → ℕ → ℕ → Ask
 wholeAsked size s tag v len next = cond (isOwn size tag len) (does (ownArrival size s v) next) (ofBench s (wholeTold s tag v len next))

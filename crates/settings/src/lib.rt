@@ -1,7 +1,7 @@
 // The settings, as setup is told them and as a memory holds them, and the one test of their rows.
 ghost use mathlib.Core.Path.{_≡_};
 ghost use Prim.Native.Nat.{_<_};
-ghost use Rattle.ledger.specs.Settings.{settings, isBeat, portsIn, queuesIn, inRow, inRows, firstOut};
+ghost use Rattle.ledger.specs.Settings.{settings, isBeat, portsIn, queuesIn, packetsIn, inRow, inRows, firstOut};
 ghost use Rattle.settings.specs.Told.{toldSettings, between};
 
 // In their rows or not.
@@ -69,6 +69,16 @@ pub fn queues_in(edition: u32, queues: u32) -> bool
     between(2, queues, 64)
 }
 
+// And those that keep packets, or that don't.
+fn packets_in(edition: u32, packets: u32) -> bool
+    ensures { λ r. ⌜ r ≡ packetsIn edition packets ⌝ }
+{
+    if edition == 0 {
+        return packets <= 1;
+    }
+    packets == 0
+}
+
 // Whether setting i, in the order in which a memory has them, is in its row of the papers' table.
 fn in_row(told: Settings, i: usize) -> bool
     requires { ⌜ i < 8 ⌝ }
@@ -82,7 +92,7 @@ fn in_row(told: Settings, i: usize) -> bool
         4 => between(1, told.slots, 8),
         5 => told.credit <= 65535,
         6 => told.edition <= 1,
-        _ => told.packets == 0,
+        _ => packets_in(told.edition, told.packets),
     }
 }
 

@@ -1,5 +1,5 @@
 -- `settings::in_row` meets its contract: each arm is the row of its setting. Assumes nothing.
-use mathlib.Core.Path.{sym}
+use mathlib.Core.Path.{sym, _∙_}
 use borrow.Author.Needs.{needs}
 use Rattle.ledger.proofs.Rows.{row-last}
 use Rattle.settings.proofs.in_row.Statement.{statement}
@@ -29,13 +29,15 @@ returns-7 c = rw (c .before .match .keys7)
 returns-8 : tie.Need-returns-8
 returns-8 c =
     let n = c .before .match .rest in
-    sym (row-last _ (c .before .before .args .i) (n .0 .0 .0 .0 .0 .0 .1) (n .0 .0 .0 .0 .0 .1) (n .0 .0 .0 .0 .1)
+    c .packets-in .ensures
+    ∙ sym (row-last _ (c .before .before .args .i) (n .0 .0 .0 .0 .0 .0 .1) (n .0 .0 .0 .0 .0 .1) (n .0 .0 .0 .0 .1)
     (n .0 .0 .0 .1) (n .0 .0 .1) (n .0 .1) (n .1))
 
 pub in-row-spec : {M : Type 1} → statement M
 in-row-spec =
     tie.close
     (tie.spec
+    (λ c κs. search needs)
     (λ c κs. search needs)
     (λ c κs. search needs)
     (λ c κs. search needs)
