@@ -17,6 +17,7 @@ pub mod Decide
 pub mod Promises
 pub mod Packets
 pub mod Courses
+pub mod Slots
 pub mod Walk
 pub mod Line
 pub mod Words
