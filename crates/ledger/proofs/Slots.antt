@@ -22,7 +22,7 @@ use Rattle.ledger.specs.Order.{idsAt}
 use Rattle.ledger.specs.Packets.{slotAt, bytesAt, stored, keptIn, Memories, Sized, packet, brings, keeps, slotOf, StoredAt, NotFree, SlotsStay}
 use Rattle.ledger.proofs.Tests.{eqb-yes, eqb-is}
 use Rattle.ledger.proofs.Lists.{cons-form}
-use Rattle.ledger.proofs.Packets.{KeptWithin, kept-within}
+use Rattle.ledger.proofs.Packets.{FromPool, KeptWithin, kept-within}
 use Rattle.ledger.proofs.Courses.{Faithful, act-answer, desk-faithful}
 
 -- ---- bytes stored in any list
@@ -164,13 +164,11 @@ kept-by P b k (part x n) f g = f
 -- ---- no call writes the slot of a node that isn't free
 
 -- nor takes such a node
-pub not-taken : (S : Settings) (L : Ledger) (p n : ℕ) (b : List ℕ) (x y : ℕ) → KeptWithin S L p n b x → NotFree S L y → y ≢ x
-not-taken S L p n b x y w nf i =
-    let home : owner y ≡ p = ap owner i ∙ w .own in
-    let ids : idsAt S L (free (owner y)) ≡ map (λ k. k .node) (firstOf S L (free p) ∷ drop 1 (listAt S L (free p))) =
-    ap (λ (o : ℕ). idsAt S L (free o)) home ∙ ap (map (λ (k : Packet). k .node)) (cons-form (listAt S L (free p)) (w .some)) in
-    let a = rw ids at nf in
-    a .0 (w .oldest ∙ sym i)
+pub not-taken : (S : Settings) (L : Ledger) (x y : ℕ) → FromPool S L x → NotFree S L y → y ≢ x
+not-taken S L x y f nf i =
+    let a : NotFree S L x = subst (NotFree S L) i nf in
+    let c = rw (f .1) at a in
+    c .0 refl
 
 either-way : {A : Type 0} (t : Bool) (a : A) → cond t a a ≡ a
 either-way true a = refl
@@ -206,7 +204,7 @@ module _ (S : Settings) (ok : Roomy S) (L : Ledger) (s : Orderly S L) (ks : Memo
   pub act-stays : (y : ℕ) → isNode S y ≡ true → NotFree S L y → (a : Act) → slotOf (keeps (brings a) (step S L a .0) ks) y ≡ slotOf ks y
   act-stays y node nf =
       act-leaves (owner y) (λ k. bytesAt (slotAt y) slotBytes k ≡ slotOf ks y) refl
-      (λ p n b x w. stored-at S L p n b x w ks sized .others y node (not-taken S L p n b x y w nf))
+      (λ p n b x w. stored-at S L p n b x w ks sized .others y node (not-taken S L x y (w .was-free) nf))
 
 -- on whatever answers and shows as the desk does
 
