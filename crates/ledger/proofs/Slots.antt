@@ -3,7 +3,7 @@
 use mathlib.Core.Path.{_≡_, refl, sym, ap, _∙_, subst}
 use mathlib.Core.Logic.{_≢_, _⊎_, inl, inr}
 use mathlib.Core.Bool.{Bool, true, false, cond}
-use mathlib.Core.List.{List, _∷_, _++_, append-assoc, map}
+use mathlib.Core.List.{List, _++_, append-assoc}
 use Prim.Native.Nat.{ℕ, _+_, _-_, _*_, _≤_}
 use native.Mathlib.Decide.{decLe}
 use native.Mathlib.Omega.{arith}
@@ -13,15 +13,13 @@ use lib.Seq.{length-paste, drop-paste}
 use lib.Dec.{eqb}
 use Rattle.ledger.specs.Settings.{Settings, slotBytes, packetRoom}
 use Rattle.ledger.specs.Header.{alone, whole}
-use Rattle.ledger.specs.Ledger.{owner, index, isNode, Packet, free, Ledger, listAt}
+use Rattle.ledger.specs.Ledger.{owner, index, isNode, Ledger}
 use Rattle.ledger.specs.Calls.{Act, arrive, stitch, prefetch, credit, mapTo, turn, ready, whereIs, clear, report, bucket, show}
-use Rattle.ledger.specs.Calls.{Reply, refused, done, entry, stitched, idle, leaves, word, found, reported, counted, part, firstOf, step}
+use Rattle.ledger.specs.Calls.{Reply, refused, done, entry, stitched, idle, leaves, word, found, reported, counted, part, step}
 use Rattle.ledger.specs.Desk.{Desk, has, Call, setup, act, desk}
 use Rattle.ledger.specs.Sound.{Orderly, Roomy}
-use Rattle.ledger.specs.Order.{idsAt}
 use Rattle.ledger.specs.Packets.{slotAt, bytesAt, stored, keptIn, Memories, Sized, packet, brings, keeps, slotOf, StoredAt, NotFree, SlotsStay}
 use Rattle.ledger.proofs.Tests.{eqb-yes, eqb-is}
-use Rattle.ledger.proofs.Lists.{cons-form}
 use Rattle.ledger.proofs.Packets.{FromPool, KeptWithin, kept-within}
 use Rattle.ledger.proofs.Courses.{Faithful, act-answer, desk-faithful}
 
