@@ -17,7 +17,6 @@ pub mod Decide
 pub mod Promises
 pub mod Packets
 pub mod Courses
-pub mod Slots
 pub mod Walk
 pub mod Line
 pub mod Words
@@ -27,6 +26,8 @@ pub mod Ingress
 pub mod Door
 pub mod Order
 pub mod Records
+pub mod Slots
+pub mod ShownAsArrived
 pub mod Night
 pub mod Halted
 pub mod Tally

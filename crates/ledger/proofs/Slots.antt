@@ -14,12 +14,12 @@ use lib.Dec.{eqb}
 use Rattle.ledger.specs.Settings.{Settings, slotBytes, packetRoom}
 use Rattle.ledger.specs.Header.{alone, whole}
 use Rattle.ledger.specs.Ledger.{owner, index, isNode, Ledger}
-use Rattle.ledger.specs.Calls.{Act, arrive, stitch, prefetch, credit, mapTo, turn, ready, whereIs, clear, report, bucket, show}
-use Rattle.ledger.specs.Calls.{Reply, refused, done, entry, stitched, idle, leaves, word, found, reported, counted, part, step}
+use Rattle.ledger.specs.Calls.{Act, arrive, stitch, prefetch, credit, mapTo, turn, ready, whereIs, clear, report, bucket, show, Reply, entry, step}
 use Rattle.ledger.specs.Desk.{Desk, has, Call, setup, act, desk}
 use Rattle.ledger.specs.Sound.{Orderly, Roomy}
-use Rattle.ledger.specs.Packets.{slotAt, bytesAt, stored, keptIn, Memories, Sized, packet, brings, keeps, slotOf, StoredAt, NotFree, SlotsStay}
+use Rattle.ledger.specs.Packets.{slotAt, bytesAt, stored, Memories, Sized, packet, brings, keeps, slotOf, StoredAt, NotFree, SlotsStay}
 use Rattle.ledger.proofs.Tests.{eqb-yes, eqb-is}
+use Rattle.ledger.proofs.Order.{named-by}
 use Rattle.ledger.proofs.Packets.{FromPool, KeptWithin, kept-within}
 use Rattle.ledger.proofs.Courses.{Faithful, act-answer, desk-faithful}
 
@@ -144,21 +144,6 @@ module _ (S : Settings) (L : Ledger) (p n : ℕ) (b : List ℕ) (y : ℕ) (w : K
       same-node : (z : ℕ) → owner z ≡ owner y → index z ≡ index y → z ≡ y
       same-node z e j = omega arith
 
--- ---- every answer: what an arrival that is answered with no entry id leaves is what was there
-
-kept-by : (P : List ℕ → Type 0) (b k : List ℕ) (r : Reply) → P k → ((x : ℕ) → r ≡ entry x → P (stored (slotAt x) b k)) → P (keptIn r b k)
-kept-by P b k (refused n) f g = f
-kept-by P b k done f g = f
-kept-by P b k (entry x) f g = g x refl
-kept-by P b k (stitched c) f g = f
-kept-by P b k idle f g = f
-kept-by P b k (leaves j t) f g = f
-kept-by P b k (word v n) f g = f
-kept-by P b k (found v i) f g = f
-kept-by P b k (reported n) f g = f
-kept-by P b k (counted n) f g = f
-kept-by P b k (part x n) f g = f
-
 -- ---- no call writes the slot of a node that isn't free
 
 -- nor takes such a node
@@ -179,9 +164,12 @@ module _ (S : Settings) (ok : Roomy S) (L : Ledger) (s : Orderly S L) (ks : Memo
       → (a : Act) → P (keeps (brings a) (step S L a .0) ks o)
   act-leaves o P f g (arrive p (alone h)) = f
   act-leaves o P f g (arrive p (whole n b)) =
-      kept-by (λ j. P (cond (eqb o p) j (ks o))) b (ks o) (step S L (arrive p (whole n b)) .0)
-      (rw (either-way (eqb o p) (ks o)) f)
+      let k : List ℕ = ks o in
+      let none : P (cond (eqb o p) k k) = rw (either-way (eqb o p) k) f in
+      named-by (λ j. P (cond (eqb o p) j k)) k (λ x. stored (slotAt x) b k) (λ c. k) (λ j. k) (step S L (arrive p (whole n b)) .0) none
       (λ x e. g p n b x (kept-within S ok L s p n b x e))
+      (λ c. none)
+      (λ j t e. none)
   act-leaves o P f g (stitch p) = f
   act-leaves o P f g (prefetch p q) = f
   act-leaves o P f g (credit p q n) = f
