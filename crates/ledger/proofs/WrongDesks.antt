@@ -13,8 +13,8 @@ use Rattle.numbers.specs.Fields.{bits}
 use Rattle.crc.specs.Crc.{crcBit, crcBits, crcByte, crcFrom, crc8}
 use Rattle.ledger.specs.Settings.{Settings, tenBytes, settings, slotBytes, packetRoom, row}
 use Rattle.ledger.specs.Header.{widthOf, formOf, frontBits, frontBytes, spare, bodySize, headerSize, leastLength, fieldsOf, price, Load, alone, whole}
-use Rattle.ledger.specs.Ledger.{owner, isNode, Packet, bare, recorded, free, prefetched, place#, placeOf, cell, creditAt, setCredit, Ledger, arrival, halted}
-use Rattle.ledger.specs.Ledger.{buckets, markOf, bucketAt, pop, push, move, change, putIn, start}
+use Rattle.ledger.specs.Ledger.{owner, isNode, Packet, bare, recorded, free, prefetched, place#, placeOf, cell, creditAt, setCredit, Ledger, arrival}
+use Rattle.ledger.specs.Ledger.{halted, buckets, markOf, bucketAt, pop, push, move, change, putIn, start}
 use Rattle.ledger.specs.Halt.{halts, marks, heldUp}
 use Rattle.ledger.specs.Calls.{Act, arrive, stitch, prefetch, credit, mapTo, turn, ready, whereIs, Side, outside, Reply, refused, done, entry}
 use Rattle.ledger.specs.Buckets.{untimed, at, waitOf, bucketOf, bucket#}
