@@ -1,19 +1,23 @@
 -- The laws of a header's fields and of its price. Assumes nothing.
-use mathlib.Core.Path.{_≡_, refl}
+use mathlib.Core.Path.{_≡_, refl, ap₂}
 use mathlib.Core.Bool.{Bool, true, false, cond}
 use mathlib.Core.List.{List}
 use Prim.Native.Nat.{ℕ, zero, suc, _+_, _*_, _-_, _/_, _^_, _≤_, _<_}
 use native.Mathlib.Nat.{pow-suc, div-add-mod', div-lt-iff-lt-mul, le-of-suc-le-suc, mod-lt}
 use native.Mathlib.Omega.{arith}
 use native.Mathlib.Decide.{decLe}
+use lib.ListN.{take}
+use lib.Seq.{getD-take, take-take}
 use lib.Count.{leadingZeros, leading-top}
 use lib.Pow.{pow-mono}
 use lib.Dec.{eqb}
 use Rattle.numbers.specs.Bytes.{number}
-use Rattle.numbers.proofs.Bytes.{number-lt}
+use Rattle.numbers.specs.Fields.{unpack}
+use Rattle.numbers.proofs.Bytes.{number-lt, number-same}
 use Rattle.numbers.proofs.Fields.{bits-lt}
 use Rattle.ledger.specs.Settings.{Settings, tenBytes, ids}
-use Rattle.ledger.specs.Header.{Form, Narrow, widthOf, formOf, form, frontBits, frontBytes, spare, bodySize, headerSize, leastLength, fieldsOf, price}
+use Rattle.ledger.specs.Header.{Form, Narrow, widthOf, formOf, form, frontBits, frontBytes, spare, widths, bodySize, headerSize, leastLength}
+use Rattle.ledger.specs.Header.{inOrder, fieldsOf, price}
 use Rattle.ledger.specs.Sound.{Roomy}
 
 -- every field is as small as its width says, whatever the bytes are
@@ -45,6 +49,20 @@ fields-in F h =
       transaction = bits-lt _ 8 n;
       check = number-lt 1 h (bodySize F);
     }
+
+-- what a packet's first bytes say, its header, is all that is read of it
+pub fields-front : (F : Form) (b : List ℕ) → fieldsOf F (take (headerSize F) b) ≡ fieldsOf F b
+unfolding fieldsOf headerSize
+fields-front F b =
+    ap₂ (λ (n c : ℕ). inOrder (unpack (widths F) n) c) (front (bodySize F) 0 (omega arith)) (front 1 (bodySize F) (omega arith))
+  where
+    front : (k at : ℕ) → at + k ≤ bodySize F + 1 → number k (take (bodySize F + 1) b) at ≡ number k b at
+    front k at h = number-same k (take (bodySize F + 1) b) b at (λ i low high. getD-take (bodySize F + 1) b i 0 (omega arith))
+
+-- and what is summed of it
+pub body-front : (F : Form) (b : List ℕ) → take (bodySize F) (take (headerSize F) b) ≡ take (bodySize F) b
+unfolding headerSize
+body-front F b = take-take (bodySize F) (bodySize F + 1) b (omega arith)
 
 -- ---- how wide a port and a queue are
 

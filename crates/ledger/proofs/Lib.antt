@@ -15,6 +15,7 @@ pub mod Start
 pub mod Repair
 pub mod Decide
 pub mod Promises
+pub mod Packets
 pub mod Courses
 pub mod Walk
 pub mod Line
@@ -25,6 +26,8 @@ pub mod Ingress
 pub mod Door
 pub mod Order
 pub mod Records
+pub mod Slots
+pub mod ShownAsArrived
 pub mod Night
 pub mod Halted
 pub mod Tally

@@ -2,7 +2,7 @@
 use mathlib.Core.Path.{_≡_, refl, sym, ap, subst}
 use mathlib.Core.Logic.{_≢_}
 use mathlib.Core.Bool.{false}
-use mathlib.Core.List.{List, [], _∷_, _++_}
+use mathlib.Core.List.{List, [], _∷_, _++_, map}
 use Prim.Native.Nat.{ℕ, zero, suc, _+_, _≤_, _<_, zero-le, suc-le-suc}
 use native.Mathlib.Nat.{not-suc-le-zero, le-of-suc-le-suc}
 use native.Mathlib.Omega.{arith}
@@ -112,6 +112,11 @@ pub All-at : {A : Type 0} (P : A → Type 0) (xs : List A) (d : A) → All P xs 
 All-at P [] d a i h = absurd (not-suc-le-zero h)
 All-at P (x ∷ xs) d a zero h = a .0
 All-at P (x ∷ xs) d a (suc i) h = All-at P xs d (a .1) i (le-of-suc-le-suc h)
+
+-- what holds of every node of a list holds of its entry ids
+pub All-ids : (P : ℕ → Type 0) (ks : List Packet) → All (λ k. P (k .node)) ks → All P (map (λ k. k .node) ks)
+All-ids P [] a = tt
+All-ids P (k ∷ ks) a = (a .0, All-ids P ks (a .1))
 
 pub everywhere-map : {P R : ℕ → Packet → Type 0} (ls : List (List Packet)) → ((l : ℕ) (k : Packet) → P l k → R l k) → Everywhere P ls → Everywhere R ls
 everywhere-map ls f e = record { holds = λ l h. All-map (getD ls l []) (f l) (e .holds l h) }

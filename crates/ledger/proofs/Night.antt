@@ -20,7 +20,7 @@ use Rattle.ledger.specs.Order.{isFree}
 use Rattle.ledger.specs.Night.{TakenIn, Arrival, turned-away, taken, away, awayFrom, PoolKept}
 use Rattle.ledger.proofs.Tests.{ltb-is, ltb-not, eqb-is, eqb-not}
 use Rattle.ledger.proofs.Lists.{cons-form, sum-ones, weigh-only, weigh-plus, weigh-cong, weigh-none, All-map, All-of, everywhere-map}
-use Rattle.ledger.proofs.Lists.{at-push-other, at-pop-other}
+use Rattle.ledger.proofs.Lists.{All-ids, at-push-other, at-pop-other}
 use Rattle.ledger.proofs.Places.{place-of, place-number, row-div, row-mod, Node, node-is}
 use Rattle.ledger.proofs.Keep.{some-queue, nodes, first-fits, from-moved, to-moved, lowered}
 use Rattle.ledger.proofs.Halt as halt
@@ -217,13 +217,9 @@ module _ {X : Type 0} (call : X → Call → Reply × X) (shows : X → Desk) (l
         ledger = o .ledger;
         shown = o .shown;
         in-order = o .in-order;
-        own = own-ids (listAt S (o .ledger) (free p)) (home-only S ok (o .ledger) t p hp);
+        own = All-ids (λ y. owner y ≡ p) (listAt S (o .ledger) (free p)) (home-only S ok (o .ledger) t p hp);
         whole = rw (length-map (listAt S (o .ledger) (free p)) (λ (k : Packet). k .node)) (free-and-away S ok (o .ledger) t p hp);
       }
-    where
-      own-ids : (ks : List Packet) → All (λ k. owner (k .node) ≡ p) ks → All (λ y. owner y ≡ p) (map (λ k. k .node) ks)
-      own-ids [] a = tt
-      own-ids (k ∷ ks) a = (a .0, own-ids ks (a .1))
 
 pub desk-pool-kept : (n : ℕ) (S : Settings) → Roomy S → (L : Ledger) → Orderly S L → (p : ℕ) → p < S .ports
     → (cs : List Call) → SetupsRefused (desk n) (has S L) cs → PoolKept (desk n) (λ D. D) S L p (has S L) cs

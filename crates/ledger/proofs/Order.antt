@@ -14,12 +14,13 @@ use Rattle.ledger.specs.Rules.{Clear}
 use Rattle.ledger.specs.Ledger.{owner, Packet, bare, recorded, Place, free, ingress, egress, prefetched, portOf, Ledger, listAt, lastOf, mapOf}
 use Rattle.ledger.specs.Ledger.{move, mapped, change, Place·In, kindIn, queueIn}
 use Rattle.ledger.specs.Ready.{readyWord, pick}
-use Rattle.ledger.specs.Calls.{Act, arrive, stitch, prefetch, credit, mapTo, turn, ready, whereIs, Reply, refused, idle, isEmpty, firstOf}
+use Rattle.ledger.specs.Calls.{Act, arrive, stitch, prefetch, credit, mapTo, turn, ready, whereIs, Side, Reply, refused, done, entry, stitched}
+use Rattle.ledger.specs.Calls.{idle, leaves, word, found, reported, counted, part, isEmpty, firstOf}
 use Rattle.ledger.specs.Buckets.{Clock}
 use Rattle.ledger.specs.Calls.{clear, report, bucket, show, stitchRecord, arriving, arrived, served, serve, rules, result, step, run, onRefusal}
 use Rattle.ledger.specs.Desk.{Desk, has, Call, setup, act, desk, answersOf, SetupsRefused}
 use Rattle.ledger.specs.Sound.{Orderly, Roomy}
-use Rattle.ledger.specs.Order.{samePlace, Movement, stays, moves, movement, cameBy, leftBy, cameTo, leftFrom, idsAt}
+use Rattle.ledger.specs.Order.{samePlace, named, Movement, stays, moves, movement, cameBy, leftBy, cameTo, leftFrom, idsAt}
 use Rattle.ledger.specs.Order.{FirstInFirstOut, KeepsOrder}
 use Rattle.ledger.proofs.Header.{dest-mapped}
 use Rattle.ledger.proofs.Tests.{true≢false, leb-no, eqb-yes, eqb-is, and-left, and-right}
@@ -57,8 +58,24 @@ same-yes u v e =
     let q = by-parts v in
     cc
 
-same-self : (u : Place) → samePlace u u ≡ true
+pub same-self : (u : Place) → samePlace u u ≡ true
 same-self u = rw (eqb-is (kindIn u) (kindIn u) refl, eqb-is (portOf u) (portOf u) refl, eqb-is (queueIn u) (queueIn u) refl)
+
+-- ---- what an answer names: what holds of each case holds of it
+
+pub named-by : {A : Type 0} (P : A → Type 0) (no′ : A) (e : ℕ → A) (s : List ℕ → A) (l : Packet → A) (r : Reply)
+    → P no′ → ((x : ℕ) → r ≡ entry x → P (e x)) → ((b : List ℕ) → P (s b)) → ((k : Packet) (t : Side) → r ≡ leaves k t → P (l k)) → P (named no′ e s l r)
+named-by P no′ e s l (refused n) f g h i = f
+named-by P no′ e s l done f g h i = f
+named-by P no′ e s l (entry x) f g h i = g x refl
+named-by P no′ e s l (stitched b) f g h i = h b
+named-by P no′ e s l idle f g h i = f
+named-by P no′ e s l (leaves k t) f g h i = i k t refl
+named-by P no′ e s l (word w n) f g h i = f
+named-by P no′ e s l (found v j) f g h i = f
+named-by P no′ e s l (reported n) f g h i = f
+named-by P no′ e s l (counted n) f g h i = f
+named-by P no′ e s l (part x n) f g h i = f
 
 -- ---- what stood and what came is what left and what stands
 
@@ -195,7 +212,7 @@ module _ (S : Settings) (ok : Roomy S) (L : Ledger) (s : Orderly S L) where
   refused-moved : (a : Act) (n : ℕ) → Moved (movement a (refused n)) (onRefusal S n a L)
   refused-moved a n = rw (refused-stays a n, refused-lists S n a L) unmoved
 
-  act-moved : (a : Act) → Moved (movement a (step S L a .0)) (step S L a .1)
+  pub act-moved : (a : Act) → Moved (movement a (step S L a .0)) (step S L a .1)
   act-moved a =
       stepped S L a (λ out. Moved (movement a (out .0)) (out .1)) (refused-moved a) (result-moved a)
 

@@ -55,10 +55,10 @@ pub record Passes (F : Form) (n p : ℕ) (h : Load) : Type 0 where
   pub counted : miscounted F h ≡ false
   pub queue : fieldsOf F (bytesIn h) .queue < n
 
-same : (a b : ℕ) → not (eqb a b) ≡ false → a ≡ b
+pub same : (a b : ℕ) → not (eqb a b) ≡ false → a ≡ b
 same a b e = eqb-yes a b (not-yes (eqb a b) e)
 
-not-other : (a b : ℕ) → a ≡ b → not (eqb a b) ≡ false
+pub not-other : (a b : ℕ) → a ≡ b → not (eqb a b) ≡ false
 not-other a b e = ap not (eqb-is a b e)
 
 module _ (F : Form) (n p : ℕ) (h : Load) where

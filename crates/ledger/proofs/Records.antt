@@ -12,6 +12,7 @@ use lib.Dec.{eqb}
 use Rattle.numbers.specs.Bytes.{number}
 use Rattle.ledger.specs.Settings.{Settings}
 use Rattle.ledger.specs.Rules.{Clear}
+use Rattle.ledger.specs.Header.{Load}
 use Rattle.ledger.specs.Ledger.{owner, isNode, Packet, bare, recorded, Place, free, ingress, egress, prefetched, place#, placeOf, Ledger, listAt}
 use Rattle.ledger.specs.Ledger.{lastOf, mapOf, pop, move, mapped, change, Place·In}
 use Rattle.ledger.specs.Ready.{bit, readyWord, pick}
@@ -25,15 +26,16 @@ use Rattle.ledger.specs.Sound.{All, Everywhere, sum, weigh, one, Proper,
 use Rattle.ledger.specs.Order.{isFree, gathered, heldFrom, held, broughtBy, broughtIn, Latest, Tells, GoesAlong}
 use Rattle.ledger.proofs.Header.{dest-mapped}
 use Rattle.ledger.proofs.Tests.{true≢false, leb-no, eqb-is}
-use Rattle.ledger.proofs.Lists.{sum-append, weigh-pop, length-pop, nowhere, All-map, All-of, All-append, All-split, All-front, everywhere-both}
-use Rattle.ledger.proofs.Lists.{everywhere-pop, everywhere-push}
+use Rattle.ledger.proofs.Lists.{sum-append, weigh-pop, length-pop, nowhere, All-map, All-of, All-append, All-split, All-front, everywhere-map}
+use Rattle.ledger.proofs.Lists.{everywhere-both, everywhere-pop, everywhere-push}
 use Rattle.ledger.proofs.Places.{place-number, bit-le}
 use Rattle.ledger.proofs.Keep.{some-queue, len, first-fits, first-node}
-use Rattle.ledger.proofs.Passes.{admits}
+use Rattle.ledger.proofs.Passes.{Admits, admits}
 use Rattle.ledger.proofs.Buckets.{ticked-lists}
 use Rattle.ledger.proofs.Steps.{picked-some, keep-step, keep-run, stepped, refused-lists}
 use Rattle.ledger.proofs.Order.{node-small}
 use Rattle.ledger.proofs.Promises.{turn-sends}
+use Rattle.ledger.proofs.Packets.{FromPool, from-pool}
 use Rattle.ledger.proofs.Courses.{actsIn, Faithful, act-answer, act-shows, refused-shows, calls-show, desk-faithful}
 
 -- ---- the latest of its node
@@ -47,7 +49,7 @@ latest-last : (k : Packet) (xs : List Packet) → Latest k (xs ++ (k ∷ []))
 latest-last k [] = inl (refl, tt)
 latest-last k (x ∷ xs) = inr (latest-last k xs)
 
-none-of : (y : ℕ) (xs : List Packet) → sum (one y 0) xs ≡ 0 → All (λ i. i .node ≢ y) xs
+pub none-of : (y : ℕ) (xs : List Packet) → sum (one y 0) xs ≡ 0 → All (λ i. i .node ≢ y) xs
 none-of y [] h = tt
 none-of y (x ∷ xs) h = ((λ e. let o = ap bit (eqb-is (x .node) y e) in omega arith), none-of y xs (omega arith))
 
@@ -134,36 +136,42 @@ module _ (S : Settings) where
       subst (λ (n : ℕ). All (λ k. isFree (placeOf S n) ≡ false → P k) (getD ls i [])) e
       (all-held P (suc l) ls (All-split P (cond (isFree (placeOf S l)) [] ks) (heldFrom S (suc l) ls) a .1) i (le-of-suc-le-suc h))
 
--- ---- one act: where every packet that is held is the latest of its node in a list, it is so after the act, in that list and what was brought in
+-- ---- one act: what holds of every packet that is held before it holds after it
 
-module _ (S : Settings) (ok : Roomy S) where
-  abbrev Holds : List Packet → Ledger → Type 0
-  Holds known L = Everywhere (λ l k. isFree (placeOf S l) ≡ false → Latest k known) (L .lists)
+abbrev pub Holds : Settings → (Packet → Type 0) → Ledger → Type 0
+Holds S P L = Everywhere (λ l k. isFree (placeOf S l) ≡ false → P k) (L .lists)
 
-  module _ (known : List Packet) (L : Ledger) (s : Orderly S L) (e : Holds known L) where
-    first-latest : (v : Place) → Place·In S v → isEmpty (listAt S L v) ≡ false → isFree v ≡ false → Latest (firstOf S L v) known
-    first-latest v hv some busy =
-        All-front (λ k. isFree (placeOf S (place# S v)) ≡ false → Latest k known) (listAt S L v) some (e .holds (place# S v) (len S ok L s v hv))
-        (ap isFree (place-number S v hv) ∙ busy)
+module _ (S : Settings) (ok : Roomy S) (P : Packet → Type 0) (L : Ledger) (s : Orderly S L) (e : Holds S P L) where
+  pub first-holds : (v : Place) → Place·In S v → isEmpty (listAt S L v) ≡ false → isFree v ≡ false → P (firstOf S L v)
+  first-holds v hv some busy =
+      All-front (λ k. isFree (placeOf S (place# S v)) ≡ false → P k) (listAt S L v) some (e .holds (place# S v) (len S ok L s v hv))
+      (ap isFree (place-number S v hv) ∙ busy)
+
+  -- Q holds after it: of a packet that P held of, if its node is none of those brought in; and of what is brought in, which was free
+  module _ (Q : Packet → Type 0) where
+    abbrev Carries : List Packet → Type 0
+    Carries ks = (j : Packet) → All (λ i. i .node ≢ j .node) ks → P j → Q j
+
+    abbrev TakesIn : List Packet → Type 0
+    TakesIn ks = (k : Packet) → ks ≡ k ∷ [] → FromPool S L (k .node) → Q k
 
     module _ (v w : Place) (hv : Place·In S v) (hw : Place·In S w) (k : Packet) where
       abbrev taken : List (List Packet)
       taken = pop (place# S v) (L .lists)
 
-      put-on : (more : List Packet) → Everywhere (λ l j. isFree (placeOf S l) ≡ false → Latest j more) taken → (isFree w ≡ false → Latest k more)
-          → Holds more (move S v w k L)
+      put-on : Everywhere (λ l j. isFree (placeOf S l) ≡ false → Q j) taken → (isFree w ≡ false → Q k) → Holds S Q (move S v w k L)
       unfolding move
-      put-on more f good =
+      put-on f good =
           everywhere-push (place# S w) k taken (omega (arith, length-pop (place# S v) (L .lists), len S ok L s w hw)) f
           (λ b. good (ap isFree (sym (place-number S w hw)) ∙ b))
 
       -- a packet goes on
-      moved : (isFree w ≡ false → Latest k known) → Holds known (move S v w k L)
-      moved good = put-on known (everywhere-pop (place# S v) (L .lists) (len S ok L s v hv) e) good
+      moved : Carries [] → (isFree w ≡ false → Q k) → Holds S Q (move S v w k L)
+      moved f good = put-on (everywhere-map taken (λ l j g b. f j tt (g b)) (everywhere-pop (place# S v) (L .lists) (len S ok L s v hv) e)) good
 
       -- a packet comes in, for a node that stands nowhere else
-      brought : isEmpty (listAt S L v) ≡ false → k .node ≡ firstOf S L v .node → Holds (known ++ (k ∷ [])) (move S v w k L)
-      brought some same =
+      brought : isEmpty (listAt S L v) ≡ false → k .node ≡ firstOf S L v .node → Carries (k ∷ []) → Q k → Holds S Q (move S v w k L)
+      brought some same f good =
           let gone : weigh (one (k .node)) taken ≡ 0 =
           omega (
             arith,
@@ -172,60 +180,66 @@ module _ (S : Settings) (ok : Roomy S) where
             s .once (k .node),
             bit-le (isNode S (k .node)),
           ) in
-          put-on (known ++ (k ∷ []))
-          (everywhere-both taken (λ l j n g b. latest-more j known (k ∷ []) ((λ i. n (sym i)), tt) (g b)) (nowhere (k .node) taken gone)
+          put-on
+          (everywhere-both taken (λ l j n g b. f j ((λ i. n (sym i)), tt) (g b)) (nowhere (k .node) taken gone)
           (everywhere-pop (place# S v) (L .lists) (len S ok L s v hv) e))
-          (λ b. latest-last k known)
+          (λ b. good)
 
-    -- the same with nothing brought in
-    nothing-in : (N : Ledger) → Holds known N → Holds (known ++ []) N
-    nothing-in N h = rw (append-nil known) h
+    -- nothing moves
+    same-lists : Carries [] → Holds S Q L
+    same-lists f = everywhere-map (L .lists) (λ l j g b. f j tt (g b)) e
 
-    served-holds : (c : Clock) (p q : ℕ) → p < S .ports → q < S .queues → isEmpty (listAt S L (prefetched p q)) ≡ false → Holds known (serve S L c p q .1)
+    served-holds : (c : Clock) (p q : ℕ) → p < S .ports → q < S .queues → isEmpty (listAt S L (prefetched p q)) ≡ false → Carries []
+        → Holds S Q (serve S L c p q .1)
     unfolding served change
-    served-holds c p q hp hq some =
+    served-holds c p q hp hq some f =
         let k : Packet = firstOf S L (prefetched p q) in
         rw (ticked-lists c p k (served S L p q k))
         (moved (prefetched p q) (free (owner (k .node))) (hp, hq) (first-node S ok L s (prefetched p q) (hp, hq) some .home, some-queue S ok L s)
-        (bare (k .node)) (λ b. absurd (true≢false b)))
+        (bare (k .node)) f (λ b. absurd (true≢false b)))
 
-    result-holds : (a : Act) → Clear (rules S L a) → Holds (known ++ broughtBy S a (result S L a .0)) (result S L a .1)
-    result-holds (arrive p h) c =
-        let a = admits S L p h c in
+    arrived-holds : (p : ℕ) (h : Load) → Admits S L p h → Carries (arriving S L p h ∷ []) → (FromPool S L (arriving S L p h .node) → Q (arriving S L p h))
+        → Holds S Q (arrived S L p (arriving S L p h))
+    unfolding arrived change
+    arrived-holds p h a f good =
         let v-in : Place·In S (free p) = (a .port, some-queue S ok L s) in
-        unfold arrived change in brought (free p) (ingress p) v-in v-in (arriving S L p h) (a .some) (unfold recorded in refl)
-    result-holds (stitch p) c =
+        let same : arriving S L p h .node ≡ firstOf S L (free p) .node = unfold recorded in refl in
+        brought (free p) (ingress p) v-in v-in (arriving S L p h) (a .some) same f (good (rw same (from-pool S ok L s p h a)))
+
+    result-holds : (a : Act) → Clear (rules S L a) → Carries (broughtBy S a (result S L a .0)) → TakesIn (broughtBy S a (result S L a .0))
+        → Holds S Q (result S L a .1)
+    result-holds (arrive p h) c f g = arrived-holds p h (admits S L p h c) f (g (arriving S L p h) refl)
+    result-holds (stitch p) c f g =
         let v-in : Place·In S (ingress p) = (leb-no (S .ports) p (c .0), some-queue S ok L s) in
         let k : Packet = firstOf S L (ingress p) in
-        let f = first-fits S ok L s (ingress p) v-in (c .1 .0) in
-        nothing-in (result S L (stitch p) .1)
-        (moved (ingress p) (egress (mapOf L (k .dest)) (k .queue)) v-in (
+        let fits = first-fits S ok L s (ingress p) v-in (c .1 .0) in
+        moved (ingress p) (egress (mapOf L (k .dest)) (k .queue)) v-in (
           s .ranges .numbers-in mapped (k .dest)
-              (dest-mapped S ok (k .dest) (f .2 .dest-in)),
-          f .2 .queue-in,
-        ) k
-        (λ z. first-latest (ingress p) v-in (c .1 .0) refl))
-    result-holds (prefetch p q) c =
+              (dest-mapped S ok (k .dest) (fits .2 .dest-in)),
+          fits .2 .queue-in,
+        ) k f
+        (λ z. f k tt (first-holds (ingress p) v-in (c .1 .0) refl))
+    result-holds (prefetch p q) c f g =
         let v-in : Place·In S (egress p q) = (leb-no (S .ports) p (c .0), leb-no (S .queues) q (c .1 .0)) in
-        nothing-in (result S L (prefetch p q) .1)
-        (moved (egress p q) (prefetched p q) v-in v-in (firstOf S L (egress p q)) (λ z. first-latest (egress p q) v-in (c .1 .1 .0) refl))
-    result-holds (credit p q n) c = nothing-in (result S L (credit p q n) .1) (unfold change in e)
-    result-holds (mapTo d p) c = nothing-in (result S L (mapTo d p) .1) (unfold change in e)
-    result-holds (turn c′ p) c = go (eqb (readyWord S L p) 0) (picked-some S ok L s p (leb-no (S .ports) p (c .0)))
+        let k : Packet = firstOf S L (egress p q) in
+        moved (egress p q) (prefetched p q) v-in v-in k f (λ z. f k tt (first-holds (egress p q) v-in (c .1 .1 .0) refl))
+    result-holds (credit p q n) c f g = unfold change in same-lists f
+    result-holds (mapTo d p) c f g = unfold change in same-lists f
+    result-holds (turn c′ p) c f g = go (eqb (readyWord S L p) 0) (picked-some S ok L s p (leb-no (S .ports) p (c .0)))
       where
         t : ℕ
         t = pick (lastOf L p) (readyWord S L p)
 
         go : (z : Bool) → (z ≡ false → (t < S .queues) × (isEmpty (listAt S L (prefetched p t)) ≡ false))
-            → Holds (known ++ []) (cond z (idle, L) (serve S L c′ p t) .1)
-        go true f = nothing-in L e
-        go false f = nothing-in (serve S L c′ p t .1) (served-holds c′ p t (leb-no (S .ports) p (c .0)) (f refl .0) (f refl .1))
-    result-holds (ready p) c = nothing-in L e
-    result-holds (whereIs y) c = nothing-in L e
-    result-holds (clear p) c = nothing-in (result S L (clear p) .1) (unfold change in e)
-    result-holds (report p) c = nothing-in L e
-    result-holds (bucket p b) c = nothing-in L e
-    result-holds (show ns p q) c = nothing-in L e
+            → Holds S Q (cond z (idle, L) (serve S L c′ p t) .1)
+        go true d = same-lists f
+        go false d = served-holds c′ p t (leb-no (S .ports) p (c .0)) (d refl .0) (d refl .1) f
+    result-holds (ready p) c f g = same-lists f
+    result-holds (whereIs y) c f g = same-lists f
+    result-holds (clear p) c f g = unfold change in same-lists f
+    result-holds (report p) c f g = same-lists f
+    result-holds (bucket p b) c f g = same-lists f
+    result-holds (show ns p q) c f g = same-lists f
 
     -- a refusal brings nothing in
     refused-none : (a : Act) (n : ℕ) → broughtBy S a (refused n) ≡ []
@@ -242,37 +256,51 @@ module _ (S : Settings) (ok : Roomy S) where
     refused-none (bucket p b) n = refl
     refused-none (show ns p q) n = refl
 
-    refused-holds : (a : Act) (n : ℕ) → Holds (known ++ broughtBy S a (refused n)) (onRefusal S n a L)
-    refused-holds a n = rw (refused-none a n, append-nil known, refused-lists S n a L) e
+    refused-holds : (a : Act) (n : ℕ) → Carries (broughtBy S a (refused n)) → Holds S Q (onRefusal S n a L)
+    refused-holds a n f = rw (refused-lists S n a L) (same-lists (rw (refused-none a n) at f))
 
-    act-holds : (a : Act) → Holds (known ++ broughtBy S a (step S L a .0)) (step S L a .1)
+    pub act-holds : (a : Act) → Carries (broughtBy S a (step S L a .0)) → TakesIn (broughtBy S a (step S L a .0)) → Holds S Q (step S L a .1)
     act-holds a =
-        stepped S L a (λ out. Holds (known ++ broughtBy S a (out .0)) (out .1)) (refused-holds a) (result-holds a)
+        stepped S L a (λ out. Carries (broughtBy S a (out .0)) → TakesIn (broughtBy S a (out .0)) → Holds S Q (out .1))
+        (λ n f g. refused-holds a n f)
+        (result-holds a)
 
-    -- what a turn sends is the oldest of some slots, so the latest of its node
-    sends-latest : (c : Clock) (p : ℕ) (k : Packet) (t : Side) → step S L (turn c p) .0 ≡ leaves k t → Latest k known
-    sends-latest c p k t i =
-        let o = turn-sends S ok L s c p k t i in
-        subst (λ (j : Packet). Latest j known) (o .oldest) (first-latest (prefetched p (o .queue)) (o .slots) (o .some) refl)
+-- ---- where every packet that is held is the latest of its node in a list, it is so after the act, in that list and what was brought in
 
-    -- what a stitch tells of is the oldest in ingress
-    stitch-tells : (p : ℕ) (b : List ℕ) → step S L (stitch p) .0 ≡ stitched b → (k : Packet) × Latest k known × Tells k b
-    stitch-tells p b =
-        stepped S L (stitch p) (λ out. out .0 ≡ stitched b → (k : Packet) × Latest k known × Tells k b)
-        (λ n i. absurd (let o : _≡_ {A = ℕ} 0 1 = cc in omega arith))
-        (λ c i.
-        let v-in : Place·In S (ingress p) = (leb-no (S .ports) p (c .0), some-queue S ok L s) in
-        let k : Packet = firstOf S L (ingress p) in
-        let good : Proper S k = first-fits S ok L s (ingress p) v-in (c .1 .0) .2 in
-        let node = node-small S ok (k .node) (first-node S ok L s (ingress p) v-in (c .1 .0)) in
-        let same : stitchRecord k (mapOf L (k .dest)) ≡ b = cc in
-        (k, first-latest (ingress p) v-in (c .1 .0) refl, subst (Tells k) same (record-tells k (mapOf L (k .dest)) node good)))
+abbrev AllLatest : Settings → List Packet → Ledger → Type 0
+AllLatest S known L = Holds S (λ k. Latest k known) L
+
+module _ (S : Settings) (ok : Roomy S) (known : List Packet) (L : Ledger) (s : Orderly S L) (e : AllLatest S known L) where
+  act-latest : (a : Act) → AllLatest S (known ++ broughtBy S a (step S L a .0)) (step S L a .1)
+  act-latest a =
+      let ks : List Packet = broughtBy S a (step S L a .0) in
+      act-holds S ok (λ k. Latest k known) L s e (λ k. Latest k (known ++ ks)) a (λ j n g. latest-more j known ks n g)
+      (λ k i was. rw i (latest-last k known))
+
+  -- what a turn sends is the oldest of some slots, so the latest of its node
+  sends-latest : (c : Clock) (p : ℕ) (k : Packet) (t : Side) → step S L (turn c p) .0 ≡ leaves k t → Latest k known
+  sends-latest c p k t i =
+      let o = turn-sends S ok L s c p k t i in
+      subst (λ (j : Packet). Latest j known) (o .oldest) (first-holds S ok (λ k. Latest k known) L s e (prefetched p (o .queue)) (o .slots) (o .some) refl)
+
+  -- what a stitch tells of is the oldest in ingress
+  stitch-tells : (p : ℕ) (b : List ℕ) → step S L (stitch p) .0 ≡ stitched b → (k : Packet) × Latest k known × Tells k b
+  stitch-tells p b =
+      stepped S L (stitch p) (λ out. out .0 ≡ stitched b → (k : Packet) × Latest k known × Tells k b)
+      (λ n i. absurd (let o : _≡_ {A = ℕ} 0 1 = cc in omega arith))
+      (λ c i.
+      let v-in : Place·In S (ingress p) = (leb-no (S .ports) p (c .0), some-queue S ok L s) in
+      let k : Packet = firstOf S L (ingress p) in
+      let good : Proper S k = first-fits S ok L s (ingress p) v-in (c .1 .0) .2 in
+      let node = node-small S ok (k .node) (first-node S ok L s (ingress p) v-in (c .1 .0)) in
+      let same : stitchRecord k (mapOf L (k .dest)) ≡ b = cc in
+      (k, first-holds S ok (λ i. Latest i known) L s e (ingress p) v-in (c .1 .0) refl, subst (Tells k) same (record-tells k (mapOf L (k .dest)) node good)))
 
 -- ---- any calls
 
 module _ {X : Type 0} (call : X → Call → Reply × X) (shows : X → Desk) (long : X → ℕ) (faithful : Faithful call shows long) (S : Settings) (ok : Roomy S) where
-  still-latest : (known : List Packet) (x : X) (L : Ledger) → shows x ≡ has S L → Orderly S L → Holds S ok known L → (cs : List Call) → SetupsRefused call x cs
-      → Holds S ok (known ++ gathered (broughtIn S) cs (answersOf call x cs)) (run S L (actsIn cs))
+  still-latest : (known : List Packet) (x : X) (L : Ledger) → shows x ≡ has S L → Orderly S L → AllLatest S known L → (cs : List Call) → SetupsRefused call x cs
+      → AllLatest S (known ++ gathered (broughtIn S) cs (answersOf call x cs)) (run S L (actsIn cs))
   unfolding actsIn
   still-latest known x L e s h [] f = rw (append-nil known) h
   still-latest known x L e s h (setup T ∷ cs) f =
@@ -281,8 +309,8 @@ module _ {X : Type 0} (call : X → Call → Reply × X) (shows : X → Desk) (l
       let r : Reply = call x (act a) .0 in
       let N : Ledger = step S L a .1 in
       let same : step S L a .0 ≡ r = sym (act-answer call shows long faithful S x L e a) in
-      let here : Holds S ok (known ++ broughtBy S a r) N =
-      subst (λ (t : Reply). Holds S ok (known ++ broughtBy S a t) N) same (act-holds S ok known L s h a) in
+      let here : AllLatest S (known ++ broughtBy S a r) N =
+      subst (λ (t : Reply). AllLatest S (known ++ broughtBy S a t) N) same (act-latest S ok known L s h a) in
       let next = act-shows call shows long faithful S x L e a in
       rw (← append-assoc known (broughtBy S a r) (gathered (broughtIn S) cs (answersOf call (call x (act a) .1) cs)))
       (still-latest (known ++ broughtBy S a r) (call x (act a) .1) N next (keep-step S ok L s a) here cs (f .1))
@@ -293,10 +321,10 @@ module _ {X : Type 0} (call : X → Call → Reply × X) (shows : X → Desk) (l
       let N : Ledger = run S L (actsIn cs) in
       let once : All (λ k. Latest k (held S L)) (held S L) =
       all-latest (held S L) (λ y. omega (arith, held-once S y 0 (L .lists), s .once y, bit-le (isNode S y))) in
-      let before : Holds S ok (held S L) L = record {
+      let before : AllLatest S (held S L) L = record {
         holds = λ l h. rw (zero-add l) at (all-held S (λ k. Latest k (held S L)) 0 (L .lists) once l h);
       } in
-      let later : Holds S ok known N = still-latest (held S L) x L e s before cs f in
+      let later : AllLatest S known N = still-latest (held S L) x L e s before cs f in
       let shown = calls-show call shows long faithful S x L e cs f in
       record {
         ledger = N;

@@ -5,25 +5,37 @@ use mathlib.Core.Bool.{Bool, true, false, cond}
 use mathlib.Core.List.{List, [], _∷_, _++_, map, reverse}
 use Prim.Native.Nat.{ℕ, zero, suc, _+_, _*_, _≤_, _<_}
 use native.Mathlib.Omega.{arith}
-use lib.ListN.{length, getD, replicate}
+use lib.ListN.{length, getD, take, drop, replicate, length-replicate, getD-replicate}
+use lib.Seq.{getD-take, getD-drop}
 use lib.Dec.{eqb}
-use Rattle.ledger.specs.Settings.{Settings, settings, row}
-use Rattle.ledger.specs.Header.{widthOf, formOf, frontBits, frontBytes, bodySize, headerSize, Load, alone}
-use Rattle.ledger.specs.Ledger.{owner, Packet, bare, free, place#, placeOf, Ledger, arrival, halted, buckets, markOf, bucketAt, change, putIn, pop, start}
-use Rattle.ledger.specs.Halt.{halts, marks}
+use Rattle.numbers.specs.Bytes.{number}
+use Rattle.numbers.specs.Fields.{bits}
+use Rattle.crc.specs.Crc.{crcBit, crcBits, crcByte, crcFrom, crc8}
+use Rattle.ledger.specs.Settings.{Settings, tenBytes, settings, slotBytes, packetRoom, row}
+use Rattle.ledger.specs.Header.{widthOf, formOf, frontBits, frontBytes, spare, bodySize, headerSize, leastLength, fieldsOf, price, Load, alone, whole}
+use Rattle.ledger.specs.Ledger.{owner, isNode, Packet, bare, recorded, free, prefetched, place#, placeOf, cell, creditAt, setCredit, Ledger, arrival}
+use Rattle.ledger.specs.Ledger.{halted, buckets, markOf, bucketAt, pop, push, move, change, putIn, start}
+use Rattle.ledger.specs.Halt.{halts, marks, heldUp}
 use Rattle.ledger.specs.Calls.{Act, arrive, stitch, prefetch, credit, mapTo, turn, ready, whereIs, Side, outside, Reply, refused, done, entry}
 use Rattle.ledger.specs.Buckets.{untimed, at, waitOf, bucketOf, bucket#}
-use Rattle.ledger.specs.Calls.{clear, report, bucket, show, stitched, idle, leaves, isRefused, sideOf, arriving, step, markedFor, onRefusal}
+use Rattle.ledger.specs.Calls.{clear, report, bucket, show, stitched, idle, leaves, part, isRefused, sideOf, arriving, arrived, stitchRecord, step}
+use Rattle.ledger.specs.Calls.{markedFor, onRefusal}
 use Rattle.ledger.specs.Desk.{Desk, none, has, Call, setup, act, desk, afterCalls, SetupsRefused}
+use Rattle.ledger.specs.Ready.{bit}
 use Rattle.ledger.specs.Demand.{turnsIn, Stands, InHand, NobodyStarvesFrom}
 use Rattle.ledger.specs.Order.{idsAt, KeepsOrder, GoesAlong}
 use Rattle.ledger.specs.Night.{Arrival, turned-away, taken, PoolKept, OwnMarkAlone, HaltLasts}
 use Rattle.ledger.specs.Tally.{TimedAsTurn, BucketsCount, WaitsUnread}
 use Rattle.ledger.specs.Rounds.{roundActs, Deed, round, Carried, wholeRound}
 use Rattle.ledger.specs.Door.{InIngress, CreditFor, roundsFor, callsOf, roundsIn, roundsBefore, doneFrom, StitchedAt, StitchedSoonFrom, LeavesSoonFrom}
+use Rattle.ledger.specs.Packets.{slotAt, bytesAt, Memories, Sized, NotFree, SlotsStay, ShownAsArrivedFrom}
+use Rattle.ledger.specs.Cards.{twelve}
 use Rattle.ledger.proofs.Tests.{true≢false, is-false, eqb-is, ltb-not}
+use Rattle.ledger.proofs.Places.{node-of}
 use Rattle.ledger.proofs.Halt.{marks-is, marks-first, marks-not, held-is}
 use Rattle.ledger.proofs.Promises.{Wanting, no-node, taken-in}
+use Rattle.ledger.proofs.Packets.{slot-within}
+use Rattle.ledger.proofs.Slots.{stored-starts}
 
 -- ---- demand 3: a desk that answers every call alike and changes nothing, be the answer idle or a refusal
 
@@ -309,4 +321,69 @@ unfolding change start bucket#
 bucket-read n o =
     let e : done ≡ idle = o .answers .0 refl in
     let z : _≡_ {A = ℕ} 0 1 = cc in
+    omega arith
+
+-- ---- shown as it arrived: a desk at which all goes right but show, which answers the part of the node behind, of the right length
+
+abbrev pub showsNext : ℕ → Desk → Call → Reply × Desk
+showsNext n D (setup T) = desk n D (setup T)
+showsNext n D (act (arrive p h)) = desk n D (act (arrive p h))
+showsNext n D (act (stitch p)) = desk n D (act (stitch p))
+showsNext n D (act (prefetch p q)) = desk n D (act (prefetch p q))
+showsNext n D (act (credit p q k)) = desk n D (act (credit p q k))
+showsNext n D (act (mapTo d p)) = desk n D (act (mapTo d p))
+showsNext n D (act (turn c p)) = desk n D (act (turn c p))
+showsNext n D (act (ready p)) = desk n D (act (ready p))
+showsNext n D (act (whereIs y)) = desk n D (act (whereIs y))
+showsNext n D (act (clear p)) = desk n D (act (clear p))
+showsNext n D (act (report p)) = desk n D (act (report p))
+showsNext n D (act (bucket p b)) = desk n D (act (bucket p b))
+showsNext n D (act (show ns p q)) = (part 1 12, D)
+
+-- a switch that keeps packets; memories of zeros; and a packet of 12 bytes for node 0
+abbrev pub keeping : Settings
+keeping = record { ports = 4; queues = 24; nodes = 2; beat = 64; slots = 1; credit = 0; edition = tenBytes; packets = 1 }
+
+zeroed : (S : Settings) → Memories
+zeroed S p = replicate (packetRoom S) 0
+
+all-sized : (S : Settings) → Sized S (zeroed S)
+unfolding zeroed
+all-sized S p h = length-replicate (packetRoom S) 0
+
+prefetchedFirst : Desk → List ℕ
+prefetchedFirst none = []
+prefetchedFirst (has S L) = idsAt S L (prefetched 0 0)
+
+pub shown-another : (n : ℕ) → ShownAsArrivedFrom (showsNext n) (λ D. D) keeping (has keeping (start keeping)) → ⊥
+unfolding prefetchedFirst number bits crcBit crcBits crcByte crcFrom crc8 row packetRoom widthOf formOf frontBits frontBytes spare bodySize headerSize
+    leastLength fieldsOf price recorded place# cell creditAt setCredit pop push move change start arrived stitchRecord lib.Count.leadingZeros heldUp
+shown-another n f =
+    let o =
+    f (zeroed keeping) (all-sized keeping) 0 16384 (twelve ++ (0 ∷ 0 ∷ [])) 0 refl (act (stitch 0) ∷ act (prefetch 0 0) ∷ [])
+    ((λ i. absurd (true≢false (sym i))), ((λ i. absurd (true≢false (sym i))), tt))
+    (refl, (refl, tt)) in
+    let e = o .shows-it 0 0 (omega arith) (omega arith) [] (sym (ap prefetchedFirst (o .shown))) .0 in
+    let z : _≡_ {A = ℕ} 0 1 = cc in
+    omega arith
+
+-- ---- no call writes the slot of a node that isn't free: a desk that answers every call with the entry id of such a node
+
+pub slot-overwritten : (S : Settings) (L : Ledger) (y : ℕ) → isNode S y ≡ true → NotFree S L y → SlotsStay (λ D c. (entry y, D)) S L (has S L) → ⊥
+unfolding zeroed
+slot-overwritten S L y node nf f =
+    let k : List ℕ = zeroed S 0 in
+    let room : slotAt y + slotBytes ≤ packetRoom S = slot-within S y (node-of S y (omega (arith, ap bit node))) in
+    let long : length k ≡ packetRoom S = length-replicate {A = ℕ} (packetRoom S) 0 in
+    let same = rw (eqb-is (owner y) (owner y) refl) at (f (zeroed S) (all-sized S) (act (arrive (owner y) (whole 0 (1 ∷ [])))) y node nf) in
+    let zero-there : getD (bytesAt (slotAt y) slotBytes k) 0 0 ≡ 0 =
+    getD-take slotBytes (drop (slotAt y) k) 0 0 (omega arith)
+    ∙ getD-drop (slotAt y) k 0 0
+    ∙ getD-replicate (packetRoom S) (slotAt y + 0) 0 0 (omega arith) in
+    let starts = stored-starts (slotAt y) (1 ∷ []) k (omega arith) slotBytes (omega arith) in
+    let e : _≡_ {A = ℕ} 1 0 =
+    sym (ap (λ (l : List ℕ). getD l 0 0) starts)
+    ∙ ap (λ (l : List ℕ). getD (take 1 l) 0 0) same
+    ∙ getD-take 1 (bytesAt (slotAt y) slotBytes k) 0 0 (omega arith)
+    ∙ zero-there in
     omega arith

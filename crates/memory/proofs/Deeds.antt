@@ -1,5 +1,5 @@
--- Demand 3, the order of queues, the pools, the marks and what is recorded, over all that is done on a memory, setting up anew and repairs excepted.
--- Assumes nothing.
+-- Demand 3, the order of queues, the pools, the marks, what is recorded and the packets that are kept, over all that is done on a memory, setting up
+-- anew and repairs excepted. Assumes nothing.
 use mathlib.Core.Path.{_≡_, refl, sym, ap, _∙_, subst}
 use mathlib.Core.Bool.{Bool, true, false}
 use mathlib.Core.List.{List, [], _∷_, _++_, map}
@@ -11,7 +11,8 @@ use lib.ListN.{length, getD, take, length-append, List·getD-append}
 use lib.Seq.{take-append-le, take-append-add, getD-append-add}
 use Rattle.ledger.specs.Settings.{Settings, bucketCount}
 use Rattle.ledger.specs.Ledger.{Packet, Ledger, bucketAt, start}
-use Rattle.ledger.specs.Calls.{turn, ready, Reply, refused, done, leaves, isRefused, sideOf}
+use Rattle.ledger.specs.Header.{whole}
+use Rattle.ledger.specs.Calls.{arrive, turn, ready, Reply, refused, done, leaves, isRefused, sideOf}
 use Rattle.ledger.specs.Desk.{Desk, has, Call, setup, act, setupRules, desk, afterCalls, SetupsRefused}
 use Rattle.ledger.specs.Sound.{All}
 use Rattle.ledger.specs.Demand.{turnsIn, ShowsWaiting, LeavesAmong}
@@ -34,6 +35,7 @@ use Rattle.memory.specs.Deeds.{callsBy, callsIn, isRepair, RepairsRefuse
 use Rattle.memory.proofs.Picture.{opens-means}
 use Rattle.memory.proofs.Demands.{pictured-state, memory-faithful, memory-keeps-order, memory-goes-along, memory-pool-kept}
 use Rattle.memory.proofs.Demands.{memory-own-mark-alone, memory-halt-lasts}
+use Rattle.memory.proofs.Packets.{memory-shown-as-arrived}
 use Rattle.memory.proofs.Tally.{memory-buckets-count}
 use Rattle.memory.proofs.Rounds.{room-tells}
 use Rattle.memory.proofs.Runs.{answers-tell}
@@ -254,6 +256,10 @@ module _ (m : List ℕ) (S : Settings) (L : Ledger) (e : picture m ≡ has S L) 
         let o = memory-halt-lasts m S L e p some (callsIn m ds) (f .setups) unlifted in (o, shown-by-deeds m S ds f (o .ledger) (o .shown));
     counts = λ p hp ds f. let o = memory-buckets-count m S L e p hp (callsIn m ds) (f .setups) in (o, shown-by-deeds m S ds f (o .ledger) (o .shown));
     records = λ ds f. let o = memory-goes-along m S L e (callsIn m ds) (f .setups) in (o, shown-by-deeds m S ds f (o .ledger) (o .shown));
+    packets = λ ks sized p n b y i ds f unsent.
+        let left : List ℕ = M (act (arrive p (whole n b))) m .1 in
+        let o = memory-shown-as-arrived m S L e ks sized p n b y i (callsIn left ds) (f .setups) unsent in
+        (o, shown-by-deeds left S ds f (o .ledger) (o .shown));
   }
 
 pub holds-in-deeds : HoldsInDeeds

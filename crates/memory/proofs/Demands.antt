@@ -158,6 +158,14 @@ off-state m n a = go (state-dec m)
     go (yes t) = absurd (n t)
     go (no k) = refl
 
+-- so one that answers an act with anything else is a state
+pub answered-state : (m : List ℕ) (a : Act) → M (act a) m .0 ≢ refused 3 → State m
+answered-state m a other = go (state-dec m)
+  where
+    go : Dec (State m) → State m
+    go (yes t) = t
+    go (no n) = absurd (other (ap (λ (r : Reply × List ℕ). r .0) (off-state m n a)))
+
 -- and on a state of these settings the act is the call
 pub on-settings : (S : Settings) (m : List ℕ) → settingsIn m ≡ S → StateOf S m → (a : Act) → acted S m a ≡ M (act a) m
 unfolding M
@@ -192,13 +200,7 @@ module _ (m : List ℕ) (y : ℕ) (v : Place) (i : ℕ) where
 
   module _ (f : M (act (whereIs y)) m .0 ≡ found v i) where
     found-state : State m
-    found-state = go (state-dec m)
-      where
-        go : Dec (State m) → State m
-        go (yes t) = t
-        go (no n) =
-            let e : refused 3 ≡ found v i = sym (ap (λ (r : Reply × List ℕ). r .0) (off-state m n (whereIs y))) ∙ f in
-            absurd (let z : _≡_ {A = ℕ} 0 1 = cc in omega arith)
+    found-state = answered-state m (whereIs y) (λ e. let z : _≡_ {A = ℕ} 0 1 = cc in omega arith)
 
     pub where-below : Below (settingsIn m .ports * 2048)
     where-below =

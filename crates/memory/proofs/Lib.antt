@@ -11,6 +11,7 @@ pub mod Repair
 pub mod Square
 pub mod Marks
 pub mod Demands
+pub mod Packets
 pub mod Words
 pub mod Tally
 pub mod Past

@@ -1,5 +1,5 @@
--- Paper 02, Q-11: demand 3, the order of queues, the pools, the marks, the buckets and what is recorded, said of all that is done on a memory: calls,
--- rounds, runs, audits and findings, setting up anew and repairs excepted. And "After repair demand 3 counts afresh, as after setup". Assumes nothing.
+-- Paper 02, Q-11: demand 3, the order of queues, the pools, the marks, the buckets, what is recorded and the packets that are kept, said of all
+-- that is done on a memory: calls, rounds, runs, audits and findings, setting up anew and repairs excepted. And "After repair demand 3 counts afresh, as after setup". Assumes nothing.
 use mathlib.Core.Path.{_≡_}
 use mathlib.Core.Logic.{_≢_}
 use mathlib.Core.Bool.{Bool, true, false}
@@ -7,14 +7,16 @@ use mathlib.Core.List.{List, [], _∷_, _++_, map}
 use Prim.Native.Nat.{ℕ, _+_, _-_, _*_, _≤_, _<_}
 use lib.ListN.{length, getD, take, drop}
 use Rattle.ledger.specs.Settings.{Settings}
+use Rattle.ledger.specs.Header.{whole}
 use Rattle.ledger.specs.Ledger.{Packet, Place, mapped, markOf, Ledger, start, Place·In}
 use Rattle.ledger.specs.Buckets.{Clock}
-use Rattle.ledger.specs.Calls.{turn, ready, clear, done, leaves, isRefused, sideOf}
+use Rattle.ledger.specs.Calls.{arrive, turn, ready, clear, done, entry, leaves, isRefused, sideOf}
 use Rattle.ledger.specs.Desk.{has, Call, setup, act, afterCalls, answersOf, SetupsRefused}
 use Rattle.ledger.specs.Sound.{All}
 use Rattle.ledger.specs.Demand.{Stands, InHand, turnsIn, ShowsWaiting, LeavesAmong}
 use Rattle.ledger.specs.Order.{KeepsOrder, GoesAlong}
 use Rattle.ledger.specs.Night.{PoolKept, OwnMarkAlone, HaltLasts}
+use Rattle.ledger.specs.Packets.{Memories, Sized, packet, keeps, Unsent, AsArrived}
 use Rattle.ledger.specs.Tally.{waitsIn, bucketSum, BelowStop, BucketsCount}
 use Rattle.ledger.specs.Rounds.{answerBytes, Deed, one, round, runs, look, doneBy}
 use Rattle.ledger.specs.Door.{atCall, callsOf, doneFrom}
@@ -158,6 +160,20 @@ BucketsCountInDeeds S L p m ds = (o : BucketsCount onMemory picture S L p m (cal
 abbrev pub GoesAlongInDeeds : Settings → Ledger → List ℕ → List LentDeed → Type 0
 GoesAlongInDeeds S L m ds = (o : GoesAlong onMemory picture S L m (callsIn m ds)) × (picture (afterDeeds m ds) ≡ has S (o .ledger))
 
+-- "shown as it arrived": of the packet b that node y took, where m and the packet memories ks are what its arrival left
+abbrev pub AsArrivedInDeeds : Settings → ℕ → List ℕ → Memories → List ℕ → List LentDeed → Type 0
+AsArrivedInDeeds S y b ks m ds = (o : AsArrived onMemory picture S y b ks m (callsIn m ds)) × (picture (afterDeeds m ds) ≡ has S (o .ledger))
+
+-- of every whole packet that arrives at memory m, whatever deeds follow, until a turn sends it, be it a call's, a round's or a run's
+abbrev pub ShownAsArrivedInDeeds : Settings → List ℕ → Type 0
+ShownAsArrivedInDeeds S m =
+    (ks : Memories) → Sized S ks
+    → (p n : ℕ) (b : List ℕ) (y : ℕ) →
+    let c : Call = act (arrive p (whole n b)) in
+    M c m .0 ≡ entry y
+    → (ds : List LentDeed) → Undisturbed (M c m .1) ds → Unsent y (answersOf onMemory (M c m .1) (callsIn (M c m .1) ds))
+    → AsArrivedInDeeds S y b (keeps (packet p b) (entry y) ks) (M c m .1) ds
+
 -- ---- all of it
 
 -- from memory m on, which shows the ledger L
@@ -171,6 +187,7 @@ pub record FromHereOn (S : Settings) (L : Ledger) (m : List ℕ) : Type 0 where
       → HaltLastsInDeeds S p (markOf L p) m ds
   pub counts : (p : ℕ) → p < S .ports → (ds : List LentDeed) → Undisturbed m ds → BucketsCountInDeeds S L p m ds
   pub records : (ds : List LentDeed) → Undisturbed m ds → GoesAlongInDeeds S L m ds
+  pub packets : ShownAsArrivedInDeeds S m
 
 -- and from every later moment on
 pub record CountsAfresh (S : Settings) (L : Ledger) (m : List ℕ) : Type 0 where
