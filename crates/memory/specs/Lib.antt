@@ -11,3 +11,4 @@ pub mod Runs
 pub mod Tally
 pub mod Deeds
 pub mod Judged
+pub mod Packets

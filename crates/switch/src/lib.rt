@@ -1,15 +1,17 @@
-// The twelve calls of the queue manager, turn timed or not, the round, the run, and the night crew's audit, finding and repair, for any memory
+// The thirteen calls of the queue manager, turn timed or not and arrive of a header or of a whole packet, the round, the run, and the night crew's audit, finding and repair, for any memory
 // and any numbers: nothing has to be checked by the caller. Each contract is an equation that fixes answer and memory: (reply, memory after) is
 // M of the call and the memory before; of the round, roundOn of the memory and the room; of the run runOn, of the audit auditOn, of the finding
-// brokenIn, of the repair repaired.
+// brokenIn, of the repair repaired; of a whole packet packetOn of both memories, and show hands back shownOf the four.
 use ledger::Broken;
 use ledger::Bucketed;
 use ledger::Entry;
 use ledger::EntryId;
+use ledger::Load;
 use ledger::Plain;
 use ledger::Readiness;
 use ledger::Refusal;
 use ledger::Reported;
+use ledger::Shown;
 use ledger::Stitched;
 use ledger::Turned;
 use ledger::Whereabouts;
@@ -17,17 +19,22 @@ use runs::Outcome;
 use settings::Settings;
 use sound::Tested;
 ghost use mathlib.Core.Path.{_≡_};
-ghost use mathlib.Core.List.{List};
+ghost use mathlib.Core.List.{List, [], _∷_};
 ghost use Prim.Native.Nat.{ℕ, _<_};
+ghost use lib.ListN.{length};
+ghost use Rattle.ledger.specs.Header.{alone};
+ghost use Rattle.ledger.specs.Answers.{numberIn, loadOf, showReply};
 ghost use Rattle.ledger.specs.Answers.{plainReply, stitchReply, entryReply, turnReply, readyReply, whereReply, reportReply, bucketReply};
 ghost use Rattle.ledger.specs.Buckets.{untimed, at};
-ghost use Rattle.ledger.specs.Calls.{Reply, arrive, stitch, prefetch, credit, mapTo, turn, ready, whereIs, clear, report, bucket};
+ghost use Rattle.ledger.specs.Calls.{Reply, arrive, stitch, prefetch, credit, mapTo, turn, ready, whereIs, clear, report, bucket, show};
 ghost use Rattle.ledger.specs.Desk.{act};
 ghost use Rattle.memory.specs.Memory.{M};
+ghost use Rattle.memory.specs.Packets.{packetOn};
 ghost use Rattle.memory.specs.Rounds.{roundOn};
 ghost use Rattle.memory.specs.Runs.{Report, runOn};
 ghost use Rattle.memory.specs.Audit.{auditOn};
 ghost use Rattle.memory.specs.Repair.{repaired};
+ghost use Rattle.packets.specs.Parts.{shownOf};
 ghost use Rattle.runs.specs.Runs.{reportIn};
 ghost use Rattle.sound.specs.Sound.{brokenIn};
 ghost use Rattle.ledger.specs.Answers.{recordIn};
@@ -40,14 +47,68 @@ pub fn set_up(m: &mut [u8], told: Settings) -> Plain
     setup::setup(m, told)
 }
 
-// Arrive: takes a node of the port for the header; answers its entry id.
-pub fn arrive(m: &mut [u8], port: u32, header: &[u8]) -> Entry
-    ensures { λ r. ⌜ _≡_ {A = Reply × List ℕ} (entryReply r, now (m .exit)) (M (act (arrive port (now (header .entry)))) (now (m .entry))) ⌝ }
+// What arrives, of either kind, on any memory.
+fn admit(m: &mut [u8], load: Load, port: u32, bytes: &[u8]) -> Entry
+    ensures { λ r. ⌜ _≡_ {A = Reply × List ℕ} (entryReply r, now (m .exit)) (M (act (arrive port (loadOf load (now (bytes .entry))))) (now (m .entry))) ⌝ }
 {
     let tested = sound::test(m);
     match tested {
-        Tested::State(s) => arrivals::arrive(m, s, port, header),
+        Tested::State(s) => arrivals::arrive(m, s, load, port, bytes),
         Tested::NoState => Entry::No(Refusal::NoState),
+    }
+}
+
+// Arrive: takes a node of the port for the header; answers its entry id.
+pub fn arrive(m: &mut [u8], port: u32, header: &[u8]) -> Entry
+    ensures { λ r. ⌜ _≡_ {A = Reply × List ℕ} (entryReply r, now (m .exit)) (M (act (arrive port (alone (now (header .entry))))) (now (m .entry))) ⌝ }
+{
+    admit(m, Load::Header, port, header)
+}
+
+// Arrive with the whole packet, whose first bytes are the header: it is stored in its node's slot of the port's packet memory.
+pub fn arrive_packet(m: &mut [u8], kept: &mut [u8], port: u32, packet: &[u8]) -> Entry
+    ensures { λ r. ⌜ _≡_ {A = Reply × List ℕ × List ℕ} (entryReply r, now (m .exit), now (kept .exit))
+        (packetOn (now (m .entry)) (now (kept .entry)) port (now (packet .entry))) ⌝ }
+{
+    let answer = admit(m, Load::Packet(kept.len()), port, packet);
+    match answer {
+        Entry::Node(id) => {
+            packets::keep(kept, id, packet);
+            Entry::Node(id)
+        }
+        Entry::No(r) => Entry::No(r),
+    }
+}
+
+// Show, by the lengths of the four packet memories: the oldest packet of the slots of port and queue, by its node and its length.
+pub fn show_at(m: &[u8], n0: usize, n1: usize, n2: usize, n3: usize, port: u32, queue: u32) -> Shown
+    ensures { λ r. ⌜ showReply r ≡ M (act (show (n0 ∷ n1 ∷ n2 ∷ n3 ∷ []) port queue)) (now (m .entry)) .0 ⌝ }
+{
+    match sound::test(m) {
+        Tested::State(s) => shows::show(m, s, n0, n1, n2, n3, port, queue),
+        Tested::NoState => Shown::No(Refusal::NoState),
+    }
+}
+
+// Show: the oldest packet of the slots of port and queue, as a part of its owner's packet memory, never a copy; of a refusal an empty part, and
+// its number goes into the number lent for it, else 0.
+pub fn show<'a>(m: &[u8], p0: &'a [u8], p1: &'a [u8], p2: &'a [u8], p3: &'a [u8], port: u32, queue: u32, no: &mut u32) -> &'a [u8]
+    ensures { λ r. ⌜ now (no .exit) ≡ numberIn (M (act (show (length (now (p0 .entry)) ∷ length (now (p1 .entry)) ∷ length (now (p2 .entry))
+        ∷ length (now (p3 .entry)) ∷ []) port queue)) (now (m .entry)) .0) ⌝ }
+    ensures { λ r. ⌜ _≡_ {A = List ℕ × (ℕ × ℕ)} (now r, r .ptr)
+        (shownOf (M (act (show (length (now (p0 .entry)) ∷ length (now (p1 .entry)) ∷ length (now (p2 .entry)) ∷ length (now (p3 .entry)) ∷ []) port queue))
+        (now (m .entry)) .0) (p0 .entry) (p1 .entry) (p2 .entry) (p3 .entry)) ⌝ }
+{
+    let shown = show_at(m, p0.len(), p1.len(), p2.len(), p3.len(), port, queue);
+    match shown {
+        Shown::Part(id, n) => {
+            *no = 0;
+            packets::part(p0, p1, p2, p3, id, n as usize)
+        }
+        Shown::No(r) => {
+            *no = r.number() as u32;
+            &p0[..0]
+        }
     }
 }
 
