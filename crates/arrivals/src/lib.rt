@@ -1,18 +1,20 @@
-// Arrive, on a memory that is a switch state: judged first, then a free node takes the packet in.
+// Arrive, of a header alone or of a whole packet, on a memory that is a switch state: judged first, then a free node takes the packet in.
 use header::HeaderFields;
 use header::Judged;
 use layout::Shape;
 use ledger::Entry;
 use ledger::EntryId;
+use ledger::Load;
 use ledger::Refusal;
 use ledger::Sent;
+use ledger::Verdict;
 ghost use mathlib.Core.Path.{_≡_};
 ghost use mathlib.Core.List.{List};
 ghost use Prim.Native.Nat.{ℕ};
 ghost use Rattle.crc.specs.Crc.{Steps};
 ghost use Rattle.ledger.specs.Header.{form};
 ghost use Rattle.ledger.specs.Ledger.{recorded};
-ghost use Rattle.ledger.specs.Answers.{sentOf, entryReply};
+ghost use Rattle.ledger.specs.Answers.{sentOf, loadOf, entryReply};
 ghost use Rattle.ledger.specs.Calls.{Reply, arrive, lacks};
 ghost use Rattle.header.specs.Judge.{verdict, verdictOf};
 ghost use Rattle.header.specs.Parse.{headerOf};
@@ -20,9 +22,9 @@ ghost use Rattle.layout.specs.Tables.{settingsOf, Laid};
 ghost use Rattle.layout.specs.Picture.{ledgerIn};
 ghost use Rattle.parts.specs.Parts.{InCell};
 ghost use Rattle.memory.specs.Writes.{arriveMem};
-ghost use Rattle.memory.specs.Judged.{Works};
+ghost use Rattle.memory.specs.Judged.{judgementOf, Works};
 ghost use Rattle.memory.specs.Memory.{acted};
-ghost use Rattle.arrivals.specs.Admission.{admittedOf, judgedFields, judgedArrival, CanPrice, CanAdmit, CanTakeIn};
+ghost use Rattle.arrivals.specs.Admission.{admittedOf, judgedFields, judgedAt, judgedKind, judgedArrival, CanPrice, CanAdmit, CanTakeIn};
 
 // What the judge of an arrival says: the packet to record, or the refusal.
 pub enum Admitted {
@@ -78,29 +80,73 @@ fn admit(m: &[u8], s: Shape, p: usize, f: HeaderFields) -> Admitted
 }
 
 // The header's own refusals, by the form of the headers that the switch takes.
-fn judge_header(steps: &[u8; 256], h: &[u8], s: Shape, port: u32) -> Judged
+fn judge_header(steps: &[u8; 256], load: Load, h: &[u8], s: Shape, port: u32) -> Judged
     requires { ⌜ Steps (now steps) × Laid s ⌝ }
-    ensures { λ r. ⌜ verdictOf r ≡ verdict (form (settingsOf s)) (s .queues) port (now (h .entry)) ⌝ }
+    ensures { λ r. ⌜ verdictOf r ≡ verdict (form (settingsOf s)) (s .queues) port (loadOf load (now (h .entry))) ⌝ }
 {
     let queues = s.queues as u32;
     let form = forms::form_of(s.edition as u32, s.ports as u32, queues);
-    header::judge(steps, h, form, queues, port)
+    header::judge(steps, load, h, form, queues, port)
 }
 
-// The first refusal of an arrival that applies, or the packet that arrives.
-pub fn judge_arrive(steps: &[u8; 256], m: &[u8], s: Shape, port: u32, h: &[u8]) -> Admitted
+// Those that are left where what arrives is of the switch's kind: the port, the header, credit, a free node.
+fn judge_at(steps: &[u8; 256], m: &[u8], s: Shape, load: Load, port: u32, h: &[u8]) -> Admitted
     requires { ⌜ Steps (now steps) × Works s (now m) ⌝ }
-    ensures { λ r. ⌜ admittedOf r ≡ judgedArrival (settingsOf s) (now (m .entry)) port (now (h .entry)) ⌝ }
+    ensures { λ r. ⌜ admittedOf r ≡ judgedAt (settingsOf s) (now (m .entry)) port (loadOf load (now (h .entry))) ⌝ }
 {
     let p = port as usize;
     let ports = s.ports;
     if ports <= p {
         return Admitted::No(Refusal::NoPort);
     }
-    let judged = judge_header(steps, h, s, port);
+    let judged = judge_header(steps, load, h, s, port);
     match judged {
         Judged::No(r) => Admitted::No(r),
         Judged::Good(f) => admit(m, s, p, f),
+    }
+}
+
+// Those before it: a switch that keeps packets takes no header alone, and another no packet; and a packet memory has its size.
+fn judge_kind(s: Shape, load: Load) -> Verdict
+    requires { ⌜ Laid s ⌝ }
+    ensures { λ r. ⌜ ((b : List ℕ) → judgementOf r ≡ judgedKind (settingsOf s) (loadOf load b)) ⌝ }
+{
+    let keeps = packets::keeps(s);
+    match load {
+        Load::Header => {
+            if keeps {
+                return Verdict::No(Refusal::OtherKind);
+            }
+            Verdict::Go
+        }
+        Load::Packet(n) => {
+            if !keeps {
+                return Verdict::No(Refusal::OtherKind);
+            }
+            if packets::other_size(s, n) {
+                return Verdict::No(Refusal::PacketMemory);
+            }
+            Verdict::Go
+        }
+    }
+}
+
+// The first refusal of an arrival that applies, or the packet that arrives.
+pub fn judge_arrive(
+    steps: &[u8; 256],
+    m: &[u8],
+    s: Shape,
+    load: Load,
+    port: u32,
+    h: &[u8],
+) -> Admitted
+    requires { ⌜ Steps (now steps) × Works s (now m) ⌝ }
+    ensures { λ r. ⌜ admittedOf r ≡ judgedArrival (settingsOf s) (now (m .entry)) port (loadOf load (now (h .entry))) ⌝ }
+{
+    let kind = judge_kind(s, load);
+    match kind {
+        Verdict::No(r) => Admitted::No(r),
+        Verdict::Go => judge_at(steps, m, s, load, port, h),
     }
 }
 
@@ -120,13 +166,21 @@ fn take_in(m: &mut [u8], s: Shape, p: usize, k: Sent)
     parts::set_arrival(m, s, p, q, credit - price);
 }
 
-// The header recorded for the port's first free node, which goes to the end of the ingress list. A port that lies is halted. The checksum's
+// What the header says recorded for the port's first free node, which goes to the end of the ingress list. A port that lies is halted. The checksum's
 // table is lent: a run of arrivals puts it on the stack once.
-pub fn arrive_by(steps: &[u8; 256], m: &mut [u8], s: Shape, port: u32, h: &[u8]) -> Entry
+pub fn arrive_by(
+    steps: &[u8; 256],
+    m: &mut [u8],
+    s: Shape,
+    load: Load,
+    port: u32,
+    h: &[u8],
+) -> Entry
     requires { ⌜ Steps (now steps) × Works s (now m) ⌝ }
-    ensures { λ r. ⌜ _≡_ {A = Reply × List ℕ} (entryReply r, now (m .exit)) (acted (settingsOf s) (now (m .entry)) (arrive port (now (h .entry)))) ⌝ }
+    ensures { λ r. ⌜ _≡_ {A = Reply × List ℕ} (entryReply r, now (m .exit))
+        (acted (settingsOf s) (now (m .entry)) (arrive port (loadOf load (now (h .entry))))) ⌝ }
 {
-    let admitted = judge_arrive(steps, m, s, port, h);
+    let admitted = judge_arrive(steps, m, s, load, port, h);
     match admitted {
         Admitted::No(r) => {
             halts::halt(m, s, port, r);
@@ -141,9 +195,10 @@ pub fn arrive_by(steps: &[u8; 256], m: &mut [u8], s: Shape, port: u32, h: &[u8])
 }
 
 // The same by a table of its own.
-pub fn arrive(m: &mut [u8], s: Shape, port: u32, h: &[u8]) -> Entry
+pub fn arrive(m: &mut [u8], s: Shape, load: Load, port: u32, h: &[u8]) -> Entry
     requires { ⌜ Works s (now m) ⌝ }
-    ensures { λ r. ⌜ _≡_ {A = Reply × List ℕ} (entryReply r, now (m .exit)) (acted (settingsOf s) (now (m .entry)) (arrive port (now (h .entry)))) ⌝ }
+    ensures { λ r. ⌜ _≡_ {A = Reply × List ℕ} (entryReply r, now (m .exit))
+        (acted (settingsOf s) (now (m .entry)) (arrive port (loadOf load (now (h .entry))))) ⌝ }
 {
-    arrive_by(&crc::steps(), m, s, port, h)
+    arrive_by(&crc::steps(), m, s, load, port, h)
 }

@@ -14,7 +14,8 @@ use Rattle.memory.proofs.Repair.{repair-refused, repair-done}
 use Rattle.sound.specs.Sound.{brokenIn}
 use Rattle.findings.specs.Findings.{Letter, rule-a, rule-b, rule-c, rule-d, rule-e, rule-f, rule-g, rule-i, letter#, Finds, Means}
 use Rattle.findings.proofs.Findings.{numbered, letter-one, finding-means, finding-a, finding-none}
-use Rattle.rooms.specs.Rooms.{numberIn, ruleNumber, itemNumber, foundNumbers}
+use Rattle.ledger.specs.Answers.{numberIn}
+use Rattle.rooms.specs.Rooms.{ruleNumber, itemNumber, foundNumbers}
 
 module _ (m : List ℕ) (x : Letter) (i : ℕ) where
   -- a finding of rule y and item j, told as the number of x and i

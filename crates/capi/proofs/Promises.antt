@@ -28,7 +28,8 @@ use Rattle.codec.specs.Label.{Label, Answer}
 use Rattle.codec.specs.Reader.{reads}
 use Rattle.codec.specs.Writer.{writes}
 use Rattle.labels.specs.Labels.{labelRoom, headerRoom}
-use Rattle.rooms.specs.Rooms.{numberIn, told, toldIn, toldRound, entryRoom, recordRoom, sentRoom, readyRoom, markRoom}
+use Rattle.ledger.specs.Answers.{numberIn}
+use Rattle.rooms.specs.Rooms.{told, toldIn, toldRound, entryRoom, recordRoom, sentRoom, readyRoom, markRoom}
 use Rattle.ledger.specs.Audit.{placeRoom}
 
 -- 0 is no refusal's number: an answer of 0 says that the call was done

@@ -3,17 +3,18 @@
 -- or of a node. Assumes nothing.
 use mathlib.Core.Path.{_≡_, refl, sym, ap, _∙_}
 use mathlib.Core.Logic.{_↔_}
-use mathlib.Core.Bool.{true}
+use mathlib.Core.Bool.{true, false, not}
 use mathlib.Core.List.{List}
 use Prim.Native.Nat.{ℕ, _<_}
-use Rattle.ledger.specs.Settings.{Settings, wide, inRows}
-use Rattle.ledger.specs.Header.{form, fieldsOf}
+use lib.ListN.{length}
+use Rattle.ledger.specs.Settings.{Settings, wide, inRows, keepsPackets}
+use Rattle.ledger.specs.Header.{form, headerSize, fieldsOf, alone}
 use Rattle.ledger.specs.Ledger.{Ledger}
 use Rattle.ledger.specs.Calls.{arrive, step}
-use Rattle.ledger.proofs.Tests.{leb-is}
+use Rattle.ledger.proofs.Tests.{leb-is, eqb-is}
 use Rattle.ledger.proofs.Rows.{rows}
-use Rattle.ledger.proofs.Passes.{Passes}
-use Rattle.ledger.proofs.Promises.{SoundArrival, sound-means, means-sound, Wanting, sound-arrival}
+use Rattle.ledger.proofs.Passes.{Passes, alone-sized, comes, comes-clear}
+use Rattle.ledger.proofs.Promises.{SoundArrival, Wanting, sound-arrival}
 use Rattle.codec.specs.Label.{Label, labelOf, countsIn, Answer, gives}
 use Rattle.codec.specs.Reader.{reads}
 use Rattle.codec.specs.Writer.{writes}
@@ -33,19 +34,26 @@ pub record ReadFrom (S : Settings) (p : ℕ) (h : List ℕ) : Type 0 where
   pub read : readsIn S h ≡ gives label
   pub own : label .source ≡ p
 
--- a header that arrives asks what the reader asks, and the source beside
-takes-passes : (S : Settings) (p : ℕ) (h : List ℕ) → Takes (form S) (S .queues) h → fieldsOf (form S) h .source ≡ p → Passes (form S) (S .queues) p h
+-- a header that arrives alone asks what the reader asks, and the source beside
+takes-passes : (S : Settings) (p : ℕ) (h : List ℕ) → Takes (form S) (S .queues) h → fieldsOf (form S) h .source ≡ p → Passes (form S) (S .queues) p (alone h)
 takes-passes S p h t own = record {
-  sized = t .sized;
+  sized = ap not (eqb-is (length h) (headerSize (form S)) (t .sized));
   summed = t .summed;
   unreserved = t .unreserved;
   own = own;
   long = t .long;
+  counted = refl;
   queue = t .queue;
 }
 
-passes-takes : (S : Settings) (p : ℕ) (h : List ℕ) → Passes (form S) (S .queues) p h → Takes (form S) (S .queues) h
-passes-takes S p h f = record { sized = f .sized; summed = f .summed; unreserved = f .unreserved; long = f .long; queue = f .queue }
+passes-takes : (S : Settings) (p : ℕ) (h : List ℕ) → Passes (form S) (S .queues) p (alone h) → Takes (form S) (S .queues) h
+passes-takes S p h f = record {
+  sized = alone-sized (form S) (S .queues) p h f;
+  summed = f .summed;
+  unreserved = f .unreserved;
+  long = f .long;
+  queue = f .queue;
+}
 
 module _ (S : Settings) (ok : inRows S ≡ true) where
   -- the reader and the writer never refuse the counts of a switch
@@ -53,28 +61,35 @@ module _ (S : Settings) (ok : inRows S ≡ true) where
   unfolding countsIn
   switch-counts = let r = rows S ok in rw (r .are-ports, r .are-queues, leb-is (S .edition) wide (r .is-edition))
 
-  pub sound-read : (p : ℕ) (h : List ℕ) → SoundArrival S p h ↔ ReadFrom S p h
-  sound-read p h = (
-    λ c. let k = sound-means S p h c in
-        record {
-          port = k .0;
-          label = labelOf (fieldsOf (form S) h);
-          read = means-reads (S .edition) (S .ports) (S .queues) h switch-counts (passes-takes S p h (k .1));
-          own = k .1 .own;
-        },
-    λ r. let k = reads-means (S .edition) (S .ports) (S .queues) h (r .label) (r .read) in
-        means-sound S p h (r .port) (takes-passes S p h (k .2) (sym (ap (λ (v : Label). v .source) (k .0)) ∙ r .own)),
-  )
+  -- it takes headers alone
+  module _ (headers : keepsPackets S ≡ false) where
+    pub sound-read : (p : ℕ) (h : List ℕ) → SoundArrival S p (alone h) ↔ ReadFrom S p h
+    sound-read p h = (
+      λ c. let k = comes S p (alone h) c in
+          record {
+            port = k .port;
+            label = labelOf (fieldsOf (form S) h);
+            read = means-reads (S .edition) (S .ports) (S .queues) h switch-counts (passes-takes S p h (k .header));
+            own = k .header .own;
+          },
+      λ r. let k = reads-means (S .edition) (S .ports) (S .queues) h (r .label) (r .read) in
+          comes-clear S p (alone h) (record {
+            kind = headers;
+            memory = refl;
+            port = r .port;
+            header = takes-passes S p h (k .2) (sym (ap (λ (v : Label). v .source) (k .0)) ∙ r .own);
+          }),
+    )
 
   -- what is written for a port of the switch arrives there without a fault of its own
-  module _ (v : Label) (b : List ℕ) (wrote : writesIn S v ≡ gives b) (port : v .source < S .ports) where
-    pub written-sound : SoundArrival S (v .source) b
-    written-sound = sound-read (v .source) b .1 (record {
+  module _ (headers : keepsPackets S ≡ false) (v : Label) (b : List ℕ) (wrote : writesIn S v ≡ gives b) (port : v .source < S .ports) where
+    pub written-sound : SoundArrival S (v .source) (alone b)
+    written-sound = sound-read headers (v .source) b .1 (record {
       port = port;
       label = v;
       read = reader-undoes (S .edition) (S .ports) (S .queues) v b wrote;
       own = refl;
     })
 
-    pub written-arrives : (L : Ledger) → Wanting S L (v .source) b (step S L (arrive (v .source) b))
-    written-arrives L = sound-arrival S L (v .source) b written-sound
+    pub written-arrives : (L : Ledger) → Wanting S L (v .source) (alone b) (step S L (arrive (v .source) (alone b)))
+    written-arrives L = sound-arrival S L (v .source) (alone b) written-sound

@@ -17,7 +17,7 @@ use Rattle.numbers.proofs.Parts.{bytewise, joined-packs, pack-parts, digits-abo
 use Rattle.crc.specs.Crc.{crc8}
 use Rattle.crc.proofs.Sums.{crc8-lt}
 use Rattle.ledger.specs.Settings.{portsIn, queuesIn, wide}
-use Rattle.ledger.specs.Header.{Form, Fields, formOf, widths, spare, frontBytes, bodySize, headerSize, leastLength, fieldsOf, headerRules}
+use Rattle.ledger.specs.Header.{Form, Fields, formOf, widths, spare, frontBytes, bodySize, headerSize, leastLength, fieldsOf, readRules}
 use Rattle.ledger.proofs.Tests.{and-left, and-right, leb-yes, leb-is, ltb-yes, ltb-is}
 use Rattle.ledger.proofs.Rows.{ports-range, queues-range}
 use Rattle.ledger.proofs.Steps.{cleared}
@@ -58,15 +58,15 @@ module _ (e p q : ℕ) (h : List ℕ) where
     pub reads-bad : (r : ℕ) → bad r ≡ readable F q h → refused r ≡ reads e p q h
     reads-bad r b =
         rw ok
-        (first-bad (headerRules (formOf e p q) q [] h) [] (fieldsOf (formOf e p q) h) r refused (gives (labelOf (fieldsOf (formOf e p q) h)))
+        (first-bad (readRules (formOf e p q) q h) [] (fieldsOf (formOf e p q) h) r refused (gives (labelOf (fieldsOf (formOf e p q) h)))
         (b ∙ ap (λ (G : Form). readable G q h) is))
 
     pub reads-good : (f : Fields) → good f ≡ readable F q h → gives (labelOf f) ≡ reads e p q h
     reads-good f g =
-        let found = first-good (headerRules (formOf e p q) q [] h) (fieldsOf (formOf e p q) h) f (g ∙ ap (λ (G : Form). readable G q h) is) in
+        let found = first-good (readRules (formOf e p q) q h) (fieldsOf (formOf e p q) h) f (g ∙ ap (λ (G : Form). readable G q h) is) in
         rw ok
         (ap (λ (k : Fields). gives (labelOf k)) (found .0)
-        ∙ sym (cleared (headerRules (formOf e p q) q [] h) refused (gives (labelOf (fieldsOf (formOf e p q) h))) (found .1)))
+        ∙ sym (cleared (readRules (formOf e p q) q h) refused (gives (labelOf (fieldsOf (formOf e p q) h))) (found .1)))
 
 -- ---- what a label must be, for a header to say it
 

@@ -20,7 +20,7 @@ use Rattle.crc.specs.Crc.{crc8}
 use Rattle.crc.proofs.Sums.{crc8-lt}
 use Rattle.ledger.specs.Settings.{tenBytes, wide}
 use Rattle.ledger.specs.Header.{Form, Fields, inOrder, widthOf, formOf, widths, frontBits, frontBytes, spare, bodySize, headerSize, leastLength}
-use Rattle.ledger.specs.Header.{fieldsOf, headerRules}
+use Rattle.ledger.specs.Header.{fieldsOf, readRules}
 use Rattle.ledger.specs.Rules.{Rule, refuse, guard, Clear}
 use Rattle.ledger.proofs.Tests.{true≢false, leb-yes, leb-no, leb-not, ltb-yes, ltb-no, ltb-not, eqb-yes, eqb-is, not-yes}
 use Rattle.ledger.proofs.Steps.{cleared}
@@ -52,7 +52,7 @@ pub record Takes (F : Form) (n : ℕ) (h : List ℕ) : Type 0 where
   pub queue : fieldsOf F h .queue < n
 
 module _ (F : Form) (n : ℕ) (h : List ℕ) where
-  takes : Clear (headerRules F n [] h) → Takes F n h
+  takes : Clear (readRules F n h) → Takes F n h
   takes c = record {
     sized = same (length h) (headerSize F) (c .0);
     summed = same (fieldsOf F h .check) (crc8 (take (bodySize F) h)) (c .1 .0);
@@ -61,7 +61,7 @@ module _ (F : Form) (n : ℕ) (h : List ℕ) where
     queue = leb-no n (fieldsOf F h .queue) (c .1 .1 .1 .1 .0);
   }
 
-  takes-clear : Takes F n h → Clear (headerRules F n [] h)
+  takes-clear : Takes F n h → Clear (readRules F n h)
   takes-clear t = (
     not-other (length h) (headerSize F) (t .sized),
     (

@@ -8,14 +8,18 @@ use native.Mathlib.Omega.{arith}
 use lib.ListN.{length}
 use lib.Dec.{eqb}
 use lib.Pow.{high}
-use borrow.Author.Tests.{eq-eqb, ne-eqb, eqb-true, eqb-false}
 use Rattle.numbers.specs.Bytes.{number}
 use Rattle.numbers.specs.Fields.{bits, total, unpack}
 use Rattle.numbers.proofs.Bytes.{number-lt, number-split, pow-bytes}
 use Rattle.numbers.proofs.Parts.{unpack-parts, bytewise, numbersAt, pow-total, unpack-bytes}
-use Rattle.ledger.specs.Header.{Form, Fields, fieldsOf, spare, frontBytes, bodySize, headerSize, widths, inOrder}
+use Rattle.ledger.specs.Header.{Form, Fields, fieldsOf, spare, frontBytes, bodySize, headerSize, widths, inOrder, Load, bytesIn, missized, miscounted}
+use Rattle.ledger.specs.Answers.{loadOf}
+use Rattle.ledger.specs.declared.Load as code
+use Rattle.ledger.specs.declared.Load.the-variants as load
+use Rattle.ledger.proofs.Tests.{eqb-yes, not-yes, ltb-no}
 use Rattle.header.specs.Front.{frontWidths}
 use Rattle.header.specs.Parse.{fields, wrongSize, parsed, headerOf, parsedOf}
+use Rattle.header.specs.Loads.{misfit, other}
 use Rattle.header.specs.declared.HeaderFields.{HeaderFields}
 use Rattle.header.specs.declared.Parsed.{Parsed}
 use Rattle.header.specs.declared.Parsed.the-variants.{Header, WrongSize}
@@ -115,28 +119,49 @@ parsedOf-injective (Header a) WrongSize e = absurd (let z : _≡_ {A = ℕ} 0 1 
 parsedOf-injective WrongSize (Header b) e = absurd (let z : _≡_ {A = ℕ} 0 1 = cc in omega arith)
 parsedOf-injective WrongSize WrongSize e = refl
 
-module _ (F : Form) (h : List ℕ) where
+module _ (F : Form) (h : Load) where
   -- by the size
-  pub parsed-right : length h ≡ headerSize F → parsed F h ≡ fields (fieldsOf F h)
+  pub parsed-right : missized F h ≡ false → parsed F h ≡ fields (fieldsOf F (bytesIn h))
   unfolding parsed
-  parsed-right e = rw (eq-eqb (length h) (headerSize F) e)
+  parsed-right e = rw e
 
-  pub parsed-other : (length h ≡ headerSize F → ⊥) → parsed F h ≡ wrongSize
+  pub parsed-other : missized F h ≡ true → parsed F h ≡ wrongSize
   unfolding parsed
-  parsed-other ne = rw (ne-eqb (length h) (headerSize F) ne)
+  parsed-other e = rw e
 
   -- and back, from what was found
-  pub parsed-size : (f : Fields) → parsed F h ≡ fields f → length h ≡ headerSize F
-  parsed-size f e = go (eqb (length h) (headerSize F)) refl
+  pub parsed-size : (f : Fields) → parsed F h ≡ fields f → missized F h ≡ false
+  parsed-size f e = go (missized F h) refl
     where
-      go : (t : Bool) → eqb (length h) (headerSize F) ≡ t → length h ≡ headerSize F
-      go true t = eqb-true (length h) (headerSize F) t
-      go false t =
-          let other = parsed-other (eqb-false (length h) (headerSize F) t) in
-          absurd (let z : _≡_ {A = ℕ} 0 1 = cc in omega arith)
+      go : (t : Bool) → missized F h ≡ t → missized F h ≡ false
+      go true t = let other = parsed-other t in absurd (let z : _≡_ {A = ℕ} 0 1 = cc in omega arith)
+      go false t = t
 
-  pub parsed-fields : (f : Fields) → parsed F h ≡ fields f → f ≡ fieldsOf F h
+  pub parsed-fields : (f : Fields) → parsed F h ≡ fields f → f ≡ fieldsOf F (bytesIn h)
   parsed-fields f e = let right = parsed-right (parsed-size f e) in cc
 
-  pub parsed-wrong : parsed F h ≡ wrongSize → length h ≡ headerSize F → ⊥
-  parsed-wrong e right = let found = parsed-right right in let z : _≡_ {A = ℕ} 0 1 = cc in omega arith
+  pub parsed-wrong : parsed F h ≡ wrongSize → missized F h ≡ true
+  parsed-wrong e = go (missized F h) refl
+    where
+      go : (t : Bool) → missized F h ≡ t → missized F h ≡ true
+      go true t = t
+      go false t = let found = parsed-right t in absurd (let z : _≡_ {A = ℕ} 0 1 = cc in omega arith)
+
+-- ---- the code's load
+
+-- it says of the bytes what the load itself does, and bytes that fit have a header in front
+pub misfit-is : (F : Form) (l : code.Load) (b : List ℕ) → missized F (loadOf l b) ≡ misfit l (length b) (headerSize F)
+misfit-is F load.Header b = refl
+misfit-is F (load.Packet room) b = refl
+
+pub other-is : (F : Form) (l : code.Load) (b : List ℕ) → miscounted F (loadOf l b) ≡ other l (length b) (fieldsOf F b .len)
+other-is F load.Header b = refl
+other-is F (load.Packet room) b = refl
+
+pub bytes-are : (l : code.Load) (b : List ℕ) → bytesIn (loadOf l b) ≡ b
+bytes-are load.Header b = refl
+bytes-are (load.Packet room) b = refl
+
+pub fit-long : (l : code.Load) (n size : ℕ) → misfit l n size ≡ false → size ≤ n
+fit-long load.Header n size e = let s = eqb-yes n size (not-yes (eqb n size) e) in omega arith
+fit-long (load.Packet room) n size e = ltb-no n size e

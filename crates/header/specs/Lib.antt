@@ -1,3 +1,4 @@
 pub mod Front
 pub mod Parse
+pub mod Loads
 pub mod Judge

@@ -1,10 +1,6 @@
 -- What reading bytes as a header gives, and what the code's answer means. Assumes nothing.
 use mathlib.Core.Bool.{cond}
-use mathlib.Core.List.{List}
-use Prim.Native.Nat.{ℕ}
-use lib.ListN.{length}
-use lib.Dec.{eqb}
-use Rattle.ledger.specs.Header.{Form, Fields, fieldsOf, headerSize}
+use Rattle.ledger.specs.Header.{Form, Fields, fieldsOf, Load, bytesIn, missized}
 use Rattle.header.specs.declared.HeaderFields.{HeaderFields}
 use Rattle.header.specs.declared.Parsed.{Parsed}
 use Rattle.header.specs.declared.Parsed.the-variants.{Header, WrongSize}
@@ -13,9 +9,9 @@ pub data Read : Type 0 where
   fields : Fields → Read
   wrongSize : Read
 
--- any bytes of the form's size have fields
-unfoldable pub parsed : Form → List ℕ → Read
-parsed F h = cond (eqb (length h) (headerSize F)) (fields (fieldsOf F h)) wrongSize
+-- any bytes that can arrive have fields
+unfoldable pub parsed : Form → Load → Read
+parsed F h = cond (missized F h) wrongSize (fields (fieldsOf F (bytesIn h)))
 
 -- the code's fields are the definition's, each under its own name
 abbrev pub headerOf : HeaderFields → Fields

@@ -1,16 +1,21 @@
-// A header of any form: its fields read from bytes, its own refusals, its price. The ten-byte header is one of the forms.
+// A header of any form, alone or in front of a whole packet: its fields read from bytes, its own refusals, its price. The ten-byte header is
+// one of the forms.
 use forms::HeaderForm;
+use ledger::Load;
 use ledger::Refusal;
 ghost use mathlib.Core.Path.{_≡_};
-ghost use Prim.Native.Nat.{_+_, _^_, _<_, _≤_};
+ghost use mathlib.Core.List.{List};
+ghost use Prim.Native.Nat.{ℕ, _+_, _^_, _<_, _≤_};
 ghost use lib.ListN.{length};
 ghost use Rattle.numbers.specs.Bytes.{number};
 ghost use Rattle.numbers.specs.Fields.{bits, unpack};
 ghost use Rattle.crc.specs.Crc.{Steps};
-ghost use Rattle.ledger.specs.Header.{fieldsOf, headerSize, price};
+ghost use Rattle.ledger.specs.Header.{fieldsOf, headerSize, sizeNumber, price};
+ghost use Rattle.ledger.specs.Answers.{numberOf, loadOf};
 ghost use Rattle.forms.specs.Formed.{formIn, Formed};
 ghost use Rattle.header.specs.Front.{frontWidths, frontOf};
 ghost use Rattle.header.specs.Parse.{headerOf, parsedOf, parsed};
+ghost use Rattle.header.specs.Loads.{misfit, other};
 ghost use Rattle.header.specs.Judge.{verdictOf, verdict, opened, settled, readable};
 
 // The fields of a header, the front's six and then a field for each run of whole bytes.
@@ -59,7 +64,7 @@ fn small(w: u32, lo: u32, width: u32) -> u8
 
 // The front of a header as a number: its three or four bytes stand first, and what a word of four has beside them goes.
 fn front_word(h: &[u8], form: HeaderForm) -> u32
-    requires { ⌜ Formed form × (length (now h) ≡ headerSize (formIn form)) ⌝ }
+    requires { ⌜ Formed form × (headerSize (formIn form) ≤ length (now h)) ⌝ }
     ensures { λ r. ⌜ r ≡ number (form .front) (now (h .entry)) 0 ⌝ }
 {
     numbers::read4(h, 0) >> (8 * (4 - form.front))
@@ -100,9 +105,9 @@ fn offered_at(h: &[u8], at: usize, bytes: u32) -> u16
     numbers::read2(h, at)
 }
 
-// The fields of bytes of the form's size.
+// The fields of bytes that start with a header.
 fn fields(h: &[u8], form: HeaderForm) -> HeaderFields
-    requires { ⌜ Formed form × (length (now h) ≡ headerSize (formIn form)) ⌝ }
+    requires { ⌜ Formed form × (headerSize (formIn form) ≤ length (now h)) ⌝ }
     ensures { λ r. ⌜ headerOf r ≡ fieldsOf (formIn form) (now (h .entry)) ⌝ }
 {
     let w = front_word(h, form);
@@ -127,25 +132,54 @@ fn fields(h: &[u8], form: HeaderForm) -> HeaderFields
     }
 }
 
-// The fields of a header. Nothing but the size is refused.
-pub fn parse(h: &[u8], form: HeaderForm) -> Parsed
-    requires { ⌜ Formed form ⌝ }
-    ensures { λ r. ⌜ parsedOf r ≡ parsed (formIn form) (now (h .entry)) ⌝ }
+// Whether n bytes can't be what arrives where a header has so many: a header alone has just these, a packet has them in front.
+fn missized(load: Load, n: usize, size: usize) -> bool
+    ensures { λ r. ⌜ r ≡ misfit load n size ⌝ }
 {
-    if h.len() == form.size as usize {
-        Parsed::Header(fields(h, form))
-    } else {
-        Parsed::WrongSize
+    match load {
+        Load::Header => n != size,
+        Load::Packet(_) => n < size,
     }
 }
 
-// The refusals that are tested before the source: of the bytes, and of the reserved bits.
-fn open(steps: &[u8; 256], h: &[u8], form: HeaderForm) -> Judged
-    requires { ⌜ Steps (now steps) × Formed form ⌝ }
-    ensures { λ r. ⌜ verdictOf r ≡ opened (formIn form) (now (h .entry)) ⌝ }
+// And whether a packet has other than the bytes that its header counts.
+fn miscounted(load: Load, n: usize, len: usize) -> bool
+    ensures { λ r. ⌜ r ≡ other load n len ⌝ }
 {
-    let Parsed::Header(f) = parse(h, form) else {
-        return Judged::No(Refusal::HeaderSize);
+    match load {
+        Load::Header => false,
+        Load::Packet(_) => n != len,
+    }
+}
+
+// How bytes that can't be what arrives are refused.
+fn size_refusal(load: Load) -> Refusal
+    ensures { λ r. ⌜ ((b : List ℕ) → numberOf r ≡ sizeNumber (loadOf load b)) ⌝ }
+{
+    match load {
+        Load::Header => Refusal::HeaderSize,
+        Load::Packet(_) => Refusal::PacketBytes,
+    }
+}
+
+// The fields of what arrives. Nothing but the size is refused.
+pub fn parse(load: Load, h: &[u8], form: HeaderForm) -> Parsed
+    requires { ⌜ Formed form ⌝ }
+    ensures { λ r. ⌜ parsedOf r ≡ parsed (formIn form) (loadOf load (now (h .entry))) ⌝ }
+{
+    if missized(load, h.len(), form.size as usize) {
+        return Parsed::WrongSize;
+    }
+    Parsed::Header(fields(h, form))
+}
+
+// The refusals that are tested before the source: of the bytes, and of the reserved bits.
+fn open(steps: &[u8; 256], load: Load, h: &[u8], form: HeaderForm) -> Judged
+    requires { ⌜ Steps (now steps) × Formed form ⌝ }
+    ensures { λ r. ⌜ verdictOf r ≡ opened (formIn form) (loadOf load (now (h .entry))) ⌝ }
+{
+    let Parsed::Header(f) = parse(load, h, form) else {
+        return Judged::No(size_refusal(load));
     };
     let reserved = f.reserved;
     let body = (form.size - 1) as usize;
@@ -159,15 +193,18 @@ fn open(steps: &[u8; 256], h: &[u8], form: HeaderForm) -> Judged
     Judged::Good(f)
 }
 
-// Those that are tested after it: of the length and of the queue.
-fn settle(f: HeaderFields, form: HeaderForm, queues: u32) -> Judged
+// Those that are tested after it: of the length, of the bytes' count and of the queue.
+fn settle(f: HeaderFields, form: HeaderForm, queues: u32, miscounted: bool) -> Judged
     requires { ⌜ Formed form ⌝ }
-    ensures { λ r. ⌜ verdictOf r ≡ settled (formIn form) queues (headerOf f) ⌝ }
+    ensures { λ r. ⌜ verdictOf r ≡ settled (formIn form) queues miscounted (headerOf f) ⌝ }
 {
     let len = f.len as u32;
     let queue = f.queue as u32;
     if len < form.size + 2 {
         return Judged::No(Refusal::TooShort);
+    }
+    if miscounted {
+        return Judged::No(Refusal::PacketBytes);
     }
     if queues <= queue {
         return Judged::No(Refusal::HeaderQueue);
@@ -175,18 +212,25 @@ fn settle(f: HeaderFields, form: HeaderForm, queues: u32) -> Judged
     Judged::Good(f)
 }
 
-// The header's own refusals at the port where it arrives, in a switch of so many queues, in the order in which they are tested.
-pub fn judge(steps: &[u8; 256], h: &[u8], form: HeaderForm, queues: u32, port: u32) -> Judged
+// The refusals of what arrives at a port, in a switch of so many queues, in the order in which they are tested.
+pub fn judge(
+    steps: &[u8; 256],
+    load: Load,
+    h: &[u8],
+    form: HeaderForm,
+    queues: u32,
+    port: u32,
+) -> Judged
     requires { ⌜ Steps (now steps) × Formed form ⌝ }
-    ensures { λ r. ⌜ verdictOf r ≡ verdict (formIn form) queues port (now (h .entry)) ⌝ }
+    ensures { λ r. ⌜ verdictOf r ≡ verdict (formIn form) queues port (loadOf load (now (h .entry))) ⌝ }
 {
-    match open(steps, h, form) {
+    match open(steps, load, h, form) {
         Judged::Good(f) => {
             let source = f.source as u32;
             if source != port {
                 return Judged::No(Refusal::Source);
             }
-            settle(f, form, queues)
+            settle(f, form, queues, miscounted(load, h.len(), f.len as usize))
         }
         Judged::No(r) => Judged::No(r),
     }
@@ -197,8 +241,8 @@ pub fn judge_read(steps: &[u8; 256], h: &[u8], form: HeaderForm, queues: u32) ->
     requires { ⌜ Steps (now steps) × Formed form ⌝ }
     ensures { λ r. ⌜ verdictOf r ≡ readable (formIn form) queues (now (h .entry)) ⌝ }
 {
-    match open(steps, h, form) {
-        Judged::Good(f) => settle(f, form, queues),
+    match open(steps, Load::Header, h, form) {
+        Judged::Good(f) => settle(f, form, queues, false),
         Judged::No(r) => Judged::No(r),
     }
 }

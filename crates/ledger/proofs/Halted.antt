@@ -29,18 +29,12 @@ use Rattle.ledger.proofs.Tests.{true≢false, eqb-is, eqb-not, ltb-not,
 use Rattle.ledger.proofs.Columns.{other-column, change-here, change-other, only-changed}
 use Rattle.ledger.proofs.Buckets.{ticked-numbers}
 use Rattle.ledger.proofs.Halt.{marks-first, marked-by, not-held}
-use Rattle.ledger.proofs.Passes.{guard-after, comes, comes-clear, Admits, admits}
+use Rattle.ledger.proofs.Passes.{guard-then, guard-after, comes, comes-clear, Admits, admits}
 use Rattle.ledger.proofs.Steps.{guarded-both, cleared, stepped, refused-by, refused-else}
 use Rattle.ledger.proofs.Promises.{refusal-marks}
 use Rattle.ledger.proofs.Courses.{Faithful, act-answer, act-shows, refused-shows, desk-faithful}
 
 -- ---- two ledgers under the same rules
-
--- rules after rules: where none of the first applies, the others decide
-guard-then : {X : Type 0} (rs ts : List Rule) (no′ : ℕ → X) (out : X) → guard (rs ++ ts) no′ out ≡ guard rs no′ (guard ts no′ out)
-guard-then [] ts no′ out = refl
-guard-then (refuse n true ∷ rs) ts no′ out = refl
-guard-then (refuse n false ∷ rs) ts no′ out = guard-then rs ts no′ out
 
 -- ---- an arrival reads its own port's free list, credit and mark
 

@@ -26,6 +26,18 @@ pub clear-right : (rs ts : List Rule) → Clear (rs ++ ts) → Clear ts
 clear-right [] ts c = c
 clear-right (refuse n b ∷ rs) ts c = clear-right rs ts (c .1)
 
+-- the first of them decide, then the others
+pub guard-then : {X : Type 0} (rs ts : List Rule) (no′ : ℕ → X) (out : X) → guard (rs ++ ts) no′ out ≡ guard rs no′ (guard ts no′ out)
+guard-then [] ts no′ out = refl
+guard-then (refuse n true ∷ rs) ts no′ out = refl
+guard-then (refuse n false ∷ rs) ts no′ out = guard-then rs ts no′ out
+
+-- what is made of a decision is decided by the same rules
+pub guard-map : {X Y : Type 0} (f : X → Y) (rs : List Rule) (no′ : ℕ → X) (out : X) → f (guard rs no′ out) ≡ guard rs (λ n. f (no′ n)) (f out)
+guard-map f [] no′ out = refl
+guard-map f (refuse n true ∷ rs) no′ out = refl
+guard-map f (refuse n false ∷ rs) no′ out = guard-map f rs no′ out
+
 -- where none of the first applies, the others decide
 pub guard-after : {X : Type 0} (rs ts : List Rule) (no′ : ℕ → X) (out : X) → Clear rs → guard (rs ++ ts) no′ out ≡ guard ts no′ out
 guard-after [] ts no′ out c = refl

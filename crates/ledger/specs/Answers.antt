@@ -138,3 +138,17 @@ recordIn (found v i) = replicate 10 0
 recordIn (reported n) = replicate 10 0
 recordIn (counted n) = replicate 10 0
 recordIn (part x n) = replicate 10 0
+
+-- the refusal's number; 0 for any other reply
+abbrev pub numberIn : Reply → ℕ
+numberIn (refused n) = n
+numberIn done = 0
+numberIn (entry x) = 0
+numberIn (stitched b) = 0
+numberIn idle = 0
+numberIn (leaves k s) = 0
+numberIn (word w n) = 0
+numberIn (found v i) = 0
+numberIn (reported n) = 0
+numberIn (counted n) = 0
+numberIn (part x n) = 0

@@ -3,7 +3,8 @@ use mathlib.Core.Path.{_≡_, ap}
 use mathlib.Core.List.{List}
 use Prim.Native.Nat.{ℕ}
 use Rattle.ledger.specs.Calls.{Reply}
-use Rattle.rooms.specs.Rooms.{numberIn, told, toldIn, toldRound, shown}
+use Rattle.ledger.specs.Answers.{numberIn}
+use Rattle.rooms.specs.Rooms.{told, toldIn, toldRound, shown}
 
 module _ (x : Reply) (m : List ℕ) (out : Reply × List ℕ) (r : ℕ) (e : (x, m) ≡ out) (number : r ≡ numberIn x) where
   pub tells : (r, m) ≡ told out

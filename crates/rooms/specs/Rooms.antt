@@ -6,21 +6,8 @@ use lib.ListN.{set}
 use Rattle.ledger.specs.Ledger.{Packet}
 use Rattle.ledger.specs.declared.Broken.{Broken}
 use Rattle.ledger.specs.declared.Broken.the-variants.{Nothing, A, B, C, D, E, F, G, I}
-use Rattle.ledger.specs.Calls.{Side, inside, outside, Reply, refused, done, entry, stitched, idle, leaves, word, found, reported, counted}
-
--- the refusal's number; 0 for any other reply
-abbrev pub numberIn : Reply → ℕ
-numberIn (refused n) = n
-numberIn done = 0
-numberIn (entry x) = 0
-numberIn (stitched b) = 0
-numberIn idle = 0
-numberIn (leaves k s) = 0
-numberIn (word w n) = 0
-numberIn (found v i) = 0
-numberIn (reported n) = 0
-numberIn (counted n) = 0
-numberIn (part x n) = 0
+use Rattle.ledger.specs.Calls.{Side, inside, outside, Reply, refused, done, entry, stitched, idle, leaves, word, found, reported, counted, part}
+use Rattle.ledger.specs.Answers.{numberIn}
 
 -- what a call answers and leaves: the number and the memory
 abbrev pub told : Reply × List ℕ → ℕ × List ℕ

@@ -18,7 +18,8 @@ ghost use Prim.Native.Nat.{ℕ};
 ghost use Rattle.ledger.specs.Answers.{numberOf, kindOf, exitOf, sentOf, plainReply, stitchReply, entryReply, turnReply, readyReply, whereReply};
 ghost use Rattle.ledger.specs.Answers.{reportReply, bucketReply};
 ghost use Rattle.ledger.specs.Ledger.{portOf, kindIn, queueIn};
-ghost use Rattle.rooms.specs.Rooms.{numberIn, entryRoom, recordRoom, sideByte, sentBytes, sentRoom, readyRoom, markRoom, bucketRoom};
+ghost use Rattle.ledger.specs.Answers.{numberIn};
+ghost use Rattle.rooms.specs.Rooms.{entryRoom, recordRoom, sideByte, sentBytes, sentRoom, readyRoom, markRoom, bucketRoom};
 ghost use Rattle.rooms.specs.Rooms.{ruleNumber, itemNumber, foundNumbers};
 ghost use Rattle.ledger.specs.Audit.{placeBytes, placeRoom};
 

@@ -2,7 +2,7 @@
 -- Assumes nothing.
 use mathlib.Core.Path.{sym, ap, _∙_}
 use borrow.Author.Needs.{needs}
-use Rattle.ledger.specs.Answers.{sentOf}
+use Rattle.ledger.specs.Answers.{sentOf, loadOf}
 use Rattle.layout.specs.Tables.{settingsOf}
 use Rattle.arrivals.specs.Admission.{admittedOf}
 use Rattle.arrivals.proofs.Laws.{turned-away, Arrives, arrives}
@@ -22,11 +22,11 @@ enum-known-admitted-2 : tie.Need-enum-known-admitted-2
 enum-known-admitted-2 c = search needs
 
 went : (c : tie.After-admitted2) → let a = c .before .before .before .before .before .before .args in
-    Arrives (a .s) (a .m .now) (a .port) (a .h .now) (sentOf (c .admitted2 .given .0 .0))
+    Arrives (a .s) (a .m .now) (a .port) (loadOf (a .load) (a .h .now)) (sentOf (c .admitted2 .given .0 .0))
 went c =
     let st = c .before .before .before .before .before .before in
     let a = st .args in
-    arrives (a .s) (a .m .now) (st .pre .1) (a .port) (a .h .now) (sentOf (c .admitted2 .given .0 .0))
+    arrives (a .s) (a .m .now) (st .pre .1) (a .port) (loadOf (a .load) (a .h .now)) (sentOf (c .admitted2 .given .0 .0))
     (sym (ap admittedOf (c .admitted2 .given .1)) ∙ c .before .before .judge-arrive .ensures)
 
 take-in-requires : tie.Need-take-in-requires
@@ -42,7 +42,7 @@ returns c =
     let j = told .before .before in
     let a = j .before .before .before .before .args in
     rw (halted .halt .ensures)
-    (sym (turned-away (settingsOf (a .s)) (a .m .now) (a .port) (a .h .now) _ (sym (ap admittedOf (told .admitted .given .1)) ∙ j .judge-arrive .ensures)))
+    (sym (turned-away (settingsOf (a .s)) (a .m .now) (a .port) (loadOf (a .load) (a .h .now)) _ (sym (ap admittedOf (told .admitted .given .1)) ∙ j .judge-arrive .ensures)))
 
 same-length-2 : tie.Need-same-length-2
 same-length-2 c = search needs

@@ -1,71 +1,31 @@
--- `arrivals::judge_arrive` meets its contract: the port, then the header's own verdict, then what its fields ask. Assumes nothing.
-use mathlib.Core.Path.{_≡_, sym, ap, _∙_}
+-- `arrivals::judge_arrive` meets its contract: the kind, then the rest. Assumes nothing.
+use mathlib.Core.Path.{sym, ap, _∙_}
 use borrow.Author.Needs.{needs}
-use Rattle.ledger.specs.Header.{form}
-use Rattle.header.specs.Parse.{headerOf}
-use Rattle.header.specs.Judge.{good, verdict, verdictOf}
+use Rattle.ledger.specs.Answers.{loadOf}
 use Rattle.layout.specs.Tables.{settingsOf}
-use Rattle.arrivals.proofs.Laws as laws
+use Rattle.memory.specs.Judged.{judgementOf}
+use Rattle.arrivals.proofs.Laws.{bad-kind, good-kind}
 use Rattle.arrivals.proofs.judge_arrive.Statement.{statement}
 use Rattle.arrivals.proofs.judge_arrive.Tie as tie
 
 returns : tie.Need-returns
 returns c =
-    let a = c .before .before .before .args in
-    laws.no-port (settingsOf (a .s)) (a .m .now) (a .port) (a .h .now) (c .if1 .taken)
-
-judge-header-requires : tie.Need-judge-header-requires
-judge-header-requires c κs = search needs
-
-enum-known-judged : tie.Need-enum-known-judged
-enum-known-judged c = search needs
-
-enum-known-judged-2 : tie.Need-enum-known-judged-2
-enum-known-judged-2 c = search needs
-
--- the header has no fault of its own
-passed : (c : tie.After-judged2) → let a = c .before .before .before .before .before .before .args in
-    good (headerOf (c .judged2 .given .0 .0)) ≡ verdict (form (settingsOf (a .s))) (a .s .queues) (a .port) (a .h .now)
-passed c = sym (ap verdictOf (c .judged2 .given .1)) ∙ c .before .before .judge-header .ensures
-
-admit-requires : tie.Need-admit-requires
-admit-requires c κs =
-    let e = c .before .before .before .before in
-    let st = e .before .before .before in
-    record {
-      priced = record {
-        laid = st .pre .1 .laid;
-        len = laws.len-in (form (settingsOf (st .args .s))) (st .args .s .queues)
-            (st .args .port) (st .args .h .now) _ (passed (c .before));
-      };
-      long = st .pre .1 .state .long;
-      port = e .if1 .left;
-      queue = laws.known-queue (form (settingsOf (st .args .s))) (st .args .s .queues) (st .args .port) (st .args .h .now) _ (passed (c .before));
-    }
+    let r = c .before in
+    let k = r .before .before in
+    let a = k .before .before .before .args in
+    bad-kind (settingsOf (a .s)) (a .m .now) (a .port) (loadOf (a .load) (a .h .now)) _
+    (sym (ap judgementOf (r .kind .given .1)) ∙ k .judge-kind .ensures (a .h .now))
 
 returns-2 : tie.Need-returns-2
 returns-2 c =
-    let j = c .before .before .before in
-    let a = j .before .before .before .before .args in
-    laws.bad-header (settingsOf (a .s)) (a .m .now) (a .port) (a .h .now) (j .before .if1 .left) _
-    (sym (ap verdictOf (c .before .judged .given .1)) ∙ j .judge-header .ensures)
-
-returns-3 : tie.Need-returns-3
-returns-3 c =
-    let f = c .before .before in
-    let e = f .before .before .before in
-    let a = e .before .before .before .args in
-    c .admit .ensures
-    ∙ laws.good-header (settingsOf (a .s)) (a .m .now) (a .port) (a .h .now) (e .if1 .left) (headerOf (f .judged2 .given .0 .0)) (passed f)
+    let t = c .before in
+    let k = t .before .before in
+    let a = k .before .before .before .args in
+    c .judge-at .ensures
+    ∙ good-kind (settingsOf (a .s)) (a .m .now) (a .port) (loadOf (a .load) (a .h .now))
+    (sym (ap judgementOf (t .enum-told .given .1)) ∙ k .judge-kind .ensures (a .h .now))
 
 pub judge-arrive-spec : {M : Type 1} → statement M
 judge-arrive-spec =
     tie.close
-    (tie.spec
-    returns
-    judge-header-requires
-    enum-known-judged
-    enum-known-judged-2
-    admit-requires
-    returns-2
-    returns-3)
+    (tie.spec (λ c κs. search needs) (λ c. search needs) (λ c. search needs) (λ c κs. search needs) returns returns-2)
