@@ -14,7 +14,7 @@ use Rattle.ledger.specs.Ledger.{Packet, oldest, behind, pop, push}
 use Rattle.ledger.specs.Ready.{bit}
 use Rattle.ledger.specs.Calls.{isEmpty}
 use Rattle.ledger.specs.Sound.{All, Everywhere, sum, weigh, one}
-use Rattle.ledger.proofs.Tests.{true≢false, eqb-is}
+use Rattle.ledger.proofs.Tests.{true≢false, eqb-is, eqb-not}
 
 -- ---- sums
 
@@ -217,6 +217,11 @@ sum-counts (x ∷ xs) = (omega (arith, one-self (x .node)), All-map xs (λ y h. 
 -- a node that stands somewhere is counted
 pub counted : (ls : List (List Packet)) → Everywhere (λ l k. 1 ≤ weigh (one (k .node)) ls) ls
 counted ls = record { holds = λ l h. All-map (getD ls l []) (λ k j. omega (arith, sum-below (one (k .node)) ls l)) (sum-counts (getD ls l [])) }
+
+-- a node that isn't among the entry ids of a list isn't counted there
+pub uncounted : (y : ℕ) (ks : List Packet) → All (λ x. x ≢ y) (map (λ k. k .node) ks) → sum (one y 0) ks ≡ 0
+uncounted y [] a = refl
+uncounted y (k ∷ ks) a = omega (arith, ap bit (eqb-not (k .node) y (a .0)), uncounted y ks (a .1))
 
 -- a node of weight 0 is nowhere
 pub nowhere : (y : ℕ) (ls : List (List Packet)) → weigh (one y) ls ≡ 0 → Everywhere (λ l k. k .node ≢ y) ls

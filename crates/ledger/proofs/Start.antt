@@ -40,7 +40,7 @@ bares-out y a zero h = refl
 bares-out y a (suc n) (inl h) = omega (arith, ap bit (eqb-not a y (omega arith)), bares-out y (suc a) n (inl (omega arith)))
 bares-out y a (suc n) (inr h) = omega (arith, ap bit (eqb-not a y (omega arith)), bares-out y (suc a) n (inr (omega arith)))
 
-bares-in : (y a n : ℕ) → a ≤ y → y < a + n → sum (one y 0) (bares a n) ≡ 1
+pub bares-in : (y a n : ℕ) → a ≤ y → y < a + n → sum (one y 0) (bares a n) ≡ 1
 bares-in y a zero h k = absurd (omega arith)
 bares-in y a (suc n) h k = go (ℕ-discrete a y) (bares-in y (suc a) n)
   where

@@ -1,19 +1,24 @@
 -- "After repair demand 3 counts afresh"; and where a repair that stands is among the deeds, nothing of it holds. Assumes nothing.
 use mathlib.Core.Path.{_≡_, sym, ap, _∙_}
 use mathlib.Core.Logic.{_≢_}
-use mathlib.Core.Bool.{false}
+use mathlib.Core.Bool.{true, false}
 use mathlib.Core.List.{List, [], _∷_}
 use Prim.Native.Nat.{ℕ, zero, suc, _≤_, _<_}
 use native.Mathlib.Omega.{arith}
 use lib.ListN.{length, getD, length-append}
 use Rattle.ledger.specs.Settings.{Settings}
-use Rattle.ledger.specs.Ledger.{entryId, Packet, Place, free, prefetched, column, place#, mapped, buckets, Ledger, listAt, start, Place·In}
+use Rattle.ledger.specs.Ledger.{entryId, owner, isNode, Packet, Place, free, prefetched, column, place#, mapped, buckets, Ledger, listAt, start, Place·In}
 use Rattle.ledger.specs.Calls.{Reply}
 use Rattle.ledger.specs.Desk.{has}
+use Rattle.ledger.specs.Ready.{bit}
 use Rattle.ledger.specs.Demand.{ShowsWaiting}
+use Rattle.ledger.specs.Sound.{sum, one}
+use Rattle.ledger.specs.Packets.{Memories}
 use Rattle.ledger.specs.Repair.{restart}
 use Rattle.ledger.proofs.Tests.{true≢false}
-use Rattle.ledger.proofs.Start.{bares-length, start-free, start-else}
+use Rattle.ledger.proofs.Lists.{uncounted}
+use Rattle.ledger.proofs.Places.{node-of}
+use Rattle.ledger.proofs.Start.{bares-length, bares-in, start-free, start-else}
 use Rattle.ledger.specs.Buckets.{bucket#}
 use Rattle.ledger.proofs.Repair.{restarted}
 use Rattle.ledger.proofs.Tally.{start-none}
@@ -22,7 +27,7 @@ use Rattle.memory.specs.Memory.{picture}
 use Rattle.memory.specs.Repair.{repaired}
 use Rattle.memory.specs.Deeds.{LentDeed, lent-find, lent-repair}
 use Rattle.memory.specs.Deeds.{foundBy, Told, LeavesInDeeds, KeepsOrderInDeeds, PoolKeptInDeeds, CountsAfresh, HoldsInDeeds, AfreshAfterRepair}
-use Rattle.memory.specs.Deeds.{SumSinceRepair}
+use Rattle.memory.specs.Deeds.{AsArrivedInDeeds, SumSinceRepair}
 use Rattle.memory.proofs.Demands.{pictured-state}
 use Rattle.memory.proofs.Repair.{repair-refused, repair-picture}
 use Rattle.memory.proofs.Deeds.{opens-state, holds-in-deeds, sum-since}
@@ -82,6 +87,20 @@ module _ (m : List ℕ) (S : Settings) (L : Ledger) (e : picture m ≡ has S L) 
         ap length (emptied (k .0 .ledger) (k .1) (free p)),
         ap length (start-free S p hp),
         bares-length (entryId p 0) (S .nodes),
+      )
+
+  -- a packet that is kept is forgotten: its node is free
+  pub packet-forgotten : (y : ℕ) → isNode S y ≡ true → (b : List ℕ) (ks : Memories) → AsArrivedInDeeds S y b ks m (lent-repair ∷ []) → ⊥
+  packet-forgotten y node b ks k =
+      let n = node-of S y (omega (arith, ap bit node)) in
+      let v : Place = free (owner y) in
+      let free-again = emptied (k .0 .ledger) (k .1) v ∙ start-free S (owner y) (n .home) in
+      let first : ℕ = entryId (owner y) 0 in
+      omega (
+        arith,
+        uncounted y (listAt S (k .0 .ledger) v) (k .0 .not-free),
+        ap (sum (one y 0)) free-again,
+        bares-in y first (S .nodes) (omega arith) (omega (arith, n .low)),
       )
 
   -- and who waited in the slots isn't there any more to leave

@@ -1,5 +1,6 @@
 -- Paper 02, Q-11: demand 3, the order of queues, the pools, the marks, the buckets, what is recorded and the packets that are kept, said of all
--- that is done on a memory: calls, rounds, runs, audits and findings, setting up anew and repairs excepted. And "After repair demand 3 counts afresh, as after setup". Assumes nothing.
+-- that is done on a memory: calls, rounds, runs, audits and findings, setting up anew and repairs excepted. And "After repair demand 3 counts
+-- afresh, as after setup". Assumes nothing.
 use mathlib.Core.Path.{_≡_}
 use mathlib.Core.Logic.{_≢_}
 use mathlib.Core.Bool.{Bool, true, false}
