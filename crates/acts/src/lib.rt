@@ -1,11 +1,13 @@
 // The acts without the test, for benchmarks alone: on a memory that is known to be a switch state, each does what the public call does.
 // A caller from C has to know it: these are no part of the public surface.
 use layout::Shape;
+use ledger::Load;
 use ranges::Opened;
 ghost use mathlib.Core.Path.{_≡_};
 ghost use mathlib.Core.List.{List};
 ghost use Prim.Native.Nat.{ℕ};
 ghost use Rattle.ledger.specs.Buckets.{untimed};
+ghost use Rattle.ledger.specs.Header.{alone};
 ghost use Rattle.ledger.specs.Calls.{arrive, stitch, prefetch, credit, turn};
 ghost use Rattle.ledger.specs.Desk.{act};
 ghost use Rattle.layout.specs.Picture.{State};
@@ -29,10 +31,10 @@ fn shape(m: &[u8]) -> Shape
 pub extern "C" fn act_arrive(mem: &mut [u8], port: u32, header: &[u8], entry: &mut u16) -> u32
     requires { ⌜ State (now mem) ⌝ }
     ensures { λ r. ⌜ _≡_ {A = ℕ × List ℕ × ℕ} (r, now (mem .exit), now (entry .exit))
-        (toldIn entryRoom (now (entry .entry)) (M (act (arrive port (now (header .entry)))) (now (mem .entry)))) ⌝ }
+        (toldIn entryRoom (now (entry .entry)) (M (act (arrive port (alone (now (header .entry))))) (now (mem .entry)))) ⌝ }
 {
     let s = shape(mem);
-    rooms::put_entry(arrivals::arrive(mem, s, port, header), entry)
+    rooms::put_entry(arrivals::arrive(mem, s, Load::Header, port, header), entry)
 }
 
 #[no_mangle]

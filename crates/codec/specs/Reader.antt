@@ -1,6 +1,6 @@
 -- Paper 02, Q-7: the reader of headers. Assumes nothing.
 use mathlib.Core.Bool.{not}
-use mathlib.Core.List.{List, [], _∷_}
+use mathlib.Core.List.{List, _∷_}
 use Prim.Native.Nat.{ℕ}
 use Rattle.ledger.specs.Header.{formOf, fieldsOf, readRules}
 use Rattle.ledger.specs.Rules.{Rule, refuse, guard}

@@ -5,6 +5,7 @@ use codec::HeaderRead;
 use codec::Label;
 use header::HeaderFields;
 use header::Judged;
+use ledger::Load;
 use ledger::Plain;
 
 fn number(n: u64) {
@@ -33,7 +34,7 @@ fn show_fields(f: HeaderFields) {
 
 fn show(h: &[u8], port: u32) {
     let form = forms::form_of(0, 4, 24);
-    match header::judge(&crc::steps(), h, form, 24, port) {
+    match header::judge(&crc::steps(), Load::Header, h, form, 24, port) {
         Judged::Good(f) => show_fields(f),
         Judged::No(r) => number(r.number() as u64),
     }

@@ -3,7 +3,7 @@
 use mathlib.Core.Path.{_≡_, refl, sym, ap, _∙_, subst}
 use mathlib.Core.Logic.{_≢_, _⊎_, inl, inr, ⊎-elim}
 use mathlib.Core.Bool.{Bool, true, false, cond}
-use mathlib.Core.List.{List, [], _∷_, _++_}
+use mathlib.Core.List.{List, [], _∷_}
 use Prim.Native.Nat.{ℕ, zero, suc, _+_, _-_, _<_}
 use native.Mathlib.Omega.{arith}
 use native.Mathlib.Decide.{ℕ-discrete}
@@ -11,7 +11,7 @@ use lib.ListN.{length, getD, set, length-set}
 use lib.Seq.{getD-set-other}
 use lib.Dec.{eqb, ltb}
 use Rattle.ledger.specs.Settings.{Settings}
-use Rattle.ledger.specs.Rules.{Rule, refuse, guard}
+use Rattle.ledger.specs.Rules.{Rule, guard}
 use Rattle.ledger.specs.Header.{form, fieldsOf, Load, bytesIn}
 use Rattle.ledger.specs.Ledger.{owner, Packet, bare, recorded, Place, free, ingress, egress, prefetched, place#, creditAt, setCredit, Column, column#}
 use Rattle.ledger.specs.Buckets.{Clock, untimed, at, waitOf, bucketOf, oneMore, bucket#}

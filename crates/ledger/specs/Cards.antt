@@ -304,7 +304,8 @@ showing =
     ∷ shows 16384 16384 2 5 ∷ act (prefetch 2 5) ∷ shows 16384 16384 2 5 ∷ shows 16384 16384 1 5 ∷ act (credit 2 5 2) ∷ act (turn untimed 2)
     ∷ shows 16384 16384 2 5 ∷ [])
     (refused 3 ∷ done ∷ refused 24 ∷ done ∷ refused 17 ∷ refused 17 ∷ refused 4
-    ∷ refused 5 ∷ done ∷ entry 2048 ∷ entry 2049 ∷ stitched (8 ∷ 0 ∷ 0 ∷ 12 ∷ 0 ∷ 2 ∷ 0 ∷ 0 ∷ 0 ∷ 0 ∷ []) ∷ stitched (8 ∷ 1 ∷ 0 ∷ 65 ∷ 5 ∷ 2 ∷ 0 ∷ 0 ∷ 0 ∷ 0 ∷ [])
+    ∷ refused 5 ∷ done ∷ entry 2048 ∷ entry 2049 ∷ stitched (8 ∷ 0 ∷ 0 ∷ 12 ∷ 0 ∷ 2 ∷ 0 ∷ 0 ∷ 0 ∷ 0 ∷ [])
+    ∷ stitched (8 ∷ 1 ∷ 0 ∷ 65 ∷ 5 ∷ 2 ∷ 0 ∷ 0 ∷ 0 ∷ 0 ∷ [])
     ∷ refused 12 ∷ entry 2049 ∷ part 2049 65 ∷ refused 12 ∷ done
     ∷ leaves (record { node = 2049; len = 65; queue = 5; dest = 0; stamp = 0; poisoned = 0; transaction = 0; price = 2 }) outside
     ∷ refused 12 ∷ [])

@@ -1,5 +1,5 @@
--- The desk: all thirteen calls, with turn timed or not and arrive of a header or of a whole packet, on a lent memory of which only its length and what it pictures count. Setup, and
--- refusal 3, stand here; the round, which is a list of calls, in Rounds.antt. Assumes nothing.
+-- The desk: all thirteen calls, with turn timed or not and arrive of a header or of a whole packet, on a lent memory of which only its length
+-- and what it pictures count. Setup, and refusal 3, stand here; the round, which is a list of calls, in Rounds.antt. Assumes nothing.
 use mathlib.Core.Path.{_≡_}
 use mathlib.Core.Bool.{Bool, true, false, not}
 use mathlib.Core.List.{List, [], _∷_}

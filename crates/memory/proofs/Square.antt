@@ -508,7 +508,8 @@ refusal-keeps-bytes (act a) m other = go (state-dec m)
     go (no n) = λ e. refl
 
 -- an arrival's writes the arriving port's mark, if it halts the port, and nothing else: on any memory, since what is no state is refused 3
-pub refusal-marks-bytes : (p : ℕ) (h : Load) (m : List ℕ) (n : ℕ) → M (act (arrive p h)) m .0 ≡ refused n → M (act (arrive p h)) m .1 ≡ markMem (settingsIn m) p n m
+pub refusal-marks-bytes : (p : ℕ) (h : Load) (m : List ℕ) (n : ℕ) → M (act (arrive p h)) m .0 ≡ refused n
+    → M (act (arrive p h)) m .1 ≡ markMem (settingsIn m) p n m
 unfolding M acted
 refusal-marks-bytes p h m n = go (state-dec m)
   where

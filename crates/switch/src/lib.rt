@@ -1,7 +1,8 @@
-// The thirteen calls of the queue manager, turn timed or not and arrive of a header or of a whole packet, the round, the run, and the night crew's audit, finding and repair, for any memory
-// and any numbers: nothing has to be checked by the caller. Each contract is an equation that fixes answer and memory: (reply, memory after) is
-// M of the call and the memory before; of the round, roundOn of the memory and the room; of the run runOn, of the audit auditOn, of the finding
-// brokenIn, of the repair repaired; of a whole packet packetOn of both memories, and show hands back shownOf the four.
+// The thirteen calls of the queue manager, turn timed or not and arrive of a header or of a whole packet, the round, the run, and the night
+// crew's audit, finding and repair, for any memory and any numbers: nothing has to be checked by the caller. Each contract is an equation that
+// fixes answer and memory: (reply, memory after) is M of the call and the memory before; of the round, roundOn of the memory and the room; of
+// the run runOn, of the audit auditOn, of the finding brokenIn, of the repair repaired; of a whole packet packetOn of both memories, and show
+// hands back shownOf the four.
 use ledger::Broken;
 use ledger::Bucketed;
 use ledger::Entry;
@@ -92,7 +93,16 @@ pub fn show_at(m: &[u8], n0: usize, n1: usize, n2: usize, n3: usize, port: u32, 
 
 // Show: the oldest packet of the slots of port and queue, as a part of its owner's packet memory, never a copy; of a refusal an empty part, and
 // its number goes into the number lent for it, else 0.
-pub fn show<'a>(m: &[u8], p0: &'a [u8], p1: &'a [u8], p2: &'a [u8], p3: &'a [u8], port: u32, queue: u32, no: &mut u32) -> &'a [u8]
+pub fn show<'a>(
+    m: &[u8],
+    p0: &'a [u8],
+    p1: &'a [u8],
+    p2: &'a [u8],
+    p3: &'a [u8],
+    port: u32,
+    queue: u32,
+    no: &mut u32,
+) -> &'a [u8]
     ensures { λ r. ⌜ now (no .exit) ≡ numberIn (M (act (show (length (now (p0 .entry)) ∷ length (now (p1 .entry)) ∷ length (now (p2 .entry))
         ∷ length (now (p3 .entry)) ∷ []) port queue)) (now (m .entry)) .0) ⌝ }
     ensures { λ r. ⌜ _≡_ {A = List ℕ × (ℕ × ℕ)} (now r, r .ptr)

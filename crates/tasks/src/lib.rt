@@ -3,6 +3,7 @@
 use asks::Task;
 use layout::Shape;
 use ledger::Entry;
+use ledger::Load;
 use ledger::Plain;
 use ledger::Refusal;
 ghost use mathlib.Core.Path.{_≡_};
@@ -112,7 +113,7 @@ pub fn carry_out(
             port,
             at: _,
             size: _,
-        } => answers::of_entry(arrivals::arrive_by(steps, m, s, port, header)),
+        } => answers::of_entry(arrivals::arrive_by(steps, m, s, Load::Header, port, header)),
         Task::Stitch { port } => answers::of_stitched(moves::stitch(m, s, port)),
         Task::Prefetch { port, queue } => prefetch(m, s, port, queue, words, made),
         Task::Turn { port } => turn(m, s, port, words, made),

@@ -42,7 +42,8 @@ returns c =
     let j = told .before .before in
     let a = j .before .before .before .before .args in
     rw (halted .halt .ensures)
-    (sym (turned-away (settingsOf (a .s)) (a .m .now) (a .port) (loadOf (a .load) (a .h .now)) _ (sym (ap admittedOf (told .admitted .given .1)) ∙ j .judge-arrive .ensures)))
+    (sym (turned-away (settingsOf (a .s)) (a .m .now) (a .port) (loadOf (a .load) (a .h .now)) _
+    (sym (ap admittedOf (told .admitted .given .1)) ∙ j .judge-arrive .ensures)))
 
 same-length-2 : tie.Need-same-length-2
 same-length-2 c = search needs

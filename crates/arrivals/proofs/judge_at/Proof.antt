@@ -41,7 +41,8 @@ admit-requires c κs =
       };
       long = st .pre .1 .state .long;
       port = e .if1 .left;
-      queue = laws.known-queue (form (settingsOf (st .args .s))) (st .args .s .queues) (st .args .port) (loadOf (st .args .load) (st .args .h .now)) _ (passed (c .before));
+      queue = laws.known-queue (form (settingsOf (st .args .s))) (st .args .s .queues) (st .args .port)
+          (loadOf (st .args .load) (st .args .h .now)) _ (passed (c .before));
     }
 
 returns-2 : tie.Need-returns-2

@@ -19,7 +19,8 @@ returns c =
     let p = c .before .before in
     let t = p .before .before .before in
     let a = t .before .before .before .before .before .before .args in
-    p .arrive .ensures ∙ on-state _ (a .m .now) (sym (t .before .before .test .ensures) ∙ t .tested .given .1) (arrive (a .port) (loadOf (a .load) (a .bytes .now)))
+    p .arrive .ensures
+    ∙ on-state _ (a .m .now) (sym (t .before .before .test .ensures) ∙ t .tested .given .1) (arrive (a .port) (loadOf (a .load) (a .bytes .now)))
 
 returns-2 : tie.Need-returns-2
 returns-2 c =

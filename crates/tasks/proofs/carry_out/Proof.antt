@@ -1,6 +1,9 @@
 -- `tasks::carry_out` meets its contract: task by task. Assumes nothing.
 use mathlib.Core.Path.{refl, sym, ap, _∙_}
+use mathlib.Core.List.{List}
+use Prim.Native.Nat.{ℕ}
 use borrow.Author.Needs.{needs}
+use Rattle.ledger.specs.Header.{alone}
 use Rattle.ledger.specs.Calls.{arrive}
 use Rattle.asks.specs.Asks.{taskAct}
 use Rattle.tasks.proofs.Laws.{done-untouched, as-task}
@@ -70,7 +73,7 @@ returns c =
     let st = start h in
     let a = st .args in
     as-task (a .s) _ _ (ap (taskAct (a .fields .now)) (ta .task .given .1)
-    ∙ ap (arrive (ta .task .given .0 .0)) (sym (h .header-of .ensures _ _ _ (ta .task .given .1))))
+    ∙ ap (λ (b : List ℕ). arrive (ta .task .given .0 .0) (alone b)) (sym (h .header-of .ensures _ _ _ (ta .task .given .1))))
     (done-untouched (a .s) (a .m .now) (a .words .now) (a .made .now) (st .pre .going) (arrive _ _) _
     (ar .arrive-by .ensures) (c .of-entry .ensures) (λ r t. refl))
 
