@@ -18,6 +18,8 @@ use Rattle.rooms.specs.Rooms.{told}
 use Rattle.capi.proofs.vr_size
 use Rattle.capi.proofs.vr_setup
 use Rattle.capi.proofs.vr_arrive
+use Rattle.capi.proofs.vr_arrive_packet
+use Rattle.capi.proofs.vr_show
 use Rattle.capi.proofs.vr_stitch
 use Rattle.capi.proofs.vr_prefetch
 use Rattle.capi.proofs.vr_credit
@@ -36,6 +38,12 @@ use Rattle.capi.proofs.vr_report
 use Rattle.capi.proofs.vr_timed_turn
 use Rattle.capi.proofs.vr_bucket
 
+-- what equals the same four has equal parts
+packed : {X B : Type 0} (at : List ℕ → List ℕ → ℕ → B) {r r₂ : X} {m m₂ k k₂ : List ℕ} {x x₂ : ℕ} {out : X × List ℕ × List ℕ × ℕ}
+    → (r, m, k, x) ≡ out → (r₂, m₂, k₂, x₂) ≡ out → (r ≡ r₂) × (at m k x ≡ at m₂ k₂ x₂)
+packed {X} at p q =
+    (ap (λ (o : X × List ℕ × List ℕ × ℕ). o .0) (p ∙ sym q), ap (λ (o : X × List ℕ × List ℕ × ℕ). at (o .1) (o .2) (o .3)) (p ∙ sym q))
+
 pub vr-size-one : OneOutcome vr_size.ended vr_size.Reads.Learnt
 vr-size-one κs a r r₂ left left₂ p q = (p ∙ sym q, refl)
 
@@ -44,6 +52,9 @@ vr-setup-one κs a r r₂ left left₂ p q = parted (λ m. (m, left .1)) p q
 
 pub vr-arrive-one : OneOutcome vr_arrive.ended vr_arrive.Reads.Learnt
 vr-arrive-one κs a r r₂ left left₂ p q = roomed (λ m x. (m, (tt, (tt, (x, tt))))) p q
+
+pub vr-arrive-packet-one : OneOutcome vr_arrive_packet.ended vr_arrive_packet.Reads.Learnt
+vr-arrive-packet-one κs a r r₂ left left₂ p q = packed (λ m k x. (m, (k, (tt, (tt, (x, tt)))))) p q
 
 pub vr-stitch-one : OneOutcome vr_stitch.ended vr_stitch.Reads.Learnt
 vr-stitch-one κs a r r₂ left left₂ p q = roomed (λ m x. (m, (tt, (x, tt)))) p q
@@ -81,6 +92,9 @@ vr-bucket-one κs a r r₂ left left₂ p q = parted (λ x. (tt, (tt, (tt, (x, t
 
 pub vr-ready-one : OneOutcome vr_ready.ended vr_ready.Reads.Learnt
 vr-ready-one κs a r r₂ left left₂ p q = parted (λ x. (tt, (tt, (x .0, (x .1, tt))))) p q
+
+pub vr-show-one : OneOutcome vr_show.ended vr_show.Reads.Learnt
+vr-show-one κs a r r₂ left left₂ p q = parted (λ x. (tt, (tt, (tt, (tt, (tt, (tt, (tt, (x .0, (x .1, (x .2, tt))))))))))) p q
 
 pub vr-where-one : OneOutcome vr_where.ended vr_where.Reads.Learnt
 vr-where-one κs a r r₂ left left₂ p q = parted (λ x. (tt, (tt, (x, tt)))) p q

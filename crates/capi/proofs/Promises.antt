@@ -1,18 +1,22 @@
 -- What a C caller may count on, read off the contracts' definitions. Assumes nothing.
-use mathlib.Core.Path.{_≡_, refl}
+use mathlib.Core.Path.{_≡_, refl, ap}
 use mathlib.Core.Bool.{true, false}
 use mathlib.Core.List.{List}
 use Prim.Native.Nat.{ℕ, _≤_}
 use native.Mathlib.Omega.{arith}
+use lib.ListN.{length}
 use Rattle.ledger.specs.Settings.{Settings, row, size}
-use Rattle.ledger.specs.Calls.{Reply, refused, done, entry, stitched, idle, leaves, word, found, reported, counted, arrive, isRefused}
+use Rattle.ledger.specs.Header.{Load, whole}
+use Rattle.ledger.specs.Calls.{Reply, refused, done, entry, stitched, idle, leaves, word, found, reported, counted, part, arrive, isRefused}
 use Rattle.ledger.specs.Desk.{Call, act, isArrivalCall}
 use Rattle.ledger.specs.Answers.{numberOf}
 use Rattle.ledger.specs.declared.Refusal.{Refusal}
 use Rattle.ledger.specs.declared.Refusal.the-variants.{ShortMemory, BadSetting, NoState, NoPort, NoQueue, HeaderSize, Checksum, Source, TooShort}
-use Rattle.ledger.specs.declared.Refusal.the-variants.{NoCredit, NoFreeNode, NothingThere, SlotsInUse, TooMuchCredit, NoSuchId, HeaderQueue}
-use Rattle.ledger.specs.declared.Refusal.the-variants.{ReservedBit, NoFit, ShortRoom}
+use Rattle.ledger.specs.declared.Refusal.the-variants.{NoCredit, NoFreeNode, NothingThere, SlotsInUse, TooMuchCredit, NoSuchId, PacketBytes, PacketMemory, HeaderQueue}
+use Rattle.ledger.specs.declared.Refusal.the-variants.{ReservedBit, NoFit, OtherKind, ShortRoom}
 use Rattle.memory.specs.Memory.{M}
+use Rattle.ledger.specs.Packets.{keptIn}
+use Rattle.memory.specs.Packets.{packetOn}
 use Rattle.memory.specs.Rounds.{roundOn}
 use Rattle.memory.specs.Audit.{auditOn}
 use Rattle.memory.specs.Repair.{repaired}
@@ -29,7 +33,7 @@ use Rattle.codec.specs.Reader.{reads}
 use Rattle.codec.specs.Writer.{writes}
 use Rattle.labels.specs.Labels.{labelRoom, headerRoom}
 use Rattle.ledger.specs.Answers.{numberIn}
-use Rattle.rooms.specs.Rooms.{told, toldIn, toldRound, entryRoom, recordRoom, sentRoom, readyRoom, markRoom}
+use Rattle.rooms.specs.Rooms.{told, toldIn, toldRound, toldPacket, entryRoom, recordRoom, sentRoom, readyRoom, markRoom, partRoom}
 use Rattle.ledger.specs.Audit.{placeRoom}
 
 -- 0 is no refusal's number: an answer of 0 says that the call was done
@@ -49,17 +53,20 @@ never-zero NothingThere = omega arith
 never-zero SlotsInUse = omega arith
 never-zero TooMuchCredit = omega arith
 never-zero NoSuchId = omega arith
+never-zero PacketBytes = omega arith
+never-zero PacketMemory = omega arith
 never-zero HeaderQueue = omega arith
 never-zero ReservedBit = omega arith
 never-zero NoFit = omega arith
+never-zero OtherKind = omega arith
 never-zero ShortRoom = omega arith
 
 -- a refusal leaves every room as it was lent
 abbrev Keeps : {A : Type 0} → (Reply → A → A) → Type 0
 Keeps {A} room = (n : ℕ) (old : A) → room (refused n) old ≡ old
 
-pub rooms-kept : Keeps entryRoom × Keeps recordRoom × Keeps sentRoom × Keeps readyRoom × Keeps markRoom × ((y : ℕ) → Keeps (placeRoom y))
-rooms-kept = (λ n old. refl, λ n old. refl, λ n old. refl, λ n old. refl, λ n old. refl, λ y n old. refl)
+pub rooms-kept : Keeps entryRoom × Keeps recordRoom × Keeps sentRoom × Keeps readyRoom × Keeps markRoom × Keeps partRoom × ((y : ℕ) → Keeps (placeRoom y))
+rooms-kept = (λ n old. refl, λ n old. refl, λ n old. refl, λ n old. refl, λ n old. refl, λ n old. refl, λ y n old. refl)
 
 -- where the answer is not 0, no byte that was lent differs, but the mark of the port at which an arrival was refused (paper 02, Q-9)
 module _ {A : Type 0} (room : Reply → A → A) (kept : Keeps room) where
@@ -96,12 +103,23 @@ numbered-reply (reported n) h = absurd (h refl)
 numbered-reply (counted n) h = absurd (h refl)
 numbered-reply (part x n) h = absurd (h refl)
 
-pub but-the-mark : (p : ℕ) (h m : List ℕ) (old : ℕ) → (numberIn (M (act (arrive p h)) m .0) ≡ 0 → ⊥) →
+pub but-the-mark : (p : ℕ) (h : Load) (m : List ℕ) (old : ℕ) → (numberIn (M (act (arrive p h)) m .0) ≡ 0 → ⊥) →
     let out = toldIn entryRoom old (M (act (arrive p h)) m) in
     ButTheMark (settingsIn m) p (out .0) m (out .1) × (out .2 ≡ old)
 but-the-mark p h m old k =
     let e = numbered-reply (M (act (arrive p h)) m .0) k in
     (refusal-but-the-mark p h m _ e, refusal-only entryRoom (λ n o. refl) (M (act (arrive p h)) m .0) old k .1)
+
+-- of a whole packet's arrival the packet memory is as it was, too
+pub but-the-mark-packet : (m k : List ℕ) (p : ℕ) (b : List ℕ) (old : ℕ) → (numberIn (packetOn m k p b .0) ≡ 0 → ⊥) →
+    let out = toldPacket old (packetOn m k p b) in
+    ButTheMark (settingsIn m) p (out .0) m (out .1) × (out .2 ≡ k) × (out .3 ≡ old)
+unfolding packetOn
+but-the-mark-packet m k p b old no′ =
+    let r : Reply = M (act (arrive p (whole (length k) b))) m .0 in
+    let e = numbered-reply r no′ in
+    let told = but-the-mark p (whole (length k) b) m old no′ in
+    (told .0, ap (λ (x : Reply). keptIn x b k) e, told .1)
 
 -- and of a round, neither memory nor room
 pub nothing-differs-round : (m room : List ℕ) → (numberIn (roundOn m room .0) ≡ 0 → ⊥) → toldRound (roundOn m room) ≡ (numberIn (roundOn m room .0), m, room)

@@ -3,13 +3,16 @@
 use ledger::EntryId;
 use settings::Settings;
 ghost use mathlib.Core.Path.{_≡_};
-ghost use mathlib.Core.List.{List};
+ghost use mathlib.Core.List.{List, [], _∷_};
 ghost use Prim.Native.Nat.{ℕ};
-ghost use Rattle.ledger.specs.Calls.{arrive, stitch, prefetch, credit, mapTo, turn, ready, whereIs, clear, report, bucket};
+ghost use lib.ListN as ln;
+ghost use Rattle.ledger.specs.Header.{alone};
+ghost use Rattle.ledger.specs.Calls.{arrive, stitch, prefetch, credit, mapTo, turn, ready, whereIs, clear, report, bucket, show};
 ghost use Rattle.ledger.specs.Buckets.{untimed, at};
 ghost use Rattle.settings.specs.Told.{toldSettings};
 ghost use Rattle.ledger.specs.Desk.{setup, act};
 ghost use Rattle.memory.specs.Memory.{M};
+ghost use Rattle.memory.specs.Packets.{packetOn};
 ghost use Rattle.memory.specs.Rounds.{roundOn};
 ghost use Rattle.memory.specs.Audit.{auditOn};
 ghost use Rattle.memory.specs.Repair.{repaired};
@@ -17,6 +20,7 @@ ghost use Rattle.sound.specs.Sound.{brokenIn};
 ghost use Rattle.codec.specs.Reader.{reads};
 ghost use Rattle.codec.specs.Writer.{writes};
 ghost use Rattle.labels.specs.Labels.{labelAt, labelRoom, headerRoom};
+ghost use Rattle.rooms.specs.Rooms.{toldPacket, partRoom};
 ghost use Rattle.rooms.specs.Rooms.{told, toldIn, toldRound, shown, entryRoom, recordRoom, sentRoom, readyRoom, markRoom, bucketRoom, foundNumbers};
 ghost use Rattle.ledger.specs.Audit.{placeRoom};
 ghost use Rattle.capi.specs.Size.{settingsAt, sizeFor};
@@ -59,9 +63,46 @@ pub extern "C" fn vr_setup(mem: &mut [u8], eight: &[u32; 8]) -> u32
 #[no_mangle]
 pub extern "C" fn vr_arrive(mem: &mut [u8], port: u32, header: &[u8], entry: &mut u16) -> u32
     ensures { λ r. ⌜ _≡_ {A = ℕ × List ℕ × ℕ} (r, now (mem .exit), now (entry .exit))
-        (toldIn entryRoom (now (entry .entry)) (M (act (arrive port (now (header .entry)))) (now (mem .entry)))) ⌝ }
+        (toldIn entryRoom (now (entry .entry)) (M (act (arrive port (alone (now (header .entry))))) (now (mem .entry)))) ⌝ }
 {
     rooms::put_entry(switch::arrive(mem, port, header), entry)
+}
+
+#[no_mangle]
+pub extern "C" fn vr_arrive_packet(
+    mem: &mut [u8],
+    packets: &mut [u8],
+    port: u32,
+    packet: &[u8],
+    entry: &mut u16,
+) -> u32
+    ensures { λ r. ⌜ _≡_ {A = ℕ × List ℕ × List ℕ × ℕ} (r, now (mem .exit), now (packets .exit), now (entry .exit))
+        (toldPacket (now (entry .entry)) (packetOn (now (mem .entry)) (now (packets .entry)) port (now (packet .entry)))) ⌝ }
+{
+    rooms::put_entry(switch::arrive_packet(mem, packets, port, packet), entry)
+}
+
+// The packet is `length` bytes of the owner's memory from byte `at` on: no function of C hands back a part of lent memory.
+#[no_mangle]
+pub extern "C" fn vr_show(
+    mem: &[u8],
+    p0: &[u8],
+    p1: &[u8],
+    p2: &[u8],
+    p3: &[u8],
+    port: u32,
+    queue: u32,
+    owner: &mut u32,
+    at: &mut u64,
+    length: &mut u32,
+) -> u32
+    ensures { λ r. ⌜ _≡_ {A = ℕ × (ℕ × ℕ × ℕ)} (r, (now (owner .exit), now (at .exit), now (length .exit)))
+        (shown partRoom (now (owner .entry), now (at .entry), now (length .entry))
+        (M (act (show (ln.length (now (p0 .entry)) ∷ ln.length (now (p1 .entry)) ∷ ln.length (now (p2 .entry)) ∷ ln.length (now (p3 .entry)) ∷ []) port queue))
+        (now (mem .entry)) .0)) ⌝ }
+{
+    let answer = switch::show_at(mem, p0.len(), p1.len(), p2.len(), p3.len(), port, queue);
+    rooms::put_part(answer, owner, at, length)
 }
 
 #[no_mangle]

@@ -200,7 +200,8 @@ fn settle(f: HeaderFields, form: HeaderForm, queues: u32, miscounted: bool) -> J
 {
     let len = f.len as u32;
     let queue = f.queue as u32;
-    if len < form.size + 2 {
+    let short = len < form.size + 2;
+    if short {
         return Judged::No(Refusal::TooShort);
     }
     if miscounted {

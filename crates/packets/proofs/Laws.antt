@@ -49,6 +49,13 @@ among-map f (suc zero) a b c d = refl
 among-map f (suc (suc zero)) a b c d = refl
 among-map f (suc (suc (suc n))) a b c d = refl
 
+-- what holds of each of the four holds of the one that is named
+pub among-all : {A : Type 0} (P : A → Type 0) (n : ℕ) (a b c d : A) → P a → P b → P c → P d → P (among n a b c d)
+among-all P zero a b c d x y z w = x
+among-all P (suc zero) a b c d x y z w = y
+among-all P (suc (suc zero)) a b c d x y z w = z
+among-all P (suc (suc (suc n))) a b c d x y z w = w
+
 -- a part is told by its bytes, the block in which it lies, and its place there
 pub same-part : {l m : List ℕ} {p q : ℕ × ℕ} → l ≡ m → p .0 ≡ q .0 → p .1 ≡ q .1 → _≡_ {A = List ℕ × (ℕ × ℕ)} (l, p) (m, q)
 same-part e f g = λ i. (e i, (f i, g i))

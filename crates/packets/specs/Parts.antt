@@ -1,6 +1,7 @@
 -- The memory of a port among four, and a part of a memory: its bytes, and where they lie. Assumes nothing.
 use mathlib.Core.List.{List, []}
-use Prim.Native.Nat.{ℕ, zero, suc, _+_}
+use Prim.Native.Nat.{ℕ, zero, suc, _+_, _≤_}
+use lib.ListN.{length}
 use denote.Ref.{RefT}
 use Rattle.ledger.specs.Ledger.{owner}
 use Rattle.ledger.specs.Calls.{Reply}
@@ -12,6 +13,10 @@ among zero a b c d = a
 among (suc zero) a b c d = b
 among (suc (suc zero)) a b c d = c
 among (suc (suc (suc n))) a b c d = d
+
+-- each of the four has so many bytes
+abbrev pub Within : ℕ → List ℕ → List ℕ → List ℕ → List ℕ → Type 0
+Within n a b c d = (n ≤ length a) × (n ≤ length b) × (n ≤ length c) × (n ≤ length d)
 
 -- "a part, never a copy": n bytes from byte `at` on, in the memory itself
 abbrev pub partOf : RefT (List ℕ) → ℕ → ℕ → List ℕ × (ℕ × ℕ)

@@ -7,11 +7,10 @@ ghost use mathlib.Core.List.{List, _++_};
 ghost use Prim.Native.Nat.{ℕ, _+_, _≤_};
 ghost use lib.ListN.{length, drop};
 ghost use Rattle.ledger.specs.Settings.{slotBytes, keepsPackets};
-ghost use Rattle.ledger.specs.Ledger.{owner};
 ghost use Rattle.ledger.specs.Calls.{otherSize};
 ghost use Rattle.ledger.specs.Packets.{slotAt, stored};
 ghost use Rattle.layout.specs.Tables.{settingsOf, Laid};
-ghost use Rattle.packets.specs.Parts.{among, partOf};
+ghost use Rattle.packets.specs.Parts.{among, Within, partOf};
 
 // The bytes of a slot.
 const SLOT: usize = 8192;
@@ -44,17 +43,25 @@ fn copy(slot: &mut [u8], packet: &[u8])
     }
 }
 
+// Where a node's slot starts.
+pub fn slot_of(id: EntryId) -> usize
+    ensures { λ r. ⌜ r ≡ slotAt (id .0) ⌝ }
+{
+    let i = id.index() as usize;
+    i * SLOT
+}
+
 // A packet stored in its node's slot: the slot's part of the memory is lent on to the copier.
 pub fn keep(packets: &mut [u8], id: EntryId, packet: &[u8])
     requires { ⌜ (slotAt (id .0) + slotBytes ≤ length (now packets)) × (length (now packet) ≤ slotBytes) ⌝ }
     ensures { λ _. ⌜ now (packets .exit) ≡ stored (slotAt (id .0)) (now (packet .entry)) (now (packets .entry)) ⌝ }
 {
-    let at = id.index() as usize * SLOT;
+    let at = slot_of(id);
     copy(&mut packets[at..at + SLOT], packet);
 }
 
 // The one of the four memories that is a port's.
-fn chosen<'a>(p0: &'a [u8], p1: &'a [u8], p2: &'a [u8], p3: &'a [u8], port: u16) -> &'a [u8]
+fn chosen<'a>(p0: &'a [u8], p1: &'a [u8], p2: &'a [u8], p3: &'a [u8], port: u32) -> &'a [u8]
     ensures { λ r. ⌜ r ≡ among port (p0 .entry) (p1 .entry) (p2 .entry) (p3 .entry) ⌝ }
 {
     match port {
@@ -73,19 +80,18 @@ fn between(k: &[u8], at: usize, n: usize) -> &[u8]
     &k[at..at + n]
 }
 
-// The first n bytes of a node's slot: a part of its owner's memory.
+// n bytes of a port's memory from byte `at` on.
 pub fn part<'a>(
     p0: &'a [u8],
     p1: &'a [u8],
     p2: &'a [u8],
     p3: &'a [u8],
-    id: EntryId,
+    port: u32,
+    at: usize,
     n: usize,
 ) -> &'a [u8]
-    requires { ⌜ slotAt (id .0) + n ≤ length (among (owner (id .0)) (now p0) (now p1) (now p2) (now p3)) ⌝ }
-    ensures { λ r. ⌜ _≡_ {A = List ℕ × (ℕ × ℕ)} (now r, r .ptr)
-        (partOf (among (owner (id .0)) (p0 .entry) (p1 .entry) (p2 .entry) (p3 .entry)) (slotAt (id .0)) n) ⌝ }
+    requires { ⌜ Within (at + n) (now p0) (now p1) (now p2) (now p3) ⌝ }
+    ensures { λ r. ⌜ _≡_ {A = List ℕ × (ℕ × ℕ)} (now r, r .ptr) (partOf (among port (p0 .entry) (p1 .entry) (p2 .entry) (p3 .entry)) at n) ⌝ }
 {
-    let at = id.index() as usize * SLOT;
-    between(chosen(p0, p1, p2, p3, id.port()), at, n)
+    between(chosen(p0, p1, p2, p3, port), at, n)
 }

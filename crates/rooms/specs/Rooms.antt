@@ -3,11 +3,12 @@
 use mathlib.Core.List.{List, [], _∷_}
 use Prim.Native.Nat.{ℕ, _/_, _%_, _^_}
 use lib.ListN.{set}
-use Rattle.ledger.specs.Ledger.{Packet}
+use Rattle.ledger.specs.Ledger.{owner, Packet}
 use Rattle.ledger.specs.declared.Broken.{Broken}
 use Rattle.ledger.specs.declared.Broken.the-variants.{Nothing, A, B, C, D, E, F, G, I}
 use Rattle.ledger.specs.Calls.{Side, inside, outside, Reply, refused, done, entry, stitched, idle, leaves, word, found, reported, counted, part}
 use Rattle.ledger.specs.Answers.{numberIn}
+use Rattle.ledger.specs.Packets.{slotAt, partOr}
 
 -- what a call answers and leaves: the number and the memory
 abbrev pub told : Reply × List ℕ → ℕ × List ℕ
@@ -39,6 +40,10 @@ entryRoom (found v i) old = old
 entryRoom (reported n) old = old
 entryRoom (counted n) old = old
 entryRoom (part x n) old = old
+
+-- of a whole packet, whose packet memory has been left by the call
+abbrev pub toldPacket : ℕ → Reply × List ℕ × List ℕ → ℕ × List ℕ × List ℕ × ℕ
+toldPacket old out = (numberIn (out .0), out .1, out .2, entryRoom (out .0) old)
 
 -- ---- stitch: the ten bytes of the record
 
@@ -96,6 +101,11 @@ readyRoom (found v i) old = old
 readyRoom (reported n) old = old
 readyRoom (counted n) old = old
 readyRoom (part x n) old = old
+
+-- ---- show: the owner, where the packet starts in its packet memory, and its length
+
+abbrev pub partRoom : Reply → ℕ × ℕ × ℕ → ℕ × ℕ × ℕ
+partRoom r old = partOr old (λ x n. (owner x, slotAt x, n)) r
 
 -- ---- report: the mark
 

@@ -11,15 +11,16 @@ use ledger::Readiness;
 use ledger::Refusal;
 use ledger::Reported;
 use ledger::Sent;
+use ledger::Shown;
 use ledger::Turned;
 use ledger::Whereabouts;
 ghost use mathlib.Core.Path.{_≡_};
 ghost use Prim.Native.Nat.{ℕ};
 ghost use Rattle.ledger.specs.Answers.{numberOf, kindOf, exitOf, sentOf, plainReply, stitchReply, entryReply, turnReply, readyReply, whereReply};
-ghost use Rattle.ledger.specs.Answers.{reportReply, bucketReply};
+ghost use Rattle.ledger.specs.Answers.{reportReply, bucketReply, showReply};
 ghost use Rattle.ledger.specs.Ledger.{portOf, kindIn, queueIn};
 ghost use Rattle.ledger.specs.Answers.{numberIn};
-ghost use Rattle.rooms.specs.Rooms.{entryRoom, recordRoom, sideByte, sentBytes, sentRoom, readyRoom, markRoom, bucketRoom};
+ghost use Rattle.rooms.specs.Rooms.{entryRoom, recordRoom, sideByte, sentBytes, sentRoom, readyRoom, markRoom, bucketRoom, partRoom};
 ghost use Rattle.rooms.specs.Rooms.{ruleNumber, itemNumber, foundNumbers};
 ghost use Rattle.ledger.specs.Audit.{placeBytes, placeRoom};
 
@@ -128,6 +129,21 @@ pub fn put_ready(answer: Readiness, word: &mut u64, count: &mut u32) -> u32
             0
         }
         Readiness::No(no) => refusal(no),
+    }
+}
+
+pub fn put_part(answer: Shown, owner: &mut u32, at: &mut u64, length: &mut u32) -> u32
+    ensures { λ r. ⌜ (r ≡ numberIn (showReply answer)) × (_≡_ {A = ℕ × ℕ × ℕ} (now (owner .exit), now (at .exit), now (length .exit))
+        (partRoom (showReply answer) (now (owner .entry), now (at .entry), now (length .entry)))) ⌝ }
+{
+    match answer {
+        Shown::Part(id, n) => {
+            *owner = id.port() as u32;
+            *at = id.index() as u64 * 8192;
+            *length = n as u32;
+            0
+        }
+        Shown::No(no) => refusal(no),
     }
 }
 

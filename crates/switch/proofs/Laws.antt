@@ -1,29 +1,35 @@
 -- The test for a state decides between an act and refusal 3. Assumes nothing.
-use mathlib.Core.Path.{_≡_, refl, sym, _∙_}
+use mathlib.Core.Path.{_≡_, refl, sym, ap, _∙_}
 use mathlib.Core.Bool.{true, false}
-use mathlib.Core.List.{List}
-use Prim.Native.Nat.{ℕ, _<_}
+use mathlib.Core.List.{List, [], _∷_}
+use Prim.Native.Nat.{ℕ, zero, suc, _+_, _≤_, _<_}
 use native.Mathlib.Omega.{arith}
-use Rattle.ledger.specs.Settings.{Settings, inRows}
+use lib.ListN.{length}
+use Rattle.ledger.specs.Settings.{Settings, inRows, packetRoom}
+use Rattle.ledger.specs.Header.{whole}
 use Rattle.ledger.specs.Ledger.{owner, isNode}
-use Rattle.ledger.specs.Calls.{Act, refused, whereIs}
+use Rattle.ledger.specs.Calls.{Act, Reply, refused, entry, part, arrive, show, whereIs}
 use Rattle.ledger.specs.Desk.{act}
+use Rattle.ledger.specs.Packets.{slotAt, stored, keptIn}
 use Rattle.ledger.proofs.Tests.{ltb-not}
 use Rattle.ledger.proofs.Rows.{roomy}
 use Rattle.layout.specs.declared.Shape.{Shape}
 use Rattle.layout.specs.Tables.{settingsOf}
-use Rattle.layout.specs.Picture.{State}
+use Rattle.layout.specs.Picture.{settingsIn, State}
 use Rattle.memory.specs.Memory.{acted, M}
+use Rattle.memory.specs.Packets.{packetOn}
 use Rattle.memory.specs.Rounds.{rounded, roundOn}
 use Rattle.memory.specs.Runs.{refusedRun, ran, runOn}
 use Rattle.memory.specs.Audit.{audited, auditOn}
 use Rattle.memory.specs.Judged.{judged}
 use Rattle.memory.proofs.Judged.{acted-bad}
+use Rattle.memory.proofs.Packets.{memory-part-within}
 use Rattle.memory.proofs.Demands.{on-works}
 use Rattle.memory.proofs.Demands as demands
 use Rattle.memory.proofs.Rounds.{round-on, round-off}
 use Rattle.memory.proofs.Runs.{run-on, run-off}
 use Rattle.memory.proofs.Audit.{audit-on, audit-off}
+use Rattle.packets.specs.Parts.{among}
 use Rattle.sound.specs.declared.Tested.the-variants as tests
 use Rattle.sound.specs.Sound.{testedIn}
 use Rattle.sound.proofs.Means.{tested-state, tested-none}
@@ -46,6 +52,35 @@ past-state s m e y k =
     let w = tested-state m s e in
     sym (acted-bad (settingsOf s) m (whereIs y) refl 15 (unfold judged in rw (no-node (settingsOf s) (w .state .sound .rows) y k)))
     ∙ on-state s m e (whereIs y)
+
+-- ---- whole packets
+
+-- what an arrival left of the packet memory, by its answer
+module _ (m k b : List ℕ) (p : ℕ) {m′ : List ℕ} where
+  pub packet-kept : (x : ℕ) {k′ : List ℕ} → (entry x, m′) ≡ M (act (arrive p (whole (length k) b))) m → k′ ≡ stored (slotAt x) b k
+      → (entry x, m′, k′) ≡ packetOn m k p b
+  unfolding packetOn
+  packet-kept x e q = rw q (ap (λ (out : Reply × List ℕ). (out .0, out .1, keptIn (out .0) b k)) e)
+
+  pub packet-refused : (n : ℕ) → (refused n, m′) ≡ M (act (arrive p (whole (length k) b))) m → (refused n, m′, k) ≡ packetOn m k p b
+  unfolding packetOn
+  packet-refused n e = ap (λ (out : Reply × List ℕ). (out .0, out .1, keptIn (out .0) b k)) e
+
+-- what holds of each of the four memories holds of a port's
+among-all : {A : Type 0} (P : A → Type 0) (i : ℕ) (a b c d : A) → P a → P b → P c → P d → P (among i a b c d)
+among-all P zero a b c d x y z w = x
+among-all P (suc zero) a b c d x y z w = y
+among-all P (suc (suc zero)) a b c d x y z w = z
+among-all P (suc (suc (suc i))) a b c d x y z w = w
+
+-- a packet that is shown lies within its owner's memory
+pub shown-within : (m p0 p1 p2 p3 : List ℕ) (p q x n : ℕ) → part x n ≡ M (act (show (length p0 ∷ length p1 ∷ length p2 ∷ length p3 ∷ []) p q)) m .0
+    → slotAt x + n ≤ length (among (owner x) p0 p1 p2 p3)
+shown-within m p0 p1 p2 p3 p q x n e =
+    let w = memory-part-within m (length p0 ∷ length p1 ∷ length p2 ∷ length p3 ∷ []) p q x n (sym e) in
+    let r = w .rooms in
+    let long = among-all (λ (k : List ℕ). length k ≡ packetRoom (settingsIn m)) (owner x) p0 p1 p2 p3 (r .0) (r .1 .0) (r .1 .1 .0) (r .1 .1 .1 .0) in
+    omega (arith, w .fits)
 
 -- so is the run
 module _ (m fields room : List ℕ) where

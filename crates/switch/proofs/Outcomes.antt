@@ -6,7 +6,10 @@ use mathlib.Core.List.{List, []}
 use Prim.Native.Nat.{ℕ}
 use native.Mathlib.Omega.{arith}
 use borrow.Fn.Claims.{AllOf}
-use denote.Ref.{RefT}
+use contract.Lifetimes.{Lfts}
+use denote.Ref.{RefT, now}
+use denote.Triple.Entry.{Args, Res}
+use denote.Triple.Clauses.{Lasts, atExit}
 use lib.ListN.{getD, replicate}
 use Rattle.ledger.specs.Answers.{stitchReply}
 use Rattle.ledger.specs.Outcome.{Contract, OneOutcome}
@@ -15,7 +18,7 @@ use Rattle.ledger.specs.Calls as calls
 use Rattle.ledger.specs.Desk.{act}
 use Rattle.ledger.specs.declared.Plain.the-variants.{No}
 use Rattle.ledger.specs.declared.Refusal.the-variants.{NoState}
-use Rattle.ledger.proofs.Answers.{plain-inj, stitch-inj, entry-inj, turn-inj, ready-inj, where-inj, report-inj, bucket-inj}
+use Rattle.ledger.proofs.Answers.{plain-inj, stitch-inj, entry-inj, turn-inj, ready-inj, where-inj, report-inj, bucket-inj, show-inj}
 use Rattle.memory.specs.Memory.{M}
 use Rattle.memory.proofs.Demands.{off-state}
 use Rattle.memory.proofs.Image.{zero-no-state}
@@ -24,6 +27,9 @@ use Rattle.ledger.specs.Answers.{recordIn}
 use Rattle.ledger.specs.declared.Stitched.{Stitched}
 use Rattle.switch.proofs.set_up
 use Rattle.switch.proofs.arrive
+use Rattle.switch.proofs.arrive_packet
+use Rattle.switch.proofs.show_at
+use Rattle.switch.proofs.show
 use Rattle.switch.proofs.stitch
 use Rattle.switch.proofs.prefetch
 use Rattle.switch.proofs.credit
@@ -63,6 +69,11 @@ set-up-one κs a r r₂ left left₂ p q = fixed plain-inj (left .1) p q
 pub arrive-one : OneOutcome arrive.ended arrive.Reads.Learnt
 arrive-one κs a r r₂ left left₂ p q = fixed entry-inj (left .1) p q
 
+-- a whole packet's equation fixes the packet memory too
+pub arrive-packet-one : OneOutcome arrive_packet.ended arrive_packet.Reads.Learnt
+arrive-packet-one κs a r r₂ left left₂ p q =
+    let t = roomed {B = List ℕ × (List ℕ × (Unit {0} × (Unit {0} × Unit {0})))} (λ m k. (m, (k, (tt, (tt, tt))))) p q in (entry-inj r r₂ (t .0), t .1)
+
 pub prefetch-one : OneOutcome prefetch.ended prefetch.Reads.Learnt
 prefetch-one κs a r r₂ left left₂ p q = fixed entry-inj (left .1) p q
 
@@ -99,6 +110,16 @@ report-one κs a r r₂ left left₂ p q = (report-inj r r₂ (p ∙ sym q), ref
 
 pub bucket-one : OneOutcome bucket.ended bucket.Reads.Learnt
 bucket-one κs a r r₂ left left₂ p q = (bucket-inj r r₂ (p ∙ sym q), refl)
+
+pub show-at-one : OneOutcome show_at.ended show_at.Reads.Learnt
+show-at-one κs a r r₂ left left₂ p q = (show-inj r r₂ (p ∙ sym q), refl)
+
+-- Of show: the same number, the same bytes, at the same place of the same block. (What else a reference has, the name under which proofs
+-- track its value, is no part of an outcome: no program has it.)
+pub show-one : (κs : Lfts (show.ended .signature .lifetimes)) (a : Args (show.ended .signature) κs) (r r₂ : Res (show.ended .signature) κs)
+    (left left₂ : Lasts show.ended κs a) → show.Reads.Learnt κs a r (atExit show.ended κs a left) → show.Reads.Learnt κs a r₂ (atExit show.ended κs a left₂)
+    → (_≡_ {A = List ℕ × (ℕ × ℕ)} (now r, r .ptr) (now r₂, r₂ .ptr)) × (left ≡ left₂)
+show-one κs a r r₂ left left₂ p q = (p .1 ∙ sym (q .1), ?)
 
 pub audit-one : OneOutcome audit.ended audit.Reads.Learnt
 audit-one κs a r r₂ left left₂ p q = let t = parted {C = Unit {0} × (List ℕ × Unit {0})} (λ x. (tt, (x, tt))) p q in (plain-inj r r₂ (t .0), t .1)

@@ -1,49 +1,30 @@
--- `packets::part` meets its contract: the slot lies in the memory of the node's owner. Assumes nothing.
-use mathlib.Core.Path.{_≡_, ap, ap₂, _∙_}
+-- `packets::part` meets its contract: whichever memory is a port's, it has so many bytes. Assumes nothing.
+use mathlib.Core.Path.{ap, _∙_}
 use mathlib.Core.List.{List}
-use Prim.Native.Nat.{ℕ, _*_}
-use native.Mathlib.Omega.{arith}
+use Prim.Native.Nat.{ℕ, _+_, _≤_}
 use borrow.Author.Needs.{needs}
 use denote.Ref.{RefT, now}
 use lib.ListN.{length}
-use Rattle.ledger.specs.Ledger.{owner}
-use Rattle.packets.specs.Parts.{among, partOf}
-use Rattle.packets.proofs.Laws.{among-map}
+use Rattle.packets.specs.Parts.{partOf}
+use Rattle.packets.proofs.Laws.{among-all}
 use Rattle.packets.proofs.part.Statement.{statement}
 use Rattle.packets.proofs.part.Tie as tie
 
 -- where the memory was chosen, from the start
 abbrev start : tie.After-chosen → tie.Start
-start c = c .before .before .before .before .before .before .before
-
-owners : (c : tie.After-chosen) → let a = start c .args in c .chosen .result ≡ among (owner (a .id .0)) (a .p0) (a .p1) (a .p2) (a .p3)
-owners c =
-    let a = start c .args in
-    c .chosen .ensures ∙ ap (λ (n : ℕ). among n (a .p0) (a .p1) (a .p2) (a .p3)) (c .before .port .ensures)
+start c = c .before .before .before .before .before
 
 between-requires : tie.Need-between-requires
 between-requires c κs =
     let st = start c in
     let a = st .args in
-    let long : length (now (c .chosen .result)) ≡ length (among (owner (a .id .0)) (now (a .p0)) (now (a .p1)) (now (a .p2)) (now (a .p3))) =
-    ap (λ (k : RefT (List ℕ)). length (now k)) (owners c) ∙ ap length (among-map now (owner (a .id .0)) (a .p0) (a .p1) (a .p2) (a .p3)) in
-    omega (arith, st .pre, c .before .before .index .ensures)
+    rw (c .chosen .ensures)
+    (among-all (λ (k : RefT (List ℕ)). a .at + a .n ≤ length (now k)) (a .port) (a .p0) (a .p1) (a .p2) (a .p3) (st .pre .0) (st .pre .1) (st .pre .2) (st .pre .3))
 
 returns : tie.Need-returns
 returns c =
     let a = start (c .before) .args in
-    c .between .ensures
-    ∙ ap₂ (λ (k : RefT (List ℕ)) (at : ℕ). partOf k at (a .n)) (owners (c .before))
-    (ap (λ (i : ℕ). i * 8192) (c .before .before .before .index .ensures))
+    c .between .ensures ∙ ap (λ (k : RefT (List ℕ)). partOf k (a .at) (a .n)) (c .before .chosen .ensures)
 
 pub part-spec : {M : Type 1} → statement M
-part-spec =
-    tie.close
-    (tie.spec
-    (λ c κs. search needs)
-    (λ c. search needs)
-    (λ c. search needs)
-    (λ c κs. search needs)
-    (λ c κs. search needs)
-    between-requires
-    returns)
+part-spec = tie.close (tie.spec (λ c κs. search needs) between-requires returns)
