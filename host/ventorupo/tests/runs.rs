@@ -479,7 +479,7 @@ fn four_bytes_tell_of_a_calls_answer_or_of_none() {
     }
     for tag in 0..=255 {
         // Idle twice over, refused and idle, refused with an id, no refusal's number.
-        for bytes in [[0, 2, 0, 0], [4, 1, 0, 0], [4, 0, 0, 1], [16, 0, 0, 0]] {
+        for bytes in [[0, 2, 0, 0], [4, 1, 0, 0], [4, 0, 0, 1], [18, 0, 0, 0]] {
             assert_eq!(Answer::from_bytes(tag, &bytes), None);
         }
         let some = Answer::from_bytes(tag, &[0; 4]).is_some();
