@@ -24,7 +24,9 @@ const EXPLAIN: &str = "    \
 ";
 
 const DUMP: &str = "    \
-    vr dump IMAGE [--json]   shows settings, map, credits, halted ports, waits, every list with its packets
+    vr dump IMAGE [--packets P0 P1 P2 P3] [--json]
+                             shows settings, map, credits, halted ports, waits, every list with its packets;
+                             with --packets, the first bytes of each packet too
 ";
 
 const REPAIR: &str = "    \
@@ -63,6 +65,11 @@ const OTHERS: &str = "    \
 const IMAGES: &str = "\
 IMAGE is a file of a state's bytes (docs/LAYOUT.md), and is never written. A name that starts with - is
 written ./-name.
+";
+
+const MEMORIES: &str = "\
+P0 to P3 are files of the packet memories of ports 0 to 3, of a state that keeps packets: 8192 bytes for
+each node of a port, and no other size. They are never written.
 ";
 
 const REPAIRS: &str = "\
@@ -130,11 +137,11 @@ impl Topic {
             Topic::All => (
                 &[EXPLAIN, DUMP, REPAIR, WAITS, REPLAY, MAKE, SHOW, OTHERS],
                 &[
-                    IMAGES, REPAIRS, DRAWN, STREAMS, NEW, HEADERS, FORMS, NUMBERS,
+                    IMAGES, MEMORIES, REPAIRS, DRAWN, STREAMS, NEW, HEADERS, FORMS, NUMBERS,
                 ],
             ),
             Topic::Explain => (&[EXPLAIN], &[IMAGES]),
-            Topic::Dump => (&[DUMP], &[IMAGES]),
+            Topic::Dump => (&[DUMP], &[IMAGES, MEMORIES]),
             Topic::Repair => (&[REPAIR], &[IMAGES, REPAIRS, NEW]),
             Topic::Waits => (&[WAITS], &[IMAGES, DRAWN, NEW]),
             Topic::Replay => (&[REPLAY], &[IMAGES, STREAMS, NEW]),
@@ -177,6 +184,7 @@ mod tests {
     fn words_in_capitals_are_explained() {
         let topics = [
             (Topic::Explain, &["IMAGE"][..]),
+            (Topic::Dump, &["IMAGE", "P0"]),
             (Topic::Repair, &["IMAGE", "NEW"]),
             (Topic::Waits, &["IMAGE", "NEW"]),
             (Topic::Replay, &["IMAGE", "STREAM", "NEW"]),
@@ -186,7 +194,7 @@ mod tests {
         ];
         for (topic, names) in topics {
             let text = topic.text();
-            for name in ["IMAGE", "STREAM", "NEW", "HEADER", "FORM"] {
+            for name in ["IMAGE", "P0", "STREAM", "NEW", "HEADER", "FORM"] {
                 let explained = text.contains(&format!("\n{name} "));
                 assert_eq!(explained, names.contains(&name), "{name}: {text}");
             }
