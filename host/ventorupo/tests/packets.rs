@@ -223,6 +223,18 @@ impl Tried {
         self.is_refused(refusal, &before);
     }
 
+    /// The same, but of fewer or more bytes the packet is refused 16.
+    fn counts(&mut self, refusal: Refusal) {
+        let length = self.packet.len();
+        for bytes in [10, length - 1, length + 1] {
+            let whole = self.packet.clone();
+            self.packet.resize(bytes, 0);
+            self.changes_nothing(Refusal::PacketBytes);
+            self.packet = whole;
+        }
+        self.changes_nothing(refusal);
+    }
+
     /// The same, and the port is halted; then it is cleared.
     fn halts(&mut self, refusal: Refusal) {
         let mut left = self.memory.clone();
@@ -266,6 +278,9 @@ fn a_packets_refusals_in_their_order() {
     tried.changes_nothing(Refusal::NoPort);
     tried.port = 2;
     tried.changes_nothing(Refusal::PacketBytes);
+    // A header and no more.
+    tried.packet = vec![0xFF; 10];
+    tried.halts(Refusal::Checksum);
     // Destination 0, source 1, queue 31, length 11, a reserved bit of 1; 300 bytes.
     tried.packet = vec![0; 300];
     tried.packet[..3].copy_from_slice(&[0x1F, 0x80, 0x2D]);
@@ -285,17 +300,11 @@ fn a_packets_refusals_in_their_order() {
     // Length 300.
     tried.packet[1..3].copy_from_slice(&[0x84, 0xB0]);
     tried.packet = summed(tried.packet);
-    for bytes in [10, 299, 301] {
-        let whole = tried.packet.clone();
-        tried.packet.resize(bytes, 0);
-        tried.changes_nothing(Refusal::PacketBytes);
-        tried.packet = whole;
-    }
-    tried.changes_nothing(Refusal::HeaderQueue);
+    tried.counts(Refusal::HeaderQueue);
     tried.packet = packet(header(2, 300, 1));
-    tried.changes_nothing(Refusal::NoCredit);
+    tried.counts(Refusal::NoCredit);
     tried.packet = packet(header(2, 192, 1));
-    tried.changes_nothing(Refusal::NoFreeNode);
+    tried.counts(Refusal::NoFreeNode);
 }
 
 /// Above the largest packet, and more than a whole memory.
@@ -379,8 +388,10 @@ fn the_other_kind_is_refused_before_all_but_3() {
         );
         assert!(headers.memory() == before && packets == memories(WHOLE));
     }
-    whole = Switch::over(vec![1; before.len()]);
-    assert_eq!(whole.arrive(1, &right[..10]), Err(Refusal::NoState));
+    let mut broken = whole.into_memory();
+    broken[LAST] = 24;
+    let answer = Switch::over(broken).arrive(1, &right[..10]);
+    assert_eq!(answer, Err(Refusal::NoState));
 }
 
 /// In a run headers alone arrive, and are refused; the others are done.
@@ -488,7 +499,7 @@ fn the_row_of_the_setting() {
     let wide = Settings::wide(4, 24, 2, 64, 2, 256);
     for (settings, most) in [(HEADERS, 1), (wide, 0)] {
         let mut image = switch(settings).into_memory();
-        for number in (0..=256u16).chain([65_535]) {
+        for number in (0..=257u16).chain([65_535]) {
             image[KEEPS - 1..=KEEPS].copy_from_slice(&number.to_be_bytes());
             let found = find(&image).map(|finding| finding.to_string());
             let wanted = (number > most).then(|| "rule (a), item 7".to_string());
