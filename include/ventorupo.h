@@ -232,7 +232,8 @@ uint32_t vr_round(uint8_t *mem, size_t len, uint8_t *turns, size_t turns_len);
  *     tag 7  map       id (1), port (1)
  *
  * So a turn of port 3 is 5, 0, 1, 3. Memory and answers are as of the same calls one by one, but the memory is tested once. These are the
- * bench program's fields, so a header of ten bytes is a good field on a wide switch too, where it is refused 6.
+ * bench program's fields, so a header of ten bytes is a good field on a wide switch too, where it is refused 6, and where packets are kept,
+ * where it is refused 24.
  * Writes four bytes for each field's answer, one behind the other: refusal number (1), 1 if idle (1), entry id (2, big-endian) or 0. The
  * entry id is that of arrive, prefetch and turn, and of stitch the one in its record; credit and map have none. A field that is refused
  * leaves what its call leaves when it is refused, and the run goes on with the next.

@@ -88,9 +88,10 @@ at 4294967295 stands for as many or more.
 const STREAMS: &str = "\
 STREAM is a file of the bench program's fields, or - for standard input: tag (1 byte), length of the value
 (2), value. Tags: 1 setup, 2 arrive, 3 stitch, 4 prefetch, 5 turn, 6 credit, 7 map. It starts with a setup,
-or from IMAGE, of any edition, in which arrivals may have headers of its size. A setup further on sets up
-anew; before there is a state all else is refused 3. A bad field (another tag, a wrong length, cut off) ends
-the replay; what was done before it counts, and is shown and written.
+or from IMAGE, of any edition, in which arrivals may have headers of its size; one that keeps packets
+refuses all of them 24. A setup further on sets up anew; before there is a state all else is refused 3. A
+bad field (another tag, a wrong length, cut off) ends the replay; what was done before it counts, and is
+shown and written.
 ";
 
 const NEW: &str = "\
