@@ -1,10 +1,13 @@
 //! Whole packets: where they are kept, what is shown of them, and the refusals that are
 //! theirs. All else is as of a switch that keeps none.
 
+mod common;
+
 use std::fmt::Debug;
 
+use common::{checksum, switch};
 use ventorupo::{
-    calls, find, repair, size, Answer, Batch, EntryId, Halt, Header, Refusal, RoundTurn, Settings,
+    calls, find, repair, Answer, Batch, EntryId, Halt, Header, Refusal, RoundTurn, Settings,
     Switch, Turn, SLOT_BYTES,
 };
 
@@ -22,10 +25,6 @@ const HALTED: usize = 4116;
 const STALE: u8 = 0xA5;
 
 type Memories = [Vec<u8>; 4];
-
-fn switch(settings: Settings) -> Switch<Vec<u8>> {
-    Switch::setup(vec![0; size(&settings).unwrap()], settings).unwrap()
-}
 
 fn memories(settings: Settings) -> Memories {
     [(); 4].map(|()| vec![STALE; settings.packet_memory()])
@@ -59,9 +58,7 @@ fn header(source: u32, length: u32, transaction: u32) -> Header {
 
 /// The bytes with their checksum in the tenth.
 fn summed(mut bytes: Vec<u8>) -> Vec<u8> {
-    let step = |sum: u8| sum << 1 ^ if sum & 0x80 == 0 { 0 } else { 7 };
-    let byte = |sum: u8, &byte: &u8| (0..8).fold(sum ^ byte, |sum, _| step(sum));
-    bytes[9] = bytes[..9].iter().fold(0, byte);
+    bytes[9] = checksum(&bytes[..9]);
     bytes
 }
 

@@ -1,5 +1,8 @@
 //! The wrapper's own promises: memories of every kind, and the refusals.
 
+mod common;
+
+use common::{checksum, switch};
 use ventorupo::{
     audit, find, repair, size, EntryId, Finding, Form, Halt, Header, ListKind, Refusal, RoundTurn,
     Rule, Settings, Switch, Turn, MOST_PORTS, PLACE_BYTES, TEN_BYTES, TURN_BYTES, WIDE,
@@ -35,10 +38,6 @@ fn settings(nodes: u32) -> [Settings; SHAPES.len()] {
         nodes,
         ..SETTINGS
     })
-}
-
-fn switch(settings: Settings) -> Switch<Vec<u8>> {
-    Switch::setup(vec![0; size(&settings).unwrap()], settings).unwrap()
 }
 
 #[test]
@@ -363,10 +362,8 @@ fn forms_that_no_switch_has() {
 
 /// The bytes with their checksum in the last one.
 fn summed(mut bytes: Vec<u8>) -> Vec<u8> {
-    let step = |sum: u8| sum << 1 ^ if sum & 0x80 == 0 { 0 } else { 7 };
     let last = bytes.len() - 1;
-    let byte = |sum: u8, &byte: &u8| (0..8).fold(sum ^ byte, |sum, _| step(sum));
-    bytes[last] = bytes[..last].iter().fold(0, byte);
+    bytes[last] = checksum(&bytes[..last]);
     bytes
 }
 
