@@ -176,7 +176,7 @@ fn the_last_slot_of_the_largest_memory() {
     ));
 }
 
-/// The longest length that is recorded is the header's, whatever stands in the slot.
+/// So many bytes as were recorded, whatever stands in the slot by now.
 #[test]
 fn show_goes_by_the_recorded_length() {
     let mut switch = switch(WHOLE);
