@@ -5,6 +5,13 @@
  *     uint8_t *mem = malloc(len);
  *     if (vr_setup(mem, len, &s) != VR_DONE) ...           then vr_map and vr_credit; headers come in by vr_arrive, packets leave by vr_round
  *
+ * With ten-byte headers a state may keep whole packets, in memory lent beside it, and show them where they lie:
+ *
+ *     struct vr_settings s = {.nodes = 256, .beat = 64, .slots = 8, .credit = 5000, .ports = 4, .queues = 24, .packets = 1};
+ *     uint8_t *packets[4];                                 a packet memory for each port, of s.nodes * VR_SLOT_BYTES bytes each
+ *     vr_arrive_packet(mem, len, packets[port], s.nodes * VR_SLOT_BYTES, port, packet, packet_len, &entry)
+ *     vr_show(mem, len, packets[0], ..., port, queue, &owner, &at, &length)    once prefetched: length bytes of packets[owner] from at on
+ *
  * Every call but vr_size and vr_find answers VR_DONE, which is 0, or a refusal's number (enum vr_answer); a refused call changes no byte
  * that was lent, the room for its answer included, but that an arrival refused 7 or 8 sets its port's mark, one byte of the state, if the
  * port has none. Nothing has to be checked beforehand: any memory and any numbers are taken. Where a call is refused 3, vr_find tells why,
@@ -24,7 +31,7 @@
  *     ports                               2 to 32; with ten-byte headers 4
  *     queues   queues a port              2 to 64; with ten-byte headers 24
  *     edition  of the header              0, VR_TEN_BYTES, or 1, VR_WIDE
- *     packets                             0
+ *     packets  1 if packets are kept      0 or 1; 1 only with ten-byte headers
  *
  * A header's fields, in this order, each from its most significant bit on:
  *
@@ -45,16 +52,26 @@
  * A packet's price is its length divided by the beat, rounded up; packets of queue 0 are free.
  *
  * A port that lies is halted: the first arrival there that is refused 7 or 8 marks the port with that number, whatever source the header
- * names, and later ones leave the mark. While the port has a mark, headers that arrive there for a queue above 0 and are right are refused
- * 10, whatever price and credit are; queue 0 goes on, and so do credits, stitches, prefetches and turns. vr_report reads a mark; vr_clear
- * lifts it, and so do vr_setup and vr_repair.
+ * names, and later ones leave the mark. While the port has a mark, headers and packets that arrive there for a queue above 0 and are right
+ * are refused 10, whatever price and credit are; queue 0 goes on, and so do credits, stitches, prefetches and turns. vr_report reads a
+ * mark; vr_clear lifts it, and so do vr_setup and vr_repair.
+ *
+ * Where packets are kept, each port has a packet memory outside of the state: a slot of 8,192 bytes (VR_SLOT_BYTES) for each of its nodes,
+ * node 0's first. They are lent to vr_arrive_packet and vr_show, and no other call has anything to do with them. A packet lies in its slot
+ * from its arrival on, after its turn too, until its node takes another. Headers that arrive alone are refused 24 there, in a run too;
+ * whole packets, and vr_show, are refused 24 where none are kept. All other calls, and the state but for this setting, are the same.
  *
  * Setup tests 2, then 1; vr_read_header 2, 6, 7, 20, 9, 19; vr_write_header 2, then 21. The others test 3 first, then in the order of
- * their numbers, but map tests 15 before 4, and arrive's order is 3, 4, 6, 7, 20, 8, 9, 19, 10, 11.
+ * their numbers, but map tests 15 before 4, and these have orders of their own:
+ *
+ *     vr_arrive         3, 24, 4, 6, 7, 20, 8, 9, 19, 10, 11
+ *     vr_arrive_packet  3, 24, 17, 4, 16 (under ten bytes), 7, 20, 8, 9, 16 (not as many as the length field says), 19, 10, 11
+ *     vr_show           3, 24, 17, 4, 5, 12
  *
  * What C asks remains the caller's: each pointer is valid, and not null, for the length given (a room for its whole size); pointers to
  * uint16_t, uint32_t, uint64_t and the structs are aligned; the memories lent to one call do not overlap; and no two calls run at once on a
- * memory that one of them may change.
+ * memory that one of them may change. And each port's packet memory is the same one at every call: that another port's is lent, or other
+ * bytes of the same size, can't be noticed, and then a packet is stored and shown where it isn't looked for.
  *
  * A call takes up to 25,902 bytes of stack, a finding up to 33,486, whatever the settings (measured on x86-64 by tools/stack.c, not proved):
  * the test for a state keeps a bit for each of up to 65,536 nodes there, and a sum for each port and queue but 0.
@@ -80,20 +97,23 @@ enum vr_answer {
     VR_BAD_SETTING = 2,      /* setup, read_header, write_header: a setting not in its row */
     VR_NO_STATE = 3,         /* all but setup, find, read_header, write_header: memory is no switch state; for repair, breaks rule (a) */
     VR_NO_PORT = 4,          /* all with a port: port above the last */
-    VR_NO_QUEUE = 5,         /* prefetch, credit, bucket: queue above the last; for credit also 0; for bucket, bucket above 32 */
+    VR_NO_QUEUE = 5,         /* prefetch, credit, bucket, show: queue above the last; for credit also 0; for bucket, bucket above 32 */
     VR_HEADER_SIZE = 6,      /* arrive, read_header: header not of its edition's size */
-    VR_CHECKSUM = 7,         /* arrive, read_header: checksum differs */
-    VR_SOURCE = 8,           /* arrive: header's source isn't the arriving port */
-    VR_TOO_SHORT = 9,        /* arrive, read_header: length under the header's size plus 2 */
-    VR_NO_CREDIT = 10,       /* arrive: price above arrival credit; at a halted port, queue above 0 */
-    VR_NO_FREE_NODE = 11,    /* arrive: free list empty */
-    VR_NOTHING_THERE = 12,   /* stitch, prefetch: list to take from is empty */
+    VR_CHECKSUM = 7,         /* arrive, arrive_packet, read_header: checksum differs */
+    VR_SOURCE = 8,           /* arrive, arrive_packet: header's source isn't the arriving port */
+    VR_TOO_SHORT = 9,        /* arrive, arrive_packet, read_header: length under the header's size plus 2 */
+    VR_NO_CREDIT = 10,       /* arrive, arrive_packet: price above arrival credit; at a halted port, queue above 0 */
+    VR_NO_FREE_NODE = 11,    /* arrive, arrive_packet: free list empty */
+    VR_NOTHING_THERE = 12,   /* stitch, prefetch, show: list to take from is empty; for show, nothing to show */
     VR_SLOTS_IN_USE = 13,    /* prefetch: all slots in use */
     VR_TOO_MUCH_CREDIT = 14, /* credit: sum above 65,535 */
     VR_NO_SUCH_ID = 15,      /* map, where: id above 4,095; no such node */
-    VR_HEADER_QUEUE = 19,    /* arrive, read_header: header's queue above the last */
-    VR_RESERVED_BIT = 20,    /* arrive, read_header: a reserved bit of the header is 1 */
+    VR_PACKET_BYTES = 16,    /* arrive_packet: packet bytes not as many as the length field says, or fewer than ten */
+    VR_PACKET_MEMORY = 17,   /* arrive_packet, show: a packet memory not of 8,192 bytes a node */
+    VR_HEADER_QUEUE = 19,    /* arrive, arrive_packet, read_header: header's queue above the last */
+    VR_RESERVED_BIT = 20,    /* arrive, arrive_packet, read_header: a reserved bit of the header is 1 */
     VR_NO_FIT = 21,          /* write_header: a value doesn't fit its field, length under the header's size plus 2, or queue above the last */
+    VR_OTHER_KIND = 24,      /* arrive, arrive_packet, show: a header alone where packets are kept, or a packet or a show where none are */
     VR_SHORT_ROOM = 27,      /* round, audit: room of less than four bytes a port; for audit, eight a node */
 };
 
@@ -110,6 +130,9 @@ enum vr_stop {
     VR_NO_ROOM = 2,   /* no room for a good field's answer */
 };
 
+/* The bytes of a slot, of which a packet memory has one for each node. */
+enum { VR_SLOT_BYTES = 8192 };
+
 /* What a switch is set up with; any numbers may stand here. */
 struct vr_settings {
     uint32_t nodes;   /* nodes a port: 1 to 2,048 */
@@ -119,7 +142,7 @@ struct vr_settings {
     uint32_t ports;   /* 2 to 32; in edition 0 it is 4 */
     uint32_t queues;  /* queues a port: 2 to 64; in edition 0 it is 24 */
     uint32_t edition; /* enum vr_edition */
-    uint32_t packets; /* 0 */
+    uint32_t packets; /* 1 if packets are kept, else 0; in edition 1 it is 0 */
 };
 
 /* What a header says; any numbers may stand here. */
@@ -142,8 +165,15 @@ uint64_t vr_size(const struct vr_settings *settings);
 uint32_t vr_setup(uint8_t *mem, size_t len, const struct vr_settings *settings);
 
 /* Takes the front of the port's free list, records the header and appends the node to ingress. Writes the entry id. Refused 7 or 8, it
- * halts the port: its mark becomes that number if it was 0, and no other byte changes. */
+ * halts the port: its mark becomes that number if it was 0, and no other byte changes. Refused 24 where packets are kept. */
 uint32_t vr_arrive(uint8_t *mem, size_t len, uint32_t port, const uint8_t *header, size_t header_len, uint16_t *entry);
+
+/* A whole packet arrives, whose first ten bytes are its header, on a state that keeps packets. Does to the state what vr_arrive does with
+ * that header where none are kept, and copies the packet to the start of its node's slot in `packets`, the packet memory of the port where it
+ * arrives: byte `entry % 2048 * VR_SLOT_BYTES`. The rest of that slot and all other slots stay. The packet's bytes are header, data and
+ * footer, as many as the header's length field says, else it is refused 16; packets_len is nodes * VR_SLOT_BYTES, else 17. */
+uint32_t vr_arrive_packet(uint8_t *mem, size_t len, uint8_t *packets, size_t packets_len, uint32_t port, const uint8_t *packet,
+                          size_t packet_len, uint16_t *entry);
 
 /* Takes the oldest ingress node to the egress list of the port that the map names now. Writes ten bytes, big-endian:
  * entry id (2), length (2), queue (1), mapped port (1), timestamp (4). */
@@ -157,6 +187,14 @@ uint32_t vr_credit(uint8_t *mem, size_t len, uint32_t port, uint32_t queue, uint
 
 /* Sets the port of one destination id, 0 to 4,095. */
 uint32_t vr_map(uint8_t *mem, size_t len, uint32_t id, uint32_t port);
+
+/* Shows the oldest packet in the queue's prefetch slots, the one that the port sends next of that queue: it is `length` bytes, as many as its
+ * header says, of the packet memory of port `owner`, from byte `at` on. p0 to p3 are the packet memories of ports 0 to 3; refused 17 unless
+ * each of them has nodes * VR_SLOT_BYTES. Refused 12 where the slots are empty, also if egress has packets. Changes nothing, and a refusal
+ * leaves owner, at and length as they were. */
+uint32_t vr_show(const uint8_t *mem, size_t len, const uint8_t *p0, size_t len0, const uint8_t *p1, size_t len1, const uint8_t *p2,
+                 size_t len2, const uint8_t *p3, size_t len3, uint32_t port, uint32_t queue, uint32_t *owner, uint64_t *at,
+                 uint32_t *length);
 
 /* Lets one packet leave the port, or none if nothing is ready. Writes sixteen bytes, big-endian: kind (1: 0 idle, 1 inside, 2 outside),
  * queue (1), entry id (2), length (2), destination id (2), timestamp (4), poisoned (1), transaction id (1), price (2).
@@ -194,7 +232,8 @@ uint32_t vr_round(uint8_t *mem, size_t len, uint8_t *turns, size_t turns_len);
  *     tag 7  map       id (1), port (1)
  *
  * So a turn of port 3 is 5, 0, 1, 3. Memory and answers are as of the same calls one by one, but the memory is tested once. These are the
- * bench program's fields, so a header of ten bytes is a good field on a wide switch too, where it is refused 6.
+ * bench program's fields, so a header of ten bytes is a good field on a wide switch too, where it is refused 6, and where packets are kept,
+ * where it is refused 24.
  * Writes four bytes for each field's answer, one behind the other: refusal number (1), 1 if idle (1), entry id (2, big-endian) or 0. The
  * entry id is that of arrive, prefetch and turn, and of stitch the one in its record; credit and map have none. A field that is refused
  * leaves what its call leaves when it is refused, and the run goes on with the next.

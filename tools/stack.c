@@ -43,6 +43,20 @@ static void audit(void) { vr_audit(memory, memory_len, lent, lent_len); }
 static void find(void) { uint32_t rule; uint64_t item; vr_find(memory, memory_len, &rule, &item); }
 static void repair(void) { vr_repair(memory, memory_len); }
 
+/* The packet memories of the four ports, one behind the other, and a packet, which is taken as far as the slots of port 0. */
+static uint8_t *packets, packet[64];
+static void arrive_packet(void) {
+    uint16_t entry;
+    if (vr_arrive_packet(memory, memory_len, packets, settings.nodes * VR_SLOT_BYTES, 0, packet, sizeof packet, &entry)) abort();
+}
+static void show(void) {
+    size_t each = settings.nodes * VR_SLOT_BYTES;
+    const uint8_t *p = packets;
+    uint32_t owner, length;
+    uint64_t at;
+    if (vr_show(memory, memory_len, p, each, p + each, each, p + 2 * each, each, p + 3 * each, each, 0, 1, &owner, &at, &length)) abort();
+}
+
 static void *run(void *call) {
     uint8_t here;
     top = &here;
@@ -64,6 +78,20 @@ static size_t taken(void (*call)(void)) {
     low = (size_t)(top - (stack + low));
     free(stack);
     return low;
+}
+
+/* On a state that keeps packets. */
+static void whole_packets(size_t bare) {
+    uint8_t record[10];
+    uint16_t entry;
+    settings.packets = 1;
+    packets = calloc(4 * settings.nodes, VR_SLOT_BYTES);
+    if (!packets || vr_setup(memory, memory_len, &settings)) abort();
+    memcpy(packet, header, header_len);
+    printf("  arrive a packet %zu", taken(arrive_packet) - bare);
+    if (vr_stitch(memory, memory_len, 0, record) || vr_prefetch(memory, memory_len, 0, 1, &entry)) abort();
+    printf(", show %zu\n", taken(show) - bare);
+    free(packets);
 }
 
 int main(void) {
@@ -90,6 +118,7 @@ int main(void) {
         memory[memory_len / 2] ^= 0x55;
         memory[memory_len - 9] ^= 0x55;
         printf(", find on a broken one %zu, repair %zu\n", taken(find) - bare, taken(repair) - bare);
+        if (settings.edition == VR_TEN_BYTES) whole_packets(bare);
         free(memory);
         free(lent);
     }

@@ -19,8 +19,6 @@ pub fn call(memory: &mut [u8], call: &Call) -> Result<Reply, String> {
     let round_bytes = round_bytes(memory);
     let mut switch = Switch::over(&mut *memory);
     let reply = match call {
-        // The wrapper's settings have no word for it yet.
-        Call::Setup(s) if s.packets > 0 => return library::call(memory, call),
         Call::Setup(s) => {
             let settings = Settings {
                 nodes: s.nodes,
@@ -30,6 +28,7 @@ pub fn call(memory: &mut [u8], call: &Call) -> Result<Reply, String> {
                 ports: s.ports,
                 queues: s.queues,
                 edition: s.edition,
+                packets: s.packets,
             };
             switch.setup_again(settings).map(|()| Reply::Done)
         }

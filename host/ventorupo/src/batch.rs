@@ -105,8 +105,9 @@ impl Batch {
         })
     }
 
-    /// As [`Switch::arrive`]. A header of the form's size is taken, and one of ten
-    /// bytes, which a switch with wide headers refuses 6.
+    /// As [`Switch::arrive`], so a switch that keeps packets refuses it 24. A header of
+    /// the form's size is taken, and one of ten bytes, which a switch with wide headers
+    /// refuses 6.
     ///
     /// ```
     /// use ventorupo::{Batch, Form, Refusal, WrongLength};

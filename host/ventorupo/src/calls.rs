@@ -1,7 +1,8 @@
 //! The C interface's calls, with slices for pointers and lengths: each but the
 //! size and the finding answers 0 or a refusal's number, and a refusal changes
 //! neither memory nor room, but that an arrival refused 7 or 8 sets its port's
-//! mark, one byte of the memory, if the port has none.
+//! mark, one byte of the memory, if the port has none. Packet memories are lent
+//! memory too.
 //!
 //! All of this crate's unsafe code is here. C asks that a pointer is valid for
 //! its length, that it is aligned, and that lent memories do not overlap. A
@@ -19,6 +20,16 @@ mod c {
             port: u32,
             header: *const u8,
             header_len: usize,
+            entry: *mut u16,
+        ) -> u32;
+        pub fn vr_arrive_packet(
+            mem: *mut u8,
+            len: usize,
+            packets: *mut u8,
+            packets_len: usize,
+            port: u32,
+            packet: *const u8,
+            packet_len: usize,
             entry: *mut u16,
         ) -> u32;
         pub fn vr_stitch(mem: *mut u8, len: usize, port: u32, record: *mut u8) -> u32;
@@ -46,6 +57,23 @@ mod c {
             count: *mut u32,
         ) -> u32;
         pub fn vr_where(mem: *const u8, len: usize, entry: u32, place: *mut u8) -> u32;
+        pub fn vr_show(
+            mem: *const u8,
+            len: usize,
+            p0: *const u8,
+            len0: usize,
+            p1: *const u8,
+            len1: usize,
+            p2: *const u8,
+            len2: usize,
+            p3: *const u8,
+            len3: usize,
+            port: u32,
+            queue: u32,
+            owner: *mut u32,
+            at: *mut u64,
+            length: *mut u32,
+        ) -> u32;
         pub fn vr_clear(mem: *mut u8, len: usize, port: u32) -> u32;
         pub fn vr_report(mem: *const u8, len: usize, port: u32, mark: *mut u32) -> u32;
         pub fn vr_timed_turn(mem: *mut u8, len: usize, port: u32, now: u32, sent: *mut u8) -> u32;
@@ -100,6 +128,29 @@ pub fn arrive(memory: &mut [u8], port: u32, header: &[u8], entry: &mut u16) -> u
             port,
             header.as_ptr(),
             header.len(),
+            entry,
+        )
+    }
+}
+
+/// The packet memory is the arriving port's.
+pub fn arrive_packet(
+    memory: &mut [u8],
+    packets: &mut [u8],
+    port: u32,
+    packet: &[u8],
+    entry: &mut u16,
+) -> u32 {
+    // Sound: three slices with their lengths, and an aligned u16, all apart.
+    unsafe {
+        c::vr_arrive_packet(
+            memory.as_mut_ptr(),
+            memory.len(),
+            packets.as_mut_ptr(),
+            packets.len(),
+            port,
+            packet.as_ptr(),
+            packet.len(),
             entry,
         )
     }
@@ -174,6 +225,41 @@ pub fn ready(memory: &[u8], port: u32, word: &mut u64, count: &mut u32) -> u32 {
 pub fn place_of(memory: &[u8], entry: u32, place: &mut [u8; 8]) -> u32 {
     // Sound: the memory is read only; the room has the 8 bytes C asks for.
     unsafe { c::vr_where(memory.as_ptr(), memory.len(), entry, place.as_mut_ptr()) }
+}
+
+/// The packet memories are those of ports 0 to 3; what is shown is so many bytes of the
+/// owner's, from `at` on.
+pub fn show(
+    memory: &[u8],
+    packets: [&[u8]; 4],
+    port: u32,
+    queue: u32,
+    owner: &mut u32,
+    at: &mut u64,
+    length: &mut u32,
+) -> u32 {
+    let [p0, p1, p2, p3] = packets;
+    // Sound: memory and packets are read only, slices with their lengths; three aligned
+    // rooms, apart from them.
+    unsafe {
+        c::vr_show(
+            memory.as_ptr(),
+            memory.len(),
+            p0.as_ptr(),
+            p0.len(),
+            p1.as_ptr(),
+            p1.len(),
+            p2.as_ptr(),
+            p2.len(),
+            p3.as_ptr(),
+            p3.len(),
+            port,
+            queue,
+            owner,
+            at,
+            length,
+        )
+    }
 }
 
 pub fn clear(memory: &mut [u8], port: u32) -> u32 {

@@ -75,6 +75,39 @@
 //! assert_eq!(switch.arrive(0, &header), Ok(EntryId(0)));
 //! # Ok::<(), Refusal>(())
 //! ```
+//!
+//! Such a switch may keep whole packets ([`Settings::with_packets`]). Each port then has
+//! a packet memory of its own beside the state, with a slot of 8,192 bytes for each
+//! node, which is lent to the calls that need it. A packet is stored when it arrives
+//! ([`Switch::arrive_packet`]), and once it is prefetched it is shown where it lies
+//! ([`Switch::show`]): what is shown is a part of the lent memory, never a copy. It lies
+//! there after its turn too, until an arrival at its owner's port takes the same node.
+//!
+//! ```
+//! use ventorupo::{Header, Refusal, Settings, Switch, Turn};
+//!
+//! // Two nodes a port, beat 64, one slot, credit 16.
+//! let settings = Settings::ten_bytes(2, 64, 1, 16).with_packets();
+//! let memory = vec![0; ventorupo::size(&settings).unwrap()];
+//! let mut switch = Switch::setup(memory, settings).map_err(|(why, _)| why)?;
+//! let mut packets = [(); 4].map(|()| vec![0; settings.packet_memory()]);
+//!
+//! // From port 1 to port 0 in queue 0: header, data and footer.
+//! let header = Header { source: 1, length: 17, ..Header::default() };
+//! let mut packet = settings.form().write(&header)?.to_vec();
+//! packet.extend(b"audio..");
+//! let entry = switch.arrive_packet(&mut packets[1], 1, &packet)?;
+//! switch.stitch(1)?;
+//! switch.prefetch(0, 0)?;
+//!
+//! // The packet that port 0's next turn sends of queue 0 lies in port 1's memory.
+//! let [p0, p1, p2, p3] = &packets;
+//! let shown = switch.show([p0, p1, p2, p3], 0, 0)?;
+//! assert_eq!(shown, packet);
+//! assert!(matches!(switch.turn(0)?, Turn::Sent(sent) if sent.entry == entry));
+//! assert_eq!(shown, packet);
+//! # Ok::<(), Refusal>(())
+//! ```
 
 #![deny(unsafe_code)]
 
@@ -84,6 +117,7 @@ mod batch;
 pub mod calls;
 mod header;
 mod night;
+mod packets;
 mod refusal;
 mod runs;
 mod settings;
@@ -97,7 +131,7 @@ pub use header::{Form, Header, HeaderBytes};
 pub use night::{audit, find, repair, Finding, Rule};
 pub use refusal::Refusal;
 pub use runs::{Answer, Answers, Ran, Stop, ANSWER_BYTES};
-pub use settings::{size, Settings, MOST_PORTS, TEN_BYTES, WIDE};
+pub use settings::{size, Settings, MOST_PORTS, SLOT_BYTES, TEN_BYTES, WIDE};
 pub use waits::{bucket_of, waits_of, BUCKETS, BUCKET_STOP};
 
 /// The most bytes that a header has, in any form; see [`Form::size`].
@@ -168,7 +202,8 @@ impl<M: AsRef<[u8]> + AsMut<[u8]>> Switch<M> {
 
     /// A packet's header, of the switch's form, arrives at a port: takes a free
     /// node for it. Refused 7 or 8, it halts the port, and that mark is all that
-    /// changes; see [`Halt`].
+    /// changes; see [`Halt`]. Refused 24 on a switch that keeps packets, which takes
+    /// them whole: [`Switch::arrive_packet`].
     pub fn arrive(&mut self, port: u32, header: &[u8]) -> Result<EntryId, Refusal> {
         let mut entry = 0;
         done(calls::arrive(

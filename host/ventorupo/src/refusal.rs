@@ -32,20 +32,23 @@ refusals! {
     BadSetting = 2, "setup, read_header, write_header", "a setting not in its row";
     NoState = 3, "all but setup, find, read_header, write_header", "memory is no switch state; for repair, breaks rule (a)";
     NoPort = 4, "all with a port", "port above the last";
-    NoQueue = 5, "prefetch, credit, bucket", "queue above the last; for credit also 0; for bucket, bucket above 32";
+    NoQueue = 5, "prefetch, credit, bucket, show", "queue above the last; for credit also 0; for bucket, bucket above 32";
     HeaderSize = 6, "arrive, read_header", "header not of its edition's size";
-    Checksum = 7, "arrive, read_header", "checksum differs";
-    Source = 8, "arrive", "header's source isn't the arriving port";
-    TooShort = 9, "arrive, read_header", "length under the header's size plus 2";
-    NoCredit = 10, "arrive", "price above arrival credit; at a halted port, queue above 0";
-    NoFreeNode = 11, "arrive", "free list empty";
-    NothingThere = 12, "stitch, prefetch", "list to take from is empty";
+    Checksum = 7, "arrive, arrive_packet, read_header", "checksum differs";
+    Source = 8, "arrive, arrive_packet", "header's source isn't the arriving port";
+    TooShort = 9, "arrive, arrive_packet, read_header", "length under the header's size plus 2";
+    NoCredit = 10, "arrive, arrive_packet", "price above arrival credit; at a halted port, queue above 0";
+    NoFreeNode = 11, "arrive, arrive_packet", "free list empty";
+    NothingThere = 12, "stitch, prefetch, show", "list to take from is empty; for show, nothing to show";
     SlotsInUse = 13, "prefetch", "all slots in use";
     TooMuchCredit = 14, "credit", "sum above 65,535";
     NoSuchId = 15, "map, where", "id above 4,095; no such node";
-    HeaderQueue = 19, "arrive, read_header", "header's queue above the last";
-    ReservedBit = 20, "arrive, read_header", "a reserved bit of the header is 1";
+    PacketBytes = 16, "arrive_packet", "packet bytes not as many as the length field says, or fewer than ten";
+    PacketMemory = 17, "arrive_packet, show", "a packet memory not of 8,192 bytes a node";
+    HeaderQueue = 19, "arrive, arrive_packet, read_header", "header's queue above the last";
+    ReservedBit = 20, "arrive, arrive_packet, read_header", "a reserved bit of the header is 1";
     NoFit = 21, "write_header", "a value doesn't fit its field, length under the header's size plus 2, or queue above the last";
+    OtherKind = 24, "arrive, arrive_packet, show", "a header alone where packets are kept, or a packet or a show where none are";
     ShortRoom = 27, "round, audit", "room of less than four bytes a port; for audit, eight a node";
 }
 

@@ -14,6 +14,17 @@ pub const MOST_PORTS: usize = 32;
 /// The most nodes that a port has.
 pub(crate) const MOST_NODES: usize = 2048;
 
+/// The bytes of a packet memory for each node: one more than the longest packet has.
+///
+/// ```
+/// use ventorupo::{Header, Settings, SLOT_BYTES};
+///
+/// let longest = Header { length: SLOT_BYTES as u32 - 1, ..Header::default() };
+/// let form = Settings::ten_bytes(2, 64, 1, 16).form();
+/// assert!(form.write(&longest).is_ok());
+/// ```
+pub const SLOT_BYTES: usize = 8192;
+
 /// The bytes of the settings, with which a state begins.
 pub(crate) const SETTINGS_BYTES: usize = 16;
 
@@ -45,6 +56,8 @@ pub struct Settings {
     pub queues: u32,
     /// The header's edition: [`TEN_BYTES`] or [`WIDE`].
     pub edition: u32,
+    /// 1 if the switch keeps packets, else 0; in the edition of wide headers 0.
+    pub packets: u32,
 }
 
 impl Settings {
@@ -58,6 +71,7 @@ impl Settings {
             ports: 4,
             queues: 24,
             edition: TEN_BYTES,
+            packets: 0,
         }
     }
 
@@ -78,7 +92,40 @@ impl Settings {
             ports,
             queues,
             edition: WIDE,
+            packets: 0,
         }
+    }
+
+    /// The same, of a switch that keeps packets: whole packets arrive and are shown
+    /// ([`Switch::arrive_packet`](crate::Switch::arrive_packet),
+    /// [`Switch::show`](crate::Switch::show)), and headers alone are refused 24. Setup
+    /// refuses it with wide headers.
+    ///
+    /// ```
+    /// use ventorupo::{size, Settings};
+    ///
+    /// let headers = Settings::ten_bytes(2, 64, 1, 16);
+    /// let whole = headers.with_packets();
+    /// assert_eq!((headers.packets, whole.packets), (0, 1));
+    /// // The packets stand outside of the state.
+    /// assert_eq!(size(&whole), size(&headers));
+    /// assert_eq!(size(&Settings::wide(4, 24, 2, 64, 1, 16).with_packets()), None);
+    /// ```
+    pub const fn with_packets(self) -> Settings {
+        Settings { packets: 1, ..self }
+    }
+
+    /// The bytes of each port's packet memory, if the switch keeps packets: just so
+    /// many are to be lent.
+    ///
+    /// ```
+    /// use ventorupo::{Settings, SLOT_BYTES};
+    ///
+    /// let settings = Settings::ten_bytes(256, 64, 1, 16).with_packets();
+    /// assert_eq!(settings.packet_memory(), 256 * SLOT_BYTES);
+    /// ```
+    pub const fn packet_memory(&self) -> usize {
+        (self.nodes as usize).saturating_mul(SLOT_BYTES)
     }
 
     /// The form of the switch's headers.
@@ -90,8 +137,7 @@ impl Settings {
         }
     }
 
-    /// As the C interface has them. The last number, packets, is 0: no switch
-    /// keeps packets yet.
+    /// As the C interface has them.
     pub const fn numbers(&self) -> [u32; 8] {
         [
             self.nodes,
@@ -101,7 +147,7 @@ impl Settings {
             self.ports,
             self.queues,
             self.edition,
-            0,
+            self.packets,
         ]
     }
 }

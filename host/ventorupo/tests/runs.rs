@@ -1,8 +1,11 @@
 //! Runs: what a run leaves is what its calls leave one by one, and where it stops.
 
+mod common;
+
+use common::switch;
 use ventorupo::{
-    size, Answer, Batch, EntryId, Form, Halt, Header, Ran, Refusal, Settings, Stop, Switch,
-    Unfinished, WrongLength, ANSWER_BYTES, TEN_BYTES, WIDE,
+    Answer, Batch, EntryId, Form, Halt, Header, Ran, Refusal, Settings, Stop, Switch, Unfinished,
+    WrongLength, ANSWER_BYTES, TEN_BYTES, WIDE,
 };
 
 /// Switches of every edition, and headers of ten, eleven and twelve bytes.
@@ -21,10 +24,6 @@ fn settings() -> [Settings; SHAPES.len()] {
         queues,
         ..Settings::ten_bytes(2, 64, 1, 16)
     })
-}
-
-fn switch(settings: Settings) -> Switch<Vec<u8>> {
-    Switch::setup(vec![0; size(&settings).unwrap()], settings).unwrap()
 }
 
 const TEN: Settings = Settings::ten_bytes(2, 64, 1, 16);
@@ -479,7 +478,7 @@ fn four_bytes_tell_of_a_calls_answer_or_of_none() {
     }
     for tag in 0..=255 {
         // Idle twice over, refused and idle, refused with an id, no refusal's number.
-        for bytes in [[0, 2, 0, 0], [4, 1, 0, 0], [4, 0, 0, 1], [16, 0, 0, 0]] {
+        for bytes in [[0, 2, 0, 0], [4, 1, 0, 0], [4, 0, 0, 1], [18, 0, 0, 0]] {
             assert_eq!(Answer::from_bytes(tag, &bytes), None);
         }
         let some = Answer::from_bytes(tag, &[0; 4]).is_some();

@@ -1,5 +1,8 @@
 //! The wrapper's own promises: memories of every kind, and the refusals.
 
+mod common;
+
+use common::{checksum, switch};
 use ventorupo::{
     audit, find, repair, size, EntryId, Finding, Form, Halt, Header, ListKind, Refusal, RoundTurn,
     Rule, Settings, Switch, Turn, MOST_PORTS, PLACE_BYTES, TEN_BYTES, TURN_BYTES, WIDE,
@@ -35,10 +38,6 @@ fn settings(nodes: u32) -> [Settings; SHAPES.len()] {
         nodes,
         ..SETTINGS
     })
-}
-
-fn switch(settings: Settings) -> Switch<Vec<u8>> {
-    Switch::setup(vec![0; size(&settings).unwrap()], settings).unwrap()
 }
 
 #[test]
@@ -100,6 +99,18 @@ fn settings_out_of_their_rows() {
             ports: u32::MAX,
             ..wide
         },
+        Settings { packets: 2, ..ten },
+        Settings {
+            packets: u32::MAX,
+            ..ten
+        },
+        // Packets need ten-byte headers.
+        wide.with_packets(),
+        Settings {
+            edition: WIDE,
+            ..ten
+        }
+        .with_packets(),
     ];
     for settings in wrong {
         assert_eq!(size(&settings), None, "{settings:?}");
@@ -128,13 +139,14 @@ fn no_memory_at_all() {
 
 #[test]
 fn refusals_and_their_numbers() {
-    assert_eq!(Refusal::ALL.len(), 19);
-    for (number, &refusal) in (1..=15).chain([19, 20, 21, 27]).zip(Refusal::ALL) {
+    assert_eq!(Refusal::ALL.len(), 22);
+    let numbers = (1..=17).chain([19, 20, 21, 24, 27]);
+    for (number, &refusal) in numbers.zip(Refusal::ALL) {
         assert_eq!(refusal.number(), number);
         assert_eq!(Refusal::from_number(number), Some(refusal));
         assert!(!refusal.to_string().is_empty());
     }
-    for number in [0, 16, 17, 18, 22, 26, 28, 256 + 3, u32::MAX] {
+    for number in [0, 18, 22, 23, 25, 26, 28, 256 + 3, u32::MAX] {
         assert_eq!(Refusal::from_number(number), None);
     }
     assert_eq!(Refusal::Checksum.to_string(), "checksum differs");
@@ -350,10 +362,8 @@ fn forms_that_no_switch_has() {
 
 /// The bytes with their checksum in the last one.
 fn summed(mut bytes: Vec<u8>) -> Vec<u8> {
-    let step = |sum: u8| sum << 1 ^ if sum & 0x80 == 0 { 0 } else { 7 };
     let last = bytes.len() - 1;
-    let byte = |sum: u8, &byte: &u8| (0..8).fold(sum ^ byte, |sum, _| step(sum));
-    bytes[last] = bytes[..last].iter().fold(0, byte);
+    bytes[last] = checksum(&bytes[..last]);
     bytes
 }
 
@@ -421,7 +431,7 @@ fn four_bytes_tell_of_a_turn_or_of_none() {
         [0, 1, 0, 1],
         [4, 1, 0, 0],
         [4, 0, 0, 1],
-        [16, 0, 0, 0],
+        [18, 0, 0, 0],
     ] {
         assert_eq!(turn(bytes), None);
     }

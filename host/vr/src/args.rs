@@ -9,6 +9,8 @@ use std::path::PathBuf;
 
 use ventorupo::{Form, Header};
 
+use crate::layout::MEMORIES;
+use crate::packets::Names;
 use crate::trouble::Trouble;
 pub use help::Topic;
 
@@ -22,6 +24,7 @@ pub enum Command {
     },
     Dump {
         image: PathBuf,
+        packets: Option<Names>,
         json: bool,
     },
     Repair {
@@ -77,13 +80,14 @@ pub enum Given {
     Input,
 }
 
-/// The options that have a new file's name behind them.
-const NAMING: [&str; 2] = ["-o", "--svg"];
+/// The options that have files' names behind them.
+const NAMING: [&str; 3] = ["-o", "--svg", "--packets"];
 
 /// The words behind a command.
 #[derive(Default)]
 struct Rest {
     image: Option<PathBuf>,
+    packets: Option<Names>,
     json: bool,
     new: Option<PathBuf>,
 }
@@ -104,9 +108,13 @@ pub fn command(words: impl Iterator<Item = OsString>) -> Result<Command, Trouble
             Ok(Command::Explain { image })
         }
         Some("dump") => {
-            let rest = rest(words, &["--json"])?;
-            let (image, json) = (named(rest.image)?, rest.json);
-            Ok(Command::Dump { image, json })
+            let rest = rest(words, &["--packets", "--json"])?;
+            let (image, packets, json) = (named(rest.image)?, rest.packets, rest.json);
+            Ok(Command::Dump {
+                image,
+                packets,
+                json,
+            })
         }
         Some("repair") => {
             let rest = rest(words, &["-o"])?;
@@ -164,6 +172,7 @@ fn rest(words: Vec<OsString>, options: &[&str]) -> Result<Rest, Trouble> {
         let joined = |option: &&str| taken(option) && name_joined(&word, option).is_some();
         match word.to_str().filter(taken) {
             Some("--json") => rest.json = true,
+            Some("--packets") => rest.put_packets(&mut words)?,
             Some(option) => rest.put_new(option, words.next())?,
             None => match NAMING.into_iter().find(joined) {
                 Some(option) => return Err(unknown(&word, option)),
@@ -176,10 +185,16 @@ fn rest(words: Vec<OsString>, options: &[&str]) -> Result<Rest, Trouble> {
 
 impl Rest {
     fn put_new(&mut self, option: &str, name: Option<OsString>) -> Result<(), Trouble> {
-        match self.new.replace(name_behind(option, name)?) {
-            Some(_) => Err(twice(option)),
-            None => Ok(()),
+        once(option, self.new.replace(name_behind(option, name)?))
+    }
+
+    fn put_packets(&mut self, words: &mut impl Iterator<Item = OsString>) -> Result<(), Trouble> {
+        let needs = format!("--packets needs {MEMORIES} names behind it");
+        let mut names = Names::default();
+        for name in &mut names {
+            *name = file_name(&needs, words.next())?;
         }
+        once("--packets", self.packets.replace(names))
     }
 
     fn put_image(&mut self, word: OsString) -> Result<(), Trouble> {
@@ -194,11 +209,15 @@ impl Rest {
     }
 }
 
-/// The name of a new file, which stands behind an option.
+/// The name of a file, which stands behind an option.
 fn name_behind(option: &str, name: Option<OsString>) -> Result<PathBuf, Trouble> {
-    let needs = format!("{option} needs a name behind it");
+    file_name(&format!("{option} needs a name behind it"), name)
+}
+
+/// The name of a file where one is needed.
+fn file_name(needs: &str, name: Option<OsString>) -> Result<PathBuf, Trouble> {
     let name = name.filter(|name| !name.is_empty());
-    let name = name.ok_or_else(|| bad(needs.clone()))?;
+    let name = name.ok_or_else(|| bad(needs.into()))?;
     if is_dashed(&name) {
         let (word, file) = (quoted(&name), file_named(&name));
         return Err(bad(format!("{needs}, not {word}; {file}")));
@@ -206,8 +225,12 @@ fn name_behind(option: &str, name: Option<OsString>) -> Result<PathBuf, Trouble>
     Ok(name.into())
 }
 
-fn twice(option: &str) -> Trouble {
-    bad(format!("{option} is there twice"))
+/// An option stands there once: behind none that was there before.
+fn once<T>(option: &str, before: Option<T>) -> Result<(), Trouble> {
+    match before {
+        Some(_) => Err(bad(format!("{option} is there twice"))),
+        None => Ok(()),
+    }
 }
 
 /// The name that is written as in `-o=name`.
@@ -270,13 +293,22 @@ mod tests {
         let image = || PathBuf::from("i");
         let explain = Command::Explain { image: image() };
         assert_eq!(told("explain i"), Ok(explain));
-        for (line, json) in [
-            ("dump i", false),
-            ("dump i --json", true),
-            ("dump --json i", true),
+        let packets = Some(["a", "b", "c", "./-d"].map(PathBuf::from));
+        for (line, packets, json) in [
+            ("dump i", None, false),
+            ("dump i --json", None, true),
+            ("dump --json i", None, true),
+            ("dump i --packets a b c ./-d", packets.clone(), false),
+            ("dump --packets a b c ./-d --json i", packets.clone(), true),
+            ("dump --packets a b c ./-d i --json", packets, true),
         ] {
             let image = image();
-            assert_eq!(told(line), Ok(Command::Dump { image, json }));
+            let dump = Command::Dump {
+                image,
+                packets,
+                json,
+            };
+            assert_eq!(told(line), Ok(dump));
         }
         for line in ["repair i -o n", "repair -o n i"] {
             let (image, new) = (image(), PathBuf::from("n"));
@@ -362,6 +394,29 @@ mod tests {
             (
                 "dump i -o n",
                 "`-o` is no option here; for a file of that name write `./-o`",
+            ),
+            ("dump --packets a b c d", "no image is named"),
+            ("dump i --packets a b c d e", "`e` is one name too many"),
+            ("dump i --packets", "--packets needs 4 names behind it"),
+            (
+                "dump i --packets a b c",
+                "--packets needs 4 names behind it",
+            ),
+            (
+                "dump i --packets a b --json c d",
+                "--packets needs 4 names behind it, not `--json`; for a file of that name write `./--json`",
+            ),
+            (
+                "dump i --packets a b c d --packets a b c d",
+                "--packets is there twice",
+            ),
+            (
+                "dump i --packets=a b c d",
+                "`--packets=a` is no option here; write `--packets a`",
+            ),
+            (
+                "explain i --packets a b c d",
+                "`--packets` is no option here; for a file of that name write `./--packets`",
             ),
             ("repair i", "repair needs -o NEW"),
             ("repair -o n", "no image is named"),

@@ -10,6 +10,7 @@ use ventorupo::HEADER_BYTES;
 use crate::args::Source;
 use crate::layout::Shape;
 use crate::trouble::Trouble;
+use crate::view::counted;
 
 /// The most bytes of a text of a header in hexadecimal: sixteen for each of its
 /// bytes are more than any spelling needs.
@@ -60,6 +61,18 @@ pub fn read_input() -> Result<Vec<u8>, Trouble> {
         _ => return Ok(bytes),
     };
     Err(Trouble::with(input, what))
+}
+
+/// Read the packet memory of a port, which has so many bytes; of a file that has not,
+/// nothing is read.
+pub fn read_packets(path: &Path, port: usize, bytes: usize) -> Result<Vec<u8>, Trouble> {
+    let (file, about) = open(path, "a packet memory")?;
+    if about.len() != bytes as u64 {
+        let there = counted(about.len(), "byte");
+        let what = format!("has {there}, and port {port}'s packet memory {bytes}");
+        return Err(Trouble::with(path, what));
+    }
+    start(file, path, bytes)
 }
 
 /// A stream of fields, of which nothing is read yet.

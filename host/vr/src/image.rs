@@ -181,6 +181,11 @@ impl<'m> Image<'m> {
         }
     }
 
+    /// The length that is recorded for a node.
+    pub fn length(&self, entry: Entry) -> Option<u32> {
+        self.get(Length, self.slot(entry)?)
+    }
+
     /// A credit of a port and a queue above 0.
     pub fn credit(&self, table: Table, port: usize, queue: usize) -> Option<u32> {
         let cell = port * (self.shape.queues.saturating_sub(1)) + queue.checked_sub(1)?;

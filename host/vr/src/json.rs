@@ -4,6 +4,7 @@ use ventorupo::{Form, Header};
 
 use crate::buckets::Waits;
 use crate::header::{told, Shown};
+use crate::hex;
 use crate::image::{Entry, Image, Kind};
 use crate::layout::{Table, IDS, ROWS};
 use crate::lists::Walk;
@@ -19,7 +20,7 @@ pub fn json(view: &View) -> String {
     let buckets = buckets
         .iter()
         .map(|waits| row(waits.counts.iter().copied().map(number)));
-    let walks = view.lists.walks.iter().map(|walk| list(image, walk));
+    let walks = view.lists.walks.iter().map(|walk| list(view, walk));
     let nowhere = view.lists.nowhere(image);
     let needed = image.needed();
     let members = [
@@ -160,11 +161,11 @@ fn credits<'a>(image: &'a Image) -> impl Iterator<Item = String> + 'a {
     (0..image.shape.ports).flat_map(move |port| (1..queues).map(move |queue| cell(port, queue)))
 }
 
-fn list(image: &Image, walk: &Walk) -> String {
+fn list(view: &View, walk: &Walk) -> String {
     let list = walk.list;
     let free = list.kind == Kind::Free;
-    let nodes = walk.nodes.iter().map(|&entry| node(image, entry, free));
-    let wrong = walk.flaw.map(|flaw| flaw.words(image, list));
+    let nodes = walk.nodes.iter().map(|&entry| node(view, entry, free));
+    let wrong = walk.flaw.map(|flaw| flaw.words(&view.image, list));
     object(&[
         ("port", list.port.to_string()),
         ("kind", text(Some(list.kind.name().into()))),
@@ -180,15 +181,16 @@ fn list(image: &Image, walk: &Walk) -> String {
     ])
 }
 
-/// A node; of a free one nothing is recorded.
-fn node(image: &Image, entry: Entry, free: bool) -> String {
+/// A node; of a free one nothing is recorded. The first bytes of its packet are told
+/// where packet memories are given.
+fn node(view: &View, entry: Entry, free: bool) -> String {
     let id = ("entry_id", entry.0.to_string());
-    let slot = match image.slot(entry) {
+    let slot = match view.image.slot(entry) {
         Some(slot) if !free => slot,
         _ => return object(&[id]),
     };
-    let record = image.record(slot);
-    object(&[
+    let record = view.image.record(slot);
+    let mut members = vec![
         id,
         ("length", number(record.length)),
         ("queue", number(record.queue)),
@@ -197,7 +199,12 @@ fn node(image: &Image, entry: Entry, free: bool) -> String {
         ("poisoned", number(record.poisoned)),
         ("transaction_id", number(record.transaction)),
         ("price", number(record.price)),
-    ])
+    ];
+    members.extend(view.packets.as_ref().map(|memories| {
+        let bytes = memories.first_bytes(entry, record.length);
+        ("first_bytes", text(bytes.map(hex::text)))
+    }));
+    object(&members)
 }
 
 #[cfg(test)]

@@ -60,8 +60,8 @@ pub const ROWS: [Row; 8] = [
     },
 ];
 
-/// Ports and queues, with the rows that they have with ten-byte headers.
-const TEN_BYTES_ROWS: [Row; 2] = [
+/// Ports, queues and packets, with the rows that they have with ten-byte headers.
+const TEN_BYTES_ROWS: [Row; 3] = [
     Row {
         name: "ports",
         row: "4 in edition 0",
@@ -72,14 +72,18 @@ const TEN_BYTES_ROWS: [Row; 2] = [
         row: "24 in edition 0",
         has: |n| n == 24,
     },
+    Row {
+        name: "packets",
+        row: "0 or 1 in edition 0",
+        has: |n| n <= 1,
+    },
 ];
 
 /// The row of a setting in an edition.
 pub fn row(setting: usize, edition: u32) -> &'static Row {
-    match edition {
-        TEN_BYTES if setting < TEN_BYTES_ROWS.len() => &TEN_BYTES_ROWS[setting],
-        _ => &ROWS[setting],
-    }
+    let of_others = &ROWS[setting];
+    let own = TEN_BYTES_ROWS.iter().find(|row| row.name == of_others.name);
+    own.filter(|_| edition == TEN_BYTES).unwrap_or(of_others)
 }
 
 pub const PORTS: usize = 0;
@@ -89,6 +93,14 @@ pub const BEAT: usize = 3;
 pub const SLOTS: usize = 4;
 pub const CREDIT: usize = 5;
 pub const EDITION: usize = 6;
+pub const PACKETS: usize = 7;
+
+/// What the setting packets is of a state that keeps packets.
+pub const KEPT: u32 = 1;
+/// The ports of such a state, each of which has a packet memory.
+pub const MEMORIES: usize = 4;
+/// The bytes of a packet memory for each node.
+pub const SLOT_BYTES: usize = 8192;
 
 /// The marks that a port can have: none, or the refusal that halted it.
 pub const MARKS: [u32; 4] = [0, 7, 8, 18];
@@ -236,7 +248,7 @@ mod tests {
     use super::*;
 
     /// As rule (a) has them in docs/FINDINGS.md: `nodes (1 to 2,048)`. Behind
-    /// ports and queues the row of ten-byte headers is told too.
+    /// ports, queues and packets the row of ten-byte headers is told too.
     #[test]
     fn rows_are_the_published_ones() {
         let page = include_str!("../../../docs/FINDINGS.md");
@@ -262,10 +274,12 @@ mod tests {
         };
         assert_eq!(last(PORTS, TEN_BYTES), (Some(4), Some(4)));
         assert_eq!(last(QUEUES, TEN_BYTES), (Some(24), Some(24)));
+        assert_eq!(last(PACKETS, TEN_BYTES), (Some(0), Some(1)));
         // Also where the edition itself is none.
         for edition in [1, 2, 65_535] {
             assert_eq!(last(PORTS, edition), (Some(2), Some(32)));
             assert_eq!(last(QUEUES, edition), (Some(2), Some(64)));
+            assert_eq!(last(PACKETS, edition), (Some(0), Some(0)));
         }
         for edition in [0, 1] {
             assert_eq!(last(NODES, edition), (Some(1), Some(2048)));
@@ -273,8 +287,13 @@ mod tests {
             assert_eq!(last(SLOTS, edition), (Some(1), Some(8)));
             assert_eq!(last(CREDIT, edition), (Some(0), Some(65_535)));
             assert_eq!(last(EDITION, edition), (Some(0), Some(1)));
-            assert_eq!(last(EDITION + 1, edition), (Some(0), Some(0)));
         }
+    }
+
+    /// The library's number, which shares no code with this one.
+    #[test]
+    fn slots_are_the_librarys() {
+        assert_eq!(SLOT_BYTES, ventorupo::SLOT_BYTES);
     }
 
     /// The rows of the table of starts in docs/LAYOUT.md, as numbers.

@@ -17,6 +17,7 @@ pub mod json;
 pub mod layout;
 pub mod lists;
 mod mend;
+pub mod packets;
 mod progress;
 mod replay;
 mod stream;
@@ -34,6 +35,7 @@ use std::path::{Path, PathBuf};
 use args::Command;
 use files::Start;
 use image::Image;
+use packets::{Memories, Names};
 pub use trouble::Trouble;
 use view::View;
 use waits::Drawing;
@@ -74,7 +76,11 @@ pub fn answer(words: impl Iterator<Item = OsString>) -> Result<Answer, Trouble> 
         Command::Help(topic) => Ok(Answer::new(topic.text(), 0)),
         Command::Version => Ok(Answer::new(version(), 0)),
         Command::Explain { image } => Ok(explain(&view(&files::read(&image)?))),
-        Command::Dump { image, json } => Ok(dump(&view(&files::read(&image)?), json)),
+        Command::Dump {
+            image,
+            packets,
+            json,
+        } => dump(&image, packets.as_ref(), json),
         Command::Repair { image, new } => repair(&image, &new),
         Command::Waits { image, svg } => waits(&image, svg.as_deref()),
         Command::Replay(asked) => replay::replay(&asked),
@@ -103,13 +109,17 @@ pub fn explain(view: &View) -> Answer {
     Answer::new(text, view.status())
 }
 
-fn dump(view: &View, json: bool) -> Answer {
+fn dump(path: &Path, packets: Option<&Names>, json: bool) -> Result<Answer, Trouble> {
+    let start = files::read(path)?;
+    let mut view = view(&start);
+    let memories = packets.map(|names| Memories::read(&view.image, path, names));
+    view.packets = memories.transpose()?;
     let text = if json {
-        json::json(view)
+        json::json(&view)
     } else {
-        table::table(view)
+        table::table(&view)
     };
-    Answer::new(text, view.status())
+    Ok(Answer::new(text, view.status()))
 }
 
 fn repair(path: &Path, new: &Path) -> Result<Answer, Trouble> {

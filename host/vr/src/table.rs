@@ -1,9 +1,11 @@
 //! An image as a table that a person can read.
 
 use crate::buckets::{named_range, Packets, Waits};
+use crate::hex;
 use crate::image::{Entry, Image, Kind};
 use crate::layout::Table;
 use crate::lists::Walk;
+use crate::packets::{Memories, HEADER_BYTES};
 use crate::view::{counted, map_by_port, number, View};
 use crate::words::marked;
 
@@ -138,7 +140,7 @@ fn port_lists(view: &View, port: usize) -> String {
     for walk in &walks {
         // Of an empty list nothing is said, and of others what can be read.
         if walk.count != Some(0) && walk.head.is_some() {
-            text += &list(&view.image, walk);
+            text += &list(view, walk);
         }
     }
     text += &format!("  empty lists: {empty}\n");
@@ -163,7 +165,7 @@ fn waits(waits: &Waits) -> String {
     format!("  {}\n", lines.join("\n    "))
 }
 
-fn list(image: &Image, walk: &Walk) -> String {
+fn list(view: &View, walk: &Walk) -> String {
     let queue = walk
         .list
         .queue
@@ -177,12 +179,12 @@ fn list(image: &Image, walk: &Walk) -> String {
     );
     text += &match walk.list.kind {
         Kind::Free => entries("    ", &walk.nodes),
-        _ => packets(image, walk),
+        _ => packets(view, walk),
     };
     // Of one that is cut off, the heading has said so.
     let flaw = walk.flaw.filter(|_| walk.count.is_some());
     if let Some(flaw) = flaw {
-        let what = flaw.words(image, walk.list);
+        let what = flaw.words(&view.image, walk.list);
         let start = if flaw.stops() { "reading stops: " } else { "" };
         text += &format!("    {start}{what}\n");
     }
@@ -200,7 +202,7 @@ fn how_many(walk: &Walk) -> String {
 }
 
 /// A line for each packet, below a line of names.
-fn packets(image: &Image, walk: &Walk) -> String {
+fn packets(view: &View, walk: &Walk) -> String {
     let names = [
         "position",
         "entry id",
@@ -219,9 +221,35 @@ fn packets(image: &Image, walk: &Walk) -> String {
     }
     let mut rows = vec![names.map(String::from).to_vec()];
     for (position, &entry) in walk.nodes.iter().enumerate() {
-        rows.push(packet(image, position, entry));
+        rows.push(packet(&view.image, position, entry));
     }
-    columns("    ", &rows)
+    let rows = columns("    ", &rows);
+    match &view.packets {
+        Some(memories) => beside(&rows, &first_bytes(&view.image, memories, walk)),
+        None => rows,
+    }
+}
+
+/// Of each packet of a list its first bytes, below their name: the header, and apart
+/// from it some of the data.
+fn first_bytes(image: &Image, memories: &Memories, walk: &Walk) -> Vec<String> {
+    let digits = |bytes: &[u8]| {
+        let parts = bytes.chunks(HEADER_BYTES).map(hex::text);
+        parts.collect::<Vec<String>>().join(" ")
+    };
+    let of = |&entry: &Entry| {
+        let bytes = memories.first_bytes(entry, image.length(entry));
+        bytes.map_or_else(|| "-".into(), digits)
+    };
+    row("first bytes", walk.nodes.iter().map(of))
+}
+
+/// Lines with a word more at the end of each.
+fn beside(lines: &str, words: &[String]) -> String {
+    let pairs = lines.lines().zip(words);
+    pairs
+        .map(|(line, word)| format!("{line}  {word}\n"))
+        .collect()
 }
 
 fn packet(image: &Image, position: usize, entry: Entry) -> Vec<String> {

@@ -8,6 +8,7 @@ use crate::layout::{
     ROWS, SETTINGS_BYTES,
 };
 use crate::lists::Lists;
+use crate::packets::Memories;
 use crate::words;
 
 use ventorupo::{Finding, Rule};
@@ -18,6 +19,8 @@ pub struct View<'m> {
     pub there: u64,
     pub finding: Option<Finding>,
     pub lists: Lists,
+    /// The packet memories, if they are given.
+    pub packets: Option<Memories>,
 }
 
 impl<'m> View<'m> {
@@ -29,6 +32,7 @@ impl<'m> View<'m> {
             there,
             finding,
             lists: Lists::walk(&image),
+            packets: None,
         }
     }
 

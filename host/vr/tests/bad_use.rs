@@ -44,6 +44,32 @@ fn wrong_command_lines() {
             "dump one -o two",
             "`-o` is no option here; for a file of that name write `./-o`",
         ),
+        ("dump --packets a b c d", "no image is named"),
+        ("dump one --packets", "--packets needs 4 names behind it"),
+        (
+            "dump one --packets a b c",
+            "--packets needs 4 names behind it",
+        ),
+        (
+            "dump one --packets a b c --json",
+            "--packets needs 4 names behind it, not `--json`; for a file of that name write `./--json`",
+        ),
+        (
+            "dump one --packets a b c d two",
+            "`two` is one name too many",
+        ),
+        (
+            "dump one --packets a b c d --packets a b c d",
+            "--packets is there twice",
+        ),
+        (
+            "dump one --packets=a b c d",
+            "`--packets=a` is no option here; write `--packets a`",
+        ),
+        (
+            "explain one --packets a b c d",
+            "`--packets` is no option here; for a file of that name write `./--packets`",
+        ),
         ("repair", "no image is named"),
         ("repair -o new", "no image is named"),
         ("repair one", "repair needs -o NEW"),

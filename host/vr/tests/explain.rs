@@ -94,11 +94,19 @@ fn rule_a_settings() {
         (4, 0, "(a) setting slots: 0 is not in its row (1 to 8)"),
         (4, 9, "(a) setting slots: 9 is not in its row (1 to 8)"),
         (6, 2, "(a) setting edition: 2 is not in its row (0 or 1)"),
-        (7, 1, "(a) setting packets: 1 is not in its row (0)"),
+        (
+            7,
+            2,
+            "(a) setting packets: 2 is not in its row (0 or 1 in edition 0)",
+        ),
     ] {
         let bytes = changed(&[two(0, setting, number)]);
         says(&folder, &bytes, setting as u64, words);
     }
+    // With wide headers no packets are kept.
+    let bytes = changed(&[two(0, 6, 1), two(0, 7, 1)]);
+    let words = "(a) setting packets: 1 is not in its row (0)";
+    says(&folder, &bytes, 7, words);
     // An edition that is none has the wide rows.
     for (setting, number, words) in [
         (0, 33, "(a) setting ports: 33 is not in its row (2 to 32)"),
@@ -412,6 +420,8 @@ fn an_image_of_an_older_build() {
     let folder = Folder::new("explain-older");
     for (map, words) in [
         ([0; 4], "(a) the image is too short: it has 2092 bytes, a state of 4 ports, 24 queues and 2 nodes a port takes 6720"),
+        // Read as a setting it keeps packets.
+        ([0, 0, 0, 1], "(a) the image is too short: it has 2092 bytes, a state of 4 ports, 24 queues and 2 nodes a port takes 6720"),
         ([0, 1, 2, 3], "(a) setting packets: 515 is not in its row (0)"),
         ([3, 2, 1, 0], "(a) setting edition: 770 is not in its row (0 or 1)"),
     ] {

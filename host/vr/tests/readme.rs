@@ -3,6 +3,8 @@
 mod common;
 #[path = "common/images.rs"]
 mod images;
+#[path = "common/packets.rs"]
+mod packets;
 #[path = "common/streams.rs"]
 mod streams;
 
@@ -10,6 +12,7 @@ use std::process::Command;
 
 use common::{program, Folder, Said};
 use images::{at, bucket, changed};
+use packets::kept;
 use streams::whole_case;
 
 /// The commands of a session, each with what it must say.
@@ -73,12 +76,19 @@ fn the_session_is_as_written() {
 }
 
 #[test]
+fn the_session_of_packets_is_as_written() {
+    let folder = Folder::new("readme-packets");
+    kept().files(&folder);
+    is_as_written(1, 3, &folder);
+}
+
+#[test]
 fn the_session_of_waits_is_as_written() {
     let folder = Folder::new("readme-waits");
     let counts = [(0, 1), (1, 3), (2, 40), (5, 7)];
     let changes = counts.map(|(number, count)| bucket(1, number, count));
     folder.file("image", &changed(&changes));
-    is_as_written(1, 2, &folder);
+    is_as_written(2, 2, &folder);
 }
 
 #[test]
@@ -86,10 +96,10 @@ fn the_session_of_replays_is_as_written() {
     let folder = Folder::new("readme-replays");
     folder.file("stream", &whole_case());
     folder.file("more", &[&whole_case()[10..24], &[5]].concat());
-    is_as_written(2, 3, &folder);
+    is_as_written(3, 3, &folder);
 }
 
 #[test]
 fn the_session_of_headers_is_as_written() {
-    is_as_written(3, 7, &Folder::new("readme-headers"));
+    is_as_written(4, 7, &Folder::new("readme-headers"));
 }

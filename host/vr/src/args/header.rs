@@ -6,7 +6,7 @@ use std::path::PathBuf;
 
 use ventorupo::{Form, Header, TEN_BYTES, WIDE};
 
-use super::{bad, file_named, is_dashed, name_behind, no_option, quoted, twice, unknown};
+use super::{bad, file_named, is_dashed, name_behind, no_option, once, quoted, unknown};
 use super::{Command, Given, INPUT};
 use crate::hex::{self, NoBytes};
 use crate::trouble::Trouble;
@@ -115,10 +115,7 @@ impl Words {
             let (word, most) = (quoted(&word), u32::MAX);
             bad(format!("{needs}, 0 to {most}, not {word}"))
         })?;
-        match self.numbers.insert(option, number) {
-            Some(_) => Err(twice(option)),
-            None => Ok(()),
-        }
+        once(option, self.numbers.insert(option, number))
     }
 
     fn put_edition(&mut self, word: Option<OsString>) -> Result<(), Trouble> {
@@ -129,17 +126,11 @@ impl Words {
             Some("wide") => WIDE,
             _ => return Err(bad(format!("{needs}, not {}", quoted(&word)))),
         };
-        match self.edition.replace(edition) {
-            Some(_) => Err(twice("--edition")),
-            None => Ok(()),
-        }
+        once("--edition", self.edition.replace(edition))
     }
 
     fn put_new(&mut self, word: Option<OsString>) -> Result<(), Trouble> {
-        match self.new.replace(name_behind("-o", word)?) {
-            Some(_) => Err(twice("-o")),
-            None => Ok(()),
-        }
+        once("-o", self.new.replace(name_behind("-o", word)?))
     }
 
     /// Ten bytes if nothing else is said; wide where counts are named.

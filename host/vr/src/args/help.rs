@@ -24,7 +24,9 @@ const EXPLAIN: &str = "    \
 ";
 
 const DUMP: &str = "    \
-    vr dump IMAGE [--json]   shows settings, map, credits, halted ports, waits, every list with its packets
+    vr dump IMAGE [--packets P0 P1 P2 P3] [--json]
+                             shows settings, map, credits, halted ports, waits, every list with its packets;
+                             with --packets, the first bytes of each packet too
 ";
 
 const REPAIR: &str = "    \
@@ -65,6 +67,11 @@ IMAGE is a file of a state's bytes (docs/LAYOUT.md), and is never written. A nam
 written ./-name.
 ";
 
+const MEMORIES: &str = "\
+P0 to P3 are files of the packet memories of ports 0 to 3, of a state that keeps packets: 8192 bytes for
+each node of a port, and no other size. They are never written.
+";
+
 const REPAIRS: &str = "\
 A repair drops every packet, all outward credit and every port's mark and waits, also of a sound state;
 bytes of IMAGE past the state go to NEW as they are. It is refused where a setting is not in its row or the
@@ -81,9 +88,10 @@ at 4294967295 stands for as many or more.
 const STREAMS: &str = "\
 STREAM is a file of the bench program's fields, or - for standard input: tag (1 byte), length of the value
 (2), value. Tags: 1 setup, 2 arrive, 3 stitch, 4 prefetch, 5 turn, 6 credit, 7 map. It starts with a setup,
-or from IMAGE, of any edition, in which arrivals may have headers of its size. A setup further on sets up
-anew; before there is a state all else is refused 3. A bad field (another tag, a wrong length, cut off) ends
-the replay; what was done before it counts, and is shown and written.
+or from IMAGE, of any edition, in which arrivals may have headers of its size; one that keeps packets
+refuses all of them 24. A setup further on sets up anew; before there is a state all else is refused 3. A
+bad field (another tag, a wrong length, cut off) ends the replay; what was done before it counts, and is
+shown and written.
 ";
 
 const NEW: &str = "\
@@ -130,11 +138,11 @@ impl Topic {
             Topic::All => (
                 &[EXPLAIN, DUMP, REPAIR, WAITS, REPLAY, MAKE, SHOW, OTHERS],
                 &[
-                    IMAGES, REPAIRS, DRAWN, STREAMS, NEW, HEADERS, FORMS, NUMBERS,
+                    IMAGES, MEMORIES, REPAIRS, DRAWN, STREAMS, NEW, HEADERS, FORMS, NUMBERS,
                 ],
             ),
             Topic::Explain => (&[EXPLAIN], &[IMAGES]),
-            Topic::Dump => (&[DUMP], &[IMAGES]),
+            Topic::Dump => (&[DUMP], &[IMAGES, MEMORIES]),
             Topic::Repair => (&[REPAIR], &[IMAGES, REPAIRS, NEW]),
             Topic::Waits => (&[WAITS], &[IMAGES, DRAWN, NEW]),
             Topic::Replay => (&[REPLAY], &[IMAGES, STREAMS, NEW]),
@@ -177,6 +185,7 @@ mod tests {
     fn words_in_capitals_are_explained() {
         let topics = [
             (Topic::Explain, &["IMAGE"][..]),
+            (Topic::Dump, &["IMAGE", "P0"]),
             (Topic::Repair, &["IMAGE", "NEW"]),
             (Topic::Waits, &["IMAGE", "NEW"]),
             (Topic::Replay, &["IMAGE", "STREAM", "NEW"]),
@@ -186,7 +195,7 @@ mod tests {
         ];
         for (topic, names) in topics {
             let text = topic.text();
-            for name in ["IMAGE", "STREAM", "NEW", "HEADER", "FORM"] {
+            for name in ["IMAGE", "P0", "STREAM", "NEW", "HEADER", "FORM"] {
                 let explained = text.contains(&format!("\n{name} "));
                 assert_eq!(explained, names.contains(&name), "{name}: {text}");
             }

@@ -3,7 +3,7 @@
 use std::ffi::{OsStr, OsString};
 use std::path::PathBuf;
 
-use super::{bad, is_dashed, name_behind, name_joined, no_option, quoted, twice, unknown};
+use super::{bad, is_dashed, name_behind, name_joined, no_option, once, quoted, unknown};
 use super::{Command, Replay, Source, INPUT};
 use crate::trouble::Trouble;
 
@@ -47,10 +47,7 @@ pub fn command(words: Vec<OsString>) -> Result<Command, Trouble> {
 }
 
 fn put(name: &mut Option<PathBuf>, option: &str, word: Option<OsString>) -> Result<(), Trouble> {
-    match name.replace(name_behind(option, word)?) {
-        Some(_) => Err(twice(option)),
-        None => Ok(()),
-    }
+    once(option, name.replace(name_behind(option, word)?))
 }
 
 impl Words {
