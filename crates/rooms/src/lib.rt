@@ -139,7 +139,7 @@ pub fn put_part(answer: Shown, owner: &mut u32, at: &mut u64, length: &mut u32) 
     match answer {
         Shown::Part(id, n) => {
             *owner = id.port() as u32;
-            *at = id.index() as u64 * 8192;
+            *at = packets::slot_of(id) as u64;
             *length = n as u32;
             0
         }

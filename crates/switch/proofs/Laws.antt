@@ -2,10 +2,10 @@
 use mathlib.Core.Path.{_≡_, refl, sym, ap, _∙_}
 use mathlib.Core.Bool.{true, false}
 use mathlib.Core.List.{List, [], _∷_}
-use Prim.Native.Nat.{ℕ, zero, suc, _+_, _≤_, _<_}
+use Prim.Native.Nat.{ℕ, _+_, _<_}
 use native.Mathlib.Omega.{arith}
 use lib.ListN.{length}
-use Rattle.ledger.specs.Settings.{Settings, inRows, packetRoom}
+use Rattle.ledger.specs.Settings.{Settings, inRows}
 use Rattle.ledger.specs.Header.{whole}
 use Rattle.ledger.specs.Ledger.{owner, isNode}
 use Rattle.ledger.specs.Calls.{Act, Reply, refused, entry, part, arrive, show, whereIs}
@@ -15,7 +15,7 @@ use Rattle.ledger.proofs.Tests.{ltb-not}
 use Rattle.ledger.proofs.Rows.{roomy}
 use Rattle.layout.specs.declared.Shape.{Shape}
 use Rattle.layout.specs.Tables.{settingsOf}
-use Rattle.layout.specs.Picture.{settingsIn, State}
+use Rattle.layout.specs.Picture.{State}
 use Rattle.memory.specs.Memory.{acted, M}
 use Rattle.memory.specs.Packets.{packetOn}
 use Rattle.memory.specs.Rounds.{rounded, roundOn}
@@ -29,7 +29,7 @@ use Rattle.memory.proofs.Demands as demands
 use Rattle.memory.proofs.Rounds.{round-on, round-off}
 use Rattle.memory.proofs.Runs.{run-on, run-off}
 use Rattle.memory.proofs.Audit.{audit-on, audit-off}
-use Rattle.packets.specs.Parts.{among}
+use Rattle.packets.specs.Parts.{Within}
 use Rattle.sound.specs.declared.Tested.the-variants as tests
 use Rattle.sound.specs.Sound.{testedIn}
 use Rattle.sound.proofs.Means.{tested-state, tested-none}
@@ -66,21 +66,17 @@ module _ (m k b : List ℕ) (p : ℕ) {m′ : List ℕ} where
   unfolding packetOn
   packet-refused n e = ap (λ (out : Reply × List ℕ). (out .0, out .1, keptIn (out .0) b k)) e
 
--- what holds of each of the four memories holds of a port's
-among-all : {A : Type 0} (P : A → Type 0) (i : ℕ) (a b c d : A) → P a → P b → P c → P d → P (among i a b c d)
-among-all P zero a b c d x y z w = x
-among-all P (suc zero) a b c d x y z w = y
-among-all P (suc (suc zero)) a b c d x y z w = z
-among-all P (suc (suc (suc i))) a b c d x y z w = w
-
--- a packet that is shown lies within its owner's memory
+-- a packet that is shown lies within each of the four memories
 pub shown-within : (m p0 p1 p2 p3 : List ℕ) (p q x n : ℕ) → part x n ≡ M (act (show (length p0 ∷ length p1 ∷ length p2 ∷ length p3 ∷ []) p q)) m .0
-    → slotAt x + n ≤ length (among (owner x) p0 p1 p2 p3)
+    → Within (slotAt x + n) p0 p1 p2 p3
 shown-within m p0 p1 p2 p3 p q x n e =
     let w = memory-part-within m (length p0 ∷ length p1 ∷ length p2 ∷ length p3 ∷ []) p q x n (sym e) in
     let r = w .rooms in
-    let long = among-all (λ (k : List ℕ). length k ≡ packetRoom (settingsIn m)) (owner x) p0 p1 p2 p3 (r .0) (r .1 .0) (r .1 .1 .0) (r .1 .1 .1 .0) in
-    omega (arith, w .fits)
+    let a = r .0 in
+    let b = r .1 .0 in
+    let c = r .1 .1 .0 in
+    let d = r .1 .1 .1 .0 in
+    (omega (arith, w .fits), omega (arith, w .fits), omega (arith, w .fits), omega (arith, w .fits))
 
 -- so is the run
 module _ (m fields room : List ℕ) where

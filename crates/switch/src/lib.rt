@@ -113,7 +113,9 @@ pub fn show<'a>(
     match shown {
         Shown::Part(id, n) => {
             *no = 0;
-            packets::part(p0, p1, p2, p3, id, n as usize)
+            let owner = id.port() as u32;
+            let at = packets::slot_of(id);
+            packets::part(p0, p1, p2, p3, owner, at, n as usize)
         }
         Shown::No(r) => {
             *no = r.number() as u32;
