@@ -4,7 +4,7 @@ use mathlib.Core.Path.{refl}
 use mathlib.Core.List.{_++_}
 use lib.Count.{ones, leadingZeros}
 use Rattle.numbers.specs.Bytes.{number, store}
-use Rattle.ledger.specs.Settings.{isBeat, portsIn, queuesIn, inRows, firstOut, row, size}
+use Rattle.ledger.specs.Settings.{isBeat, portsIn, queuesIn, packetsIn, inRows, firstOut, row, size}
 use Rattle.ledger.specs.Header.{widthOf, formOf, frontBits, frontBytes, bodySize, headerSize, leastLength, price}
 use Rattle.ledger.specs.Ledger.{isNode, place#, cell, creditAt, setCredit}
 use Rattle.ledger.specs.Sound.{All}
@@ -25,19 +25,19 @@ use Rattle.finding_cards.specs.Cards.{Holds, tables, packets, marks-buck
 use Rattle.finding_cards.proofs.Skips.{Quick, quick-hold}
 
 tables-quick : All Quick tables
-unfolding ones number store isBeat portsIn queuesIn inRows firstOut row size isNode place# startOf get put settingsIn slot chain nodesOf
+unfolding ones number store isBeat portsIn queuesIn packetsIn inRows firstOut row size isNode place# startOf get put settingsIn slot chain nodesOf
     fill allLinked written image firstFrom outAt prefetchAt fitsAt isNew mark allNew markAll ends right unmarked scan onceFound
 tables-quick = ((refl, refl, refl), ((refl, refl, refl), ((refl, refl, refl), ((refl, refl, refl), ((refl, refl, refl), ((refl, refl, refl), tt))))))
 
 packets-quick : All Quick packets
-unfolding ones leadingZeros number store isBeat portsIn queuesIn inRows row size widthOf formOf frontBits frontBytes bodySize headerSize leastLength price
+unfolding ones leadingZeros number store isBeat portsIn queuesIn packetsIn inRows row size widthOf formOf frontBits frontBytes bodySize headerSize leastLength price
     isNode place# cell creditAt setCredit startOf get put settingsIn slot chain nodesOf packetAt fill allLinked written image firstFrom
     prefetchAt fitsAt isNew mark allNew markAll ends right unmarked scan onceFound rangeTest fieldsTest properTest ruleTest firstBad fitsFrom
     fitsFound addPrice addNode addAll addList addFrom sumsOf settledAt dueFound nodesBroken halting isMark marksFound
 packets-quick = ((refl, refl, refl), ((refl, refl, refl), ((refl, refl, refl), ((refl, refl, refl), ((refl, refl, refl), tt)))))
 
 marks-buckets-quick : All Quick marks-buckets
-unfolding ones leadingZeros number store isBeat portsIn queuesIn inRows row size widthOf formOf frontBits frontBytes bodySize headerSize leastLength price
+unfolding ones leadingZeros number store isBeat portsIn queuesIn packetsIn inRows row size widthOf formOf frontBits frontBytes bodySize headerSize leastLength price
     isNode place# cell creditAt setCredit startOf get put settingsIn slot chain nodesOf packetAt fill allLinked written image firstFrom
     prefetchAt fitsAt isNew mark allNew markAll ends right unmarked scan onceFound rangeTest fieldsTest properTest ruleTest firstBad fitsFrom
     fitsFound addPrice addNode addAll addList addFrom sumsOf settledAt dueFound nodesBroken halting isMark marksFound

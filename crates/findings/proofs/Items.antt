@@ -1,6 +1,6 @@
 -- What is found of a rule is its first item, in the words of the definition; and a rule has one first item. Assumes nothing.
 use mathlib.Core.Path.{_≡_, refl, sym, ap, subst, _∙_}
-use mathlib.Core.Logic.{_↔_}
+use mathlib.Core.Logic.{_↔_, _⊎_, inl, inr}
 use mathlib.Core.Bool.{Bool, true, false, cond}
 use mathlib.Core.List.{List, [], _∷_, _++_, map, map-append}
 use Prim.Native.Nat.{ℕ, zero, suc, _+_, _-_, _*_, _≤_, _<_}
@@ -43,18 +43,18 @@ use Rattle.findings.specs.Findings.{SettingRight, RangeRight, ListRight,
 
 -- ---- (a)
 
--- setting i is the number in bytes 2 * i and 2 * i + 1: whether it is in its row, these tell, and for ports and queues the edition
+-- setting i is the number in bytes 2 * i and 2 * i + 1: whether it is in its row, these tell, and for ports, queues and packets the edition
 pub setting-by-its-bytes : (m m′ : List ℕ) (i : ℕ) → i < settingCount → number 2 m (2 * i) ≡ number 2 m′ (2 * i)
-    → (i < 2 → number 2 m 12 ≡ number 2 m′ 12) → inRow (settingsIn m) i ≡ inRow (settingsIn m′) i
+    → ((i < 2) ⊎ (i ≡ 7) → number 2 m 12 ≡ number 2 m′ 12) → inRow (settingsIn m) i ≡ inRow (settingsIn m′) i
 unfolding settingsIn
-setting-by-its-bytes m m′ zero h e by = rw (e, by (omega arith))
-setting-by-its-bytes m m′ (suc zero) h e by = rw (e, by (omega arith))
+setting-by-its-bytes m m′ zero h e by = rw (e, by (inl (omega arith)))
+setting-by-its-bytes m m′ (suc zero) h e by = rw (e, by (inl (omega arith)))
 setting-by-its-bytes m m′ (suc (suc zero)) h e by = rw e
 setting-by-its-bytes m m′ (suc (suc (suc zero))) h e by = rw e
 setting-by-its-bytes m m′ (suc (suc (suc (suc zero)))) h e by = rw e
 setting-by-its-bytes m m′ (suc (suc (suc (suc (suc zero))))) h e by = rw e
 setting-by-its-bytes m m′ (suc (suc (suc (suc (suc (suc zero)))))) h e by = rw e
-setting-by-its-bytes m m′ (suc (suc (suc (suc (suc (suc (suc zero))))))) h e by = rw e
+setting-by-its-bytes m m′ (suc (suc (suc (suc (suc (suc (suc zero))))))) h e by = rw (e, by (inr refl))
 setting-by-its-bytes m m′ (suc (suc (suc (suc (suc (suc (suc (suc i)))))))) h e by = absurd (omega arith)
 
 size-most : (S : Settings) → 2 * settingCount ≤ size S

@@ -119,7 +119,8 @@ show-at-one κs a r r₂ left left₂ p q = (show-inj r r₂ (p ∙ sym q), refl
 pub show-one : (κs : Lfts (show.ended .signature .lifetimes)) (a : Args (show.ended .signature) κs) (r r₂ : Res (show.ended .signature) κs)
     (left left₂ : Lasts show.ended κs a) → show.Reads.Learnt κs a r (atExit show.ended κs a left) → show.Reads.Learnt κs a r₂ (atExit show.ended κs a left₂)
     → (_≡_ {A = List ℕ × (ℕ × ℕ)} (now r, r .ptr) (now r₂, r₂ .ptr)) × (left ≡ left₂)
-show-one κs a r r₂ left left₂ p q = (p .1 ∙ sym (q .1), ?)
+show-one κs a r r₂ left left₂ p q =
+    (p .1 ∙ sym (q .1), ap (λ (n : ℕ). (tt, (tt, (tt, (tt, (tt, (tt, (tt, (n, tt))))))))) (p .0 ∙ sym (q .0)))
 
 pub audit-one : OneOutcome audit.ended audit.Reads.Learnt
 audit-one κs a r r₂ left left₂ p q = let t = parted {C = Unit {0} × (List ℕ × Unit {0})} (λ x. (tt, (x, tt))) p q in (plain-inj r r₂ (t .0), t .1)
