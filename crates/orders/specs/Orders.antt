@@ -2,7 +2,7 @@
 use mathlib.Core.List.{List}
 use Prim.Native.Nat.{ℕ}
 use Rattle.numbers.specs.Bytes.{number}
-use Rattle.ledger.specs.Calls.{Reply, refused, done, entry, stitched, idle, leaves, word, found, reported, counted}
+use Rattle.ledger.specs.Calls.{Reply, refused, done, entry, stitched, idle, leaves, word, found, reported, counted, part}
 use Rattle.orders.specs.declared.Said.{Said}
 use Rattle.orders.specs.declared.Said.the-variants.{Done, Node, Idle, No}
 
