@@ -1,25 +1,31 @@
 -- What the judge of a show comes to, and what is shown once it lets the call go, with no code. Assumes nothing.
 use mathlib.Core.Path.{_≡_, refl, sym, ap, _∙_}
 use mathlib.Core.Bool.{Bool, true, false, not, _||_}
-use mathlib.Core.List.{List}
-use Prim.Native.Nat.{ℕ, _≤_, _<_}
+use mathlib.Core.List.{List, [], _∷_}
+use Prim.Native.Nat.{ℕ, _+_, _≤_, _<_}
 use native.Mathlib.Omega.{arith}
+use lib.ListN.{length}
 use Rattle.ledger.specs.Settings.{Settings, keepsPackets}
 use Rattle.ledger.specs.Ledger.{isNode, Packet, prefetched, place#, Ledger, Place·In}
 use Rattle.ledger.specs.Calls.{Reply, part, show, otherSizes}
 use Rattle.ledger.proofs.Tests.{leb-is, leb-not, leb-no}
 use Rattle.ledger.proofs.Places.{place#-lt}
 use Rattle.ledger.proofs.Rows.{roomy}
+use Rattle.ledger.specs.Packets.{slotAt}
+use Rattle.layout.specs.declared.Shape.{Shape}
 use Rattle.layout.specs.declared.Table.the-variants.{Count}
-use Rattle.layout.specs.Tables.{lists, get}
+use Rattle.layout.specs.Tables.{lists, get, settingsOf}
 use Rattle.layout.specs.Picture.{packetAt, ledgerIn, StateOf}
 use Rattle.memory.specs.Writes.{headOf}
-use Rattle.memory.specs.Judged.{good, bad, judged}
+use Rattle.memory.specs.Judged.{good, bad, judged, Works}
 use Rattle.memory.specs.Memory.{acted}
 use Rattle.memory.proofs.Chains.{head-is-node, state-tidy}
 use Rattle.memory.proofs.Paint.{empty-is, some-is, counted-some}
 use Rattle.memory.proofs.Square.{first-held}
 use Rattle.memory.proofs.Judged.{judged-clear, acted-good}
+use Rattle.memory.proofs.Demands.{on-works}
+use Rattle.memory.proofs.Packets.{memory-part-within}
+use Rattle.packets.specs.Parts.{Within}
 use Rattle.shows.specs.Shows.{judgedPlace}
 
 -- the last of several tests
@@ -93,3 +99,18 @@ shown S m s ns p q e =
           ∙ ap (λ (k : Packet). part (k .node) (k .len)) first
           ∙ (unfold packetAt in refl);
     }
+
+-- a packet that is shown lies within each of the four memories
+pub shown-within : (s : Shape) (m : List ℕ) → Works s m → (p0 p1 p2 p3 : List ℕ) (p q x n : ℕ)
+    → part x n ≡ acted (settingsOf s) m (show (length p0 ∷ length p1 ∷ length p2 ∷ length p3 ∷ []) p q) .0
+    → Within (slotAt x + n) p0 p1 p2 p3
+shown-within s m w p0 p1 p2 p3 p q x n e =
+    let ns : List ℕ = length p0 ∷ length p1 ∷ length p2 ∷ length p3 ∷ [] in
+    let is = e ∙ ap (λ (out : Reply × List ℕ). out .0) (on-works s m w (show ns p q)) in
+    let k = memory-part-within m ns p q x n (sym is) in
+    let r = k .rooms in
+    let a = r .0 in
+    let b = r .1 .0 in
+    let c = r .1 .1 .0 in
+    let d = r .1 .1 .1 .0 in
+    (omega (arith, k .fits), omega (arith, k .fits), omega (arith, k .fits), omega (arith, k .fits))

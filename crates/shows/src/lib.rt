@@ -1,16 +1,19 @@
-// Show, on a memory that is a switch state: which packet is the oldest of a queue's slots, by its node and its recorded length.
+// Show, on a memory that is a switch state: which packet is the oldest of a queue's slots, and where it lies.
 use layout::Shape;
 use ledger::Refusal;
 use ledger::Shown;
 use ledger::Verdict;
 ghost use mathlib.Core.Path.{_≡_};
-ghost use mathlib.Core.List.{[], _∷_};
-ghost use Rattle.ledger.specs.Answers.{showReply};
+ghost use mathlib.Core.List.{List, [], _∷_};
+ghost use Prim.Native.Nat.{ℕ};
+ghost use lib.ListN.{length};
+ghost use Rattle.ledger.specs.Answers.{numberIn, showReply};
 ghost use Rattle.ledger.specs.Calls.{show, otherSizes};
 ghost use Rattle.layout.specs.Tables.{settingsOf, Laid};
 ghost use Rattle.layout.specs.Picture.{ledgerIn};
 ghost use Rattle.memory.specs.Judged.{Works, judgementOf, judged};
 ghost use Rattle.memory.specs.Memory.{acted};
+ghost use Rattle.packets.specs.Parts.{shownOf};
 ghost use Rattle.shows.specs.Shows.{judgedPlace};
 
 // Whether one of four memories has another size than a port's packet memory.
@@ -75,8 +78,8 @@ pub fn judge_show(
     judge_place(m, s, port, queue)
 }
 
-// The oldest packet of the slots of port and queue.
-pub fn show(
+// The oldest packet of the slots of port and queue, by its node and its length.
+pub fn show_at(
     m: &[u8],
     s: Shape,
     n0: usize,
@@ -100,6 +103,41 @@ pub fn show(
             );
             let k = records::packet(m, s, oldest);
             Shown::Part(oldest, k.length)
+        }
+    }
+}
+
+// The same as a part of its owner's memory; of a refusal an empty part, and its number goes into the number lent for it, else 0.
+pub fn show<'a>(
+    m: &[u8],
+    s: Shape,
+    p0: &'a [u8],
+    p1: &'a [u8],
+    p2: &'a [u8],
+    p3: &'a [u8],
+    port: u32,
+    queue: u32,
+    no: &mut u32,
+) -> &'a [u8]
+    requires { ⌜ Works s (now m) ⌝ }
+    ensures { λ r. ⌜ now (no .exit) ≡ numberIn (acted (settingsOf s) (now (m .entry))
+        (show (length (now (p0 .entry)) ∷ length (now (p1 .entry)) ∷ length (now (p2 .entry)) ∷ length (now (p3 .entry)) ∷ []) port queue) .0) ⌝ }
+    ensures { λ r. ⌜ _≡_ {A = List ℕ × (ℕ × ℕ)} (now r, r .ptr)
+        (shownOf (acted (settingsOf s) (now (m .entry))
+        (show (length (now (p0 .entry)) ∷ length (now (p1 .entry)) ∷ length (now (p2 .entry)) ∷ length (now (p3 .entry)) ∷ []) port queue) .0)
+        (p0 .entry) (p1 .entry) (p2 .entry) (p3 .entry)) ⌝ }
+{
+    let shown = show_at(m, s, p0.len(), p1.len(), p2.len(), p3.len(), port, queue);
+    match shown {
+        Shown::Part(id, n) => {
+            *no = 0;
+            let owner = id.port() as u32;
+            let at = packets::slot_of(id);
+            packets::part(p0, p1, p2, p3, owner, at, n as usize)
+        }
+        Shown::No(r) => {
+            *no = r.number() as u32;
+            &p0[..0]
         }
     }
 }

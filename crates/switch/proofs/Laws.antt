@@ -1,14 +1,14 @@
 -- The test for a state decides between an act and refusal 3. Assumes nothing.
 use mathlib.Core.Path.{_≡_, refl, sym, ap, _∙_}
 use mathlib.Core.Bool.{true, false}
-use mathlib.Core.List.{List, [], _∷_}
-use Prim.Native.Nat.{ℕ, _+_, _<_}
+use mathlib.Core.List.{List}
+use Prim.Native.Nat.{ℕ, _<_}
 use native.Mathlib.Omega.{arith}
 use lib.ListN.{length}
 use Rattle.ledger.specs.Settings.{Settings, inRows}
 use Rattle.ledger.specs.Header.{whole}
 use Rattle.ledger.specs.Ledger.{owner, isNode}
-use Rattle.ledger.specs.Calls.{Act, Reply, refused, entry, part, arrive, show, whereIs}
+use Rattle.ledger.specs.Calls.{Act, Reply, refused, entry, arrive, whereIs}
 use Rattle.ledger.specs.Desk.{act}
 use Rattle.ledger.specs.Packets.{slotAt, stored, keptIn}
 use Rattle.ledger.proofs.Tests.{ltb-not}
@@ -23,13 +23,11 @@ use Rattle.memory.specs.Runs.{refusedRun, ran, runOn}
 use Rattle.memory.specs.Audit.{audited, auditOn}
 use Rattle.memory.specs.Judged.{judged}
 use Rattle.memory.proofs.Judged.{acted-bad}
-use Rattle.memory.proofs.Packets.{memory-part-within}
 use Rattle.memory.proofs.Demands.{on-works}
 use Rattle.memory.proofs.Demands as demands
 use Rattle.memory.proofs.Rounds.{round-on, round-off}
 use Rattle.memory.proofs.Runs.{run-on, run-off}
 use Rattle.memory.proofs.Audit.{audit-on, audit-off}
-use Rattle.packets.specs.Parts.{Within}
 use Rattle.sound.specs.declared.Tested.the-variants as tests
 use Rattle.sound.specs.Sound.{testedIn}
 use Rattle.sound.proofs.Means.{tested-state, tested-none}
@@ -65,18 +63,6 @@ module _ (m k b : List ℕ) (p : ℕ) {m′ : List ℕ} where
   pub packet-refused : (n : ℕ) → (refused n, m′) ≡ M (act (arrive p (whole (length k) b))) m → (refused n, m′, k) ≡ packetOn m k p b
   unfolding packetOn
   packet-refused n e = ap (λ (out : Reply × List ℕ). (out .0, out .1, keptIn (out .0) b k)) e
-
--- a packet that is shown lies within each of the four memories
-pub shown-within : (m p0 p1 p2 p3 : List ℕ) (p q x n : ℕ) → part x n ≡ M (act (show (length p0 ∷ length p1 ∷ length p2 ∷ length p3 ∷ []) p q)) m .0
-    → Within (slotAt x + n) p0 p1 p2 p3
-shown-within m p0 p1 p2 p3 p q x n e =
-    let w = memory-part-within m (length p0 ∷ length p1 ∷ length p2 ∷ length p3 ∷ []) p q x n (sym e) in
-    let r = w .rooms in
-    let a = r .0 in
-    let b = r .1 .0 in
-    let c = r .1 .1 .0 in
-    let d = r .1 .1 .1 .0 in
-    (omega (arith, w .fits), omega (arith, w .fits), omega (arith, w .fits), omega (arith, w .fits))
 
 -- so is the run
 module _ (m fields room : List ℕ) where

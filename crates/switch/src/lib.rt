@@ -86,7 +86,7 @@ pub fn show_at(m: &[u8], n0: usize, n1: usize, n2: usize, n3: usize, port: u32, 
     ensures { λ r. ⌜ showReply r ≡ M (act (show (n0 ∷ n1 ∷ n2 ∷ n3 ∷ []) port queue)) (now (m .entry)) .0 ⌝ }
 {
     match sound::test(m) {
-        Tested::State(s) => shows::show(m, s, n0, n1, n2, n3, port, queue),
+        Tested::State(s) => shows::show_at(m, s, n0, n1, n2, n3, port, queue),
         Tested::NoState => Shown::No(Refusal::NoState),
     }
 }
@@ -109,16 +109,11 @@ pub fn show<'a>(
         (shownOf (M (act (show (length (now (p0 .entry)) ∷ length (now (p1 .entry)) ∷ length (now (p2 .entry)) ∷ length (now (p3 .entry)) ∷ []) port queue))
         (now (m .entry)) .0) (p0 .entry) (p1 .entry) (p2 .entry) (p3 .entry)) ⌝ }
 {
-    let shown = show_at(m, p0.len(), p1.len(), p2.len(), p3.len(), port, queue);
-    match shown {
-        Shown::Part(id, n) => {
-            *no = 0;
-            let owner = id.port() as u32;
-            let at = packets::slot_of(id);
-            packets::part(p0, p1, p2, p3, owner, at, n as usize)
-        }
-        Shown::No(r) => {
-            *no = r.number() as u32;
+    match sound::test(m) {
+        Tested::State(s) => shows::show(m, s, p0, p1, p2, p3, port, queue, no),
+        Tested::NoState => {
+            let none = Refusal::NoState;
+            *no = none.number() as u32;
             &p0[..0]
         }
     }

@@ -1,70 +1,62 @@
--- `shows::show` meets its contract: the judge decides, and where it lets the call go the oldest of the slots is read. Assumes nothing.
-use mathlib.Core.Path.{_≡_, refl, sym, ap, _∙_}
+-- `shows::show` meets its contract: the part is the owner's, at its node's slot; of a refusal it is empty. Assumes nothing.
+use mathlib.Core.Path.{_≡_, sym, ap, ap₂, _∙_}
 use mathlib.Core.List.{List, [], _∷_}
 use Prim.Native.Nat.{ℕ}
 use borrow.Author.Needs.{needs}
-use Rattle.ledger.specs.Ledger.{Packet, prefetched}
+use lib.ListN.{length}
 use Rattle.ledger.specs.Calls.{Reply, part, show}
-use Rattle.layout.specs.declared.Table.the-variants.{Head}
-use Rattle.layout.specs.Tables.{settingsOf, get}
-use Rattle.layout.specs.Picture.{packetAt}
-use Rattle.memory.specs.Judged.{judgementOf}
-use Rattle.memory.specs.Writes.{headOf}
-use Rattle.memory.proofs.Judged.{acted-bad}
-use Rattle.shows.proofs.Laws.{Shows, shown}
+use Rattle.ledger.specs.Answers.{numberIn, showReply}
+use Rattle.layout.specs.Tables.{settingsOf}
+use Rattle.memory.specs.Memory.{acted}
+use Rattle.packets.specs.Parts.{among, partOf, shownOf}
+use Rattle.shows.proofs.Laws.{shown-within}
 use Rattle.shows.proofs.show.Statement.{statement}
 use Rattle.shows.proofs.show.Tie as tie
 
--- the judge let it go
-abbrev start : tie.After-enum-told → tie.Start
-start c = c .before .before .before .before
+-- the moments, each from the next
+abbrev start : tie.After-show-at → tie.Start
+start c = c .before .before .before .before .before .before
 
-went : (c : tie.After-enum-told) → let a = start c .args in
-    Shows (settingsOf (a .s)) (a .m .now) (a .n0 ∷ a .n1 ∷ a .n2 ∷ a .n3 ∷ []) (a .port) (a .queue)
-went c =
-    let st = start c in
+abbrev asked : tie.After-shown → tie.After-show-at
+asked c = c .before .before
+
+-- what the call answers
+abbrev answer : tie.Start → Reply
+answer st =
     let a = st .args in
-    shown (settingsOf (a .s)) (a .m .now) (st .pre .state) (a .n0 ∷ a .n1 ∷ a .n2 ∷ a .n3 ∷ []) (a .port) (a .queue)
-    (sym (ap judgementOf (c .enum-told .given .1)) ∙ c .before .before .judge-show .ensures)
+    acted (settingsOf (a .s)) (a .m .now) (show (length (a .p0 .now) ∷ length (a .p1 .now) ∷ length (a .p2 .now) ∷ length (a .p3 .now) ∷ []) (a .port) (a .queue)) .0
 
--- the oldest node
-first-is : (c : tie.After-first) → let a = start (c .before .before) .args in
-    c .first .result .0 ≡ headOf (settingsOf (a .s)) (a .m .now) (prefetched (a .port) (a .queue))
-first-is c =
-    let a = start (c .before .before) .args in
-    c .first .ensures ∙ ap (get (settingsOf (a .s)) (a .m .now) Head) (c .before .prefetch-list .ensures)
+-- a packet is shown
+told : (c : tie.After-shown) → part (c .shown .given .0 .0 .0) (c .shown .given .0 .1 .0) ≡ answer (start (asked c))
+told c = ap showReply (sym (c .shown .given .1)) ∙ asked c .show-at .ensures
 
-prefetch-list-requires : tie.Need-prefetch-list-requires
-prefetch-list-requires c κs = record { laid = start c .pre .laid; port = went c .port; queue = went c .queue }
-
-first-requires : tie.Need-first-requires
-first-requires c κs =
-    let st = start (c .before) in
-    record { laid = st .pre .laid; long = st .pre .state .long; inside = rw (c .prefetch-list .ensures) (went (c .before) .inside) }
-
-packet-requires : tie.Need-packet-requires
-packet-requires c κs =
-    let t = c .before .before in
-    record { laid = start t .pre .laid; long = start t .pre .state .long; node = rw (first-is c) (went t .node) }
+part-requires : tie.Need-part-requires
+part-requires c κs =
+    let t = c .before .before .before in
+    let st = start (asked t) in
+    let a = st .args in
+    rw (c .slot-of .ensures)
+    (shown-within (a .s) (a .m .now) (st .pre) (a .p0 .now) (a .p1 .now) (a .p2 .now) (a .p3 .now) (a .port) (a .queue) _ _ (told t))
 
 returns : tie.Need-returns
 returns c =
-    let r = c .before in
-    let j = r .before .before in
-    let st = j .before .before in
-    let a = st .args in
-    sym (ap (λ (out : Reply × List ℕ). out .0)
-    (acted-bad (settingsOf (a .s)) (a .m .now) (show (a .n0 ∷ a .n1 ∷ a .n2 ∷ a .n3 ∷ []) (a .port) (a .queue)) refl
-    _ (sym (j .judge-show .ensures) ∙ ap judgementOf (r .verdict .given .1))))
+    let f = c .before in
+    let t = f .before .before .before in
+    let a = start (asked t) .args in (
+      ap numberIn (told t),
+      c .part .ensures
+          ∙ ap₂ (λ (o at : ℕ). partOf (among o (a .p0) (a .p1) (a .p2) (a .p3)) at (t .shown .given .0 .1 .0)) (f .before .port .ensures) (f .slot-of .ensures)
+          ∙ ap (λ (r : Reply). shownOf r (a .p0) (a .p1) (a .p2) (a .p3)) (told t),
+    )
 
 returns-2 : tie.Need-returns-2
 returns-2 c =
-    let f = c .before in
-    let a = start (f .before .before) .args in
-    let S = settingsOf (a .s) in
-    ap (λ (k : Packet). part (f .first .result .0) (k .len)) (c .packet .ensures)
-    ∙ ap (λ (x : ℕ). part x (packetAt S (a .m .now) x .len)) (first-is f)
-    ∙ sym (went (f .before .before) .outcome)
+    let n = c .before in
+    let t = n .before .before in
+    let j = t .before .before in
+    let a = start j .args in
+    let e = ap showReply (sym (t .shown2 .given .1)) ∙ j .show-at .ensures in
+    (n .number .ensures ∙ ap numberIn e, ap (λ (r : Reply). shownOf r (a .p0) (a .p1) (a .p2) (a .p3)) e)
 
 pub show-spec : {M : Type 1} → statement M
 show-spec =
@@ -72,9 +64,14 @@ show-spec =
     (tie.spec
     (λ c κs. search needs)
     (λ c. search needs)
+    (λ c κs. search needs)
     (λ c. search needs)
-    prefetch-list-requires
-    first-requires
-    packet-requires
+    (λ c κs. search needs)
+    (λ c. search needs)
+    part-requires
+    (λ c. search needs)
+    (λ c κs. search needs)
+    (λ c. search needs)
+    (λ c. search needs)
     returns
     returns-2)

@@ -1,59 +1,52 @@
--- `switch::show` meets its contract: the part is the owner's, at its node's slot; of a refusal it is empty. Assumes nothing.
-use mathlib.Core.Path.{_≡_, sym, ap, ap₂, _∙_}
+-- `switch::show` meets its contract: where the test says a state, the act on it is the call; else refusal 3, and an empty part.
+-- Assumes nothing.
+use mathlib.Core.Path.{_≡_, sym, ap, _∙_}
 use mathlib.Core.List.{List, [], _∷_}
 use Prim.Native.Nat.{ℕ}
 use borrow.Author.Needs.{needs}
 use lib.ListN.{length}
-use Rattle.ledger.specs.Calls.{Reply, part, show}
-use Rattle.ledger.specs.Answers.{numberIn, showReply}
-use Rattle.ledger.specs.Desk.{act}
-use Rattle.memory.specs.Memory.{M}
-use Rattle.packets.specs.Parts.{among, partOf, shownOf}
-use Rattle.switch.proofs.Laws.{shown-within}
+use Rattle.ledger.specs.Calls.{Act, Reply, show}
+use Rattle.ledger.specs.Answers.{numberIn}
+use Rattle.packets.specs.Parts.{shownOf}
+use Rattle.sound.proofs.Means.{tested-state}
+use Rattle.switch.proofs.Laws.{on-state, off-state}
 use Rattle.switch.proofs.show.Statement.{statement}
 use Rattle.switch.proofs.show.Tie as tie
 
 -- the moments, each from the next
-abbrev start : tie.After-show-at → tie.Start
+abbrev start : tie.After-test → tie.Start
 start c = c .before .before .before .before .before .before
 
-abbrev asked : tie.After-shown → tie.After-show-at
-asked c = c .before .before
+abbrev tested : tie.After-s → tie.After-test
+tested c = c .before .before
 
--- what the call answers
-abbrev answer : tie.Start → Reply
-answer st =
+-- the act
+abbrev asked : tie.Start → Act
+asked st =
     let a = st .args in
-    M (act (show (length (a .p0 .now) ∷ length (a .p1 .now) ∷ length (a .p2 .now) ∷ length (a .p3 .now) ∷ []) (a .port) (a .queue))) (a .m .now) .0
+    show (length (a .p0 .now) ∷ length (a .p1 .now) ∷ length (a .p2 .now) ∷ length (a .p3 .now) ∷ []) (a .port) (a .queue)
 
--- a packet is shown
-told : (c : tie.After-shown) → part (c .shown .given .0 .0 .0) (c .shown .given .0 .1 .0) ≡ answer (start (asked c))
-told c = ap showReply (sym (c .shown .given .1)) ∙ asked c .show-at .ensures
-
-part-requires : tie.Need-part-requires
-part-requires c κs =
-    let t = c .before .before .before in
-    let a = start (asked t) .args in
-    rw (c .slot-of .ensures) (shown-within (a .m .now) (a .p0 .now) (a .p1 .now) (a .p2 .now) (a .p3 .now) (a .port) (a .queue) _ _ (told t))
+show-requires : tie.Need-show-requires
+show-requires c κs =
+    let t = c .before .before in
+    tested-state (start (tested t) .args .m .now) _ (sym (tested t .test .ensures) ∙ t .s .given .1)
 
 returns : tie.Need-returns
 returns c =
-    let f = c .before in
-    let t = f .before .before .before in
-    let a = start (asked t) .args in (
-      ap numberIn (told t),
-      c .part .ensures
-          ∙ ap₂ (λ (o at : ℕ). partOf (among o (a .p0) (a .p1) (a .p2) (a .p3)) at (t .shown .given .0 .1 .0)) (f .before .port .ensures) (f .slot-of .ensures)
-          ∙ ap (λ (r : Reply). shownOf r (a .p0) (a .p1) (a .p2) (a .p3)) (told t),
-    )
+    let t = c .before .before .before in
+    let st = start (tested t) in
+    let a = st .args in
+    let e = ap (λ (out : Reply × List ℕ). out .0) (on-state _ (a .m .now) (sym (tested t .test .ensures) ∙ t .s .given .1) (asked st)) in
+    (c .show .ensures .0 ∙ ap numberIn e, c .show .ensures .1 ∙ ap (λ (r : Reply). shownOf r (a .p0) (a .p1) (a .p2) (a .p3)) e)
 
 returns-2 : tie.Need-returns-2
 returns-2 c =
     let n = c .before in
-    let t = n .before .before in
+    let t = n .before in
     let j = t .before .before in
-    let a = start j .args in
-    let e = ap showReply (sym (t .shown2 .given .1)) ∙ j .show-at .ensures in
+    let st = start j in
+    let a = st .args in
+    let e = ap (λ (out : Reply × List ℕ). out .0) (off-state (a .m .now) (sym (j .test .ensures) ∙ t .enum-told .given .1) (asked st)) in
     (n .number .ensures ∙ ap numberIn e, ap (λ (r : Reply). shownOf r (a .p0) (a .p1) (a .p2) (a .p3)) e)
 
 pub show-spec : {M : Type 1} → statement M
@@ -62,11 +55,7 @@ show-spec =
     (tie.spec
     (λ c κs. search needs)
     (λ c. search needs)
-    (λ c κs. search needs)
-    (λ c. search needs)
-    (λ c κs. search needs)
-    (λ c. search needs)
-    part-requires
+    show-requires
     (λ c. search needs)
     (λ c κs. search needs)
     (λ c. search needs)
