@@ -5,7 +5,7 @@ use std::fmt;
 use model::{Call, Reply, Shape, REFUSALS};
 use traffic::{Before, Halts};
 
-const NAMES: [&str; 16] = [
+const NAMES: [&str; 18] = [
     "setup",
     "arrive",
     "stitch",
@@ -22,13 +22,12 @@ const NAMES: [&str; 16] = [
     "timed turn",
     "idle timed turn",
     "bucket",
+    "whole packet",
+    "show",
 ];
 
-/// The refusals that these calls can be given: 21 is the writer's of headers,
-/// which is tried by itself.
-fn refusals() -> impl Iterator<Item = u8> {
-    REFUSALS.into_iter().filter(|&number| number != 21)
-}
+/// The kinds of calls that are done where packets are kept alone: the last two.
+const OF_PACKETS: usize = 2;
 
 /// Can an arrival at a switch of this shape be given it? A field that is full has
 /// no queue too many, and some headers have no reserved bits.
@@ -42,6 +41,8 @@ fn can_be(number: u8, shape: &Shape) -> bool {
 
 #[derive(Debug, Clone, Default, PartialEq, Eq)]
 pub struct Counts {
+    /// Of traffic in which packets are kept: then their answers must come too.
+    packets: bool,
     /// In the order of `NAMES`.
     accepted: [u64; NAMES.len()],
     /// By the refusal's number; the cells of other numbers stay 0.
@@ -50,9 +51,29 @@ pub struct Counts {
     highest_entry: u16,
     /// What was seen of halted ports.
     pub halts: Halts,
+    /// How often a packet was found in its slot, and where it was shown.
+    found: [u64; 2],
 }
 
 impl Counts {
+    /// Of traffic in which packets are kept.
+    pub fn with_packets() -> Counts {
+        Counts {
+            packets: true,
+            ..Counts::default()
+        }
+    }
+
+    /// The refusals that these calls can be given: 21 is the writer's of headers,
+    /// which is tried by itself, and two need packets that are kept.
+    fn refusals(&self) -> impl Iterator<Item = u8> + '_ {
+        REFUSALS.into_iter().filter(|number| match number {
+            21 => false,
+            16 | 17 => self.packets,
+            _ => true,
+        })
+    }
+
     /// A call, what stood before it at its port, and its answer.
     pub fn note(&mut self, before: Option<Before>, call: &Call, reply: &Reply) {
         self.halts.note(before, call, reply);
@@ -80,6 +101,8 @@ impl Counts {
             Call::TimedTurn { .. } if *reply == Reply::Idle => 14,
             Call::TimedTurn { .. } => 13,
             Call::Bucket { .. } => 15,
+            Call::ArrivePacket { .. } => 16,
+            Call::Show { .. } => 17,
         };
         self.accepted[kind] += 1;
     }
@@ -91,8 +114,21 @@ impl Counts {
         for (cell, more) in self.refused.iter_mut().zip(&other.refused) {
             *cell += more;
         }
+        self.note_found(other.found);
         self.highest_entry = self.highest_entry.max(other.highest_entry);
         self.halts.add(&other.halts);
+    }
+
+    /// Packets that were found in their slot, and where they are shown.
+    pub fn note_found(&mut self, found: [u64; 2]) {
+        for (cell, more) in self.found.iter_mut().zip(found) {
+            *cell += more;
+        }
+    }
+
+    /// How often a packet was found in its slot, and where it is shown.
+    pub fn found(&self) -> [u64; 2] {
+        self.found
     }
 
     pub fn refused(&self, number: usize) -> u64 {
@@ -114,7 +150,7 @@ impl Counts {
             1..=3 => least_1_to_3,
             _ => least_of_others,
         };
-        refusals()
+        self.refusals()
             .map(|number| (number, self.refused[number as usize]))
             .filter(|&(number, times)| times < least(number))
             .collect()
@@ -123,7 +159,7 @@ impl Counts {
     /// The refusals that came less often than they should, of calls on switches of
     /// one shape; and those that came though such a switch gives none.
     pub fn amiss(&self, shape: &Shape, least: u64) -> Vec<(u8, u64)> {
-        refusals()
+        self.refusals()
             .map(|number| (number, self.refused[number as usize]))
             .filter(|&(number, times)| match can_be(number, shape) {
                 true => times < least,
@@ -134,7 +170,11 @@ impl Counts {
 
     /// Was every kind of call accepted so often at least?
     pub fn each_call_at_least(&self, least: u64) -> bool {
-        self.accepted.iter().all(|&times| times >= least)
+        let kinds = match self.packets {
+            true => NAMES.len(),
+            false => NAMES.len() - OF_PACKETS,
+        };
+        self.accepted[..kinds].iter().all(|&times| times >= least)
     }
 }
 
@@ -145,9 +185,14 @@ impl fmt::Display for Counts {
             write!(f, " {name} {times},")?;
         }
         write!(f, "\nrefused:")?;
-        for number in refusals() {
+        for number in self.refusals() {
             write!(f, " [{number}] {}", self.refused[number as usize])?;
         }
+        let [kept, shown] = self.found;
+        write!(
+            f,
+            "\npackets found in their slot {kept}, where they are shown {shown}"
+        )?;
         write!(f, "\n{}", self.halts)
     }
 }

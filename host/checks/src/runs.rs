@@ -8,6 +8,7 @@ use traffic::{run_calls, run_field, tagged, Profile, Random, Traffic};
 use ventorupo::{calls, Switch};
 
 use crate::cut::cut_down;
+use crate::packets::Packets;
 use crate::run::Pair;
 use crate::scale::Scale;
 use crate::{library, reader, Desk};
@@ -110,7 +111,9 @@ pub fn answer(reply: &Reply) -> [u8; ANSWER] {
 pub fn one_by_one<D: Desk>(desk: &D, memory: &mut [u8], calls: &[Call]) -> Result<Vec<u8>, String> {
     let mut answers = Vec::with_capacity(ANSWER * calls.len());
     for call in calls {
-        answers.extend(answer(&desk(memory, call)?));
+        // No field is lent any.
+        let packets = &mut Packets::for_call(call);
+        answers.extend(answer(&desk.call(memory, packets, call)?));
     }
     Ok(answers)
 }

@@ -14,7 +14,7 @@ mod tests;
 pub use fields::{field, run_calls, run_field, stream, tagged};
 pub use halts::{Before, Halts};
 pub use headers::{header, plain, SHAPES};
-pub use packets::{packet_bytes, whole};
+pub use packets::{packet_bytes, whole, whole_of};
 pub use random::Random;
 
 use headers::{

@@ -32,6 +32,13 @@ fn told_length(header: &[u8]) -> usize {
     }
 }
 
+/// A packet of as many bytes as its header says; of no header, all that there is.
+pub fn whole_of(random: &mut Random, header: &[u8]) -> Vec<u8> {
+    // All of the header, also where its length says less.
+    let bytes = told_length(header).max(header.len().min(10));
+    whole(random, header, bytes)
+}
+
 impl Traffic {
     /// The same settings, but that mostly the switch keeps packets, if there is
     /// memory for them.
@@ -104,11 +111,9 @@ impl Traffic {
         if ledger.settings.packets == 0 {
             return Call::Arrive { port, header };
         }
-        // All of the header, also where its length says less.
-        let bytes = told_length(&header).max(header.len().min(10));
         Call::ArrivePacket {
             port,
-            packet: whole(&mut self.random, &header, bytes),
+            packet: whole_of(&mut self.random, &header),
             lent: self.right_size(ledger),
         }
     }

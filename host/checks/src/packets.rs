@@ -1,0 +1,171 @@
+//! The ports' packet memories, which are lent beside a state; and the packets that
+//! came in, to be found there again.
+
+use std::collections::BTreeMap;
+
+use model::{Call, Part, Reply, Stored, PACKET_MEMORIES, SLOT_BYTES};
+use traffic::{packet_bytes, Random};
+
+/// Bytes before and behind each memory, to see that nobody writes there; before it
+/// a few more or less, so that it starts at any address.
+const GUARD: usize = 64;
+
+/// Where a port's memory stands; of a port that there isn't, another's.
+fn place(port: u32) -> usize {
+    port as usize % PACKET_MEMORIES
+}
+
+/// Four packet memories, of which calls are lent the first bytes.
+pub struct Packets {
+    memories: [Guarded; PACKET_MEMORIES],
+}
+
+struct Guarded {
+    bytes: Vec<u8>,
+    /// As they were at first.
+    first: Vec<u8>,
+    start: usize,
+}
+
+impl Guarded {
+    fn new(random: &mut Random, lendable: usize) -> Guarded {
+        let start = GUARD + random.below(8) as usize;
+        let mut bytes = Vec::with_capacity(start + lendable + GUARD + 8);
+        while bytes.len() < start + lendable + GUARD {
+            bytes.extend(random.word().to_be_bytes());
+        }
+        Guarded {
+            first: bytes.clone(),
+            bytes,
+            start,
+        }
+    }
+
+    /// The first byte that is neither what was written there nor, where nothing was,
+    /// as at first, told.
+    fn difference<'s>(&self, written: impl Iterator<Item = (usize, &'s [u8])>) -> Option<String> {
+        let mut end = 0;
+        for (from, bytes) in written {
+            let from = self.start + from;
+            let told = self.differs(end, &self.first[end..from]);
+            if let Some(told) = told.or_else(|| self.differs(from, bytes)) {
+                return Some(told);
+            }
+            end = from + bytes.len();
+        }
+        self.differs(end, &self.first[end..])
+    }
+
+    /// The first of the bytes from one on that isn't as wanted, told.
+    fn differs(&self, from: usize, wanted: &[u8]) -> Option<String> {
+        let bytes = &self.bytes[from..from + wanted.len()];
+        if bytes == wanted {
+            return None;
+        }
+        let at = bytes.iter().zip(wanted).position(|(is, was)| is != was)?;
+        // Counted from where it is lent, so that those of the guard before it are below 0.
+        let place = (from + at) as isize - self.start as isize;
+        Some(format!("byte {place} is {}, not {}", bytes[at], wanted[at]))
+    }
+}
+
+impl Packets {
+    /// For so many nodes a port, and to lend too many; any bytes stand in them.
+    pub fn new(random: &mut Random, nodes: u32) -> Packets {
+        Packets::of_bytes(random, [packet_bytes(nodes); PACKET_MEMORIES])
+    }
+
+    /// Just what this call is lent.
+    pub fn for_call(call: &Call) -> Packets {
+        let mut lendable = [0; PACKET_MEMORIES];
+        match call {
+            Call::ArrivePacket { port, lent, .. } => lendable[place(*port)] = *lent,
+            Call::Show { lent, .. } => lendable = *lent,
+            _ => {}
+        }
+        Packets::of_bytes(&mut Random::new(1), lendable)
+    }
+
+    fn of_bytes(random: &mut Random, lendable: [usize; PACKET_MEMORIES]) -> Packets {
+        let memories = lendable.map(|bytes| Guarded::new(random, bytes));
+        Packets { memories }
+    }
+
+    /// The first so many bytes of a port's.
+    pub fn of_port(&mut self, port: u32, bytes: usize) -> &mut [u8] {
+        let memory = &mut self.memories[place(port)];
+        &mut memory.bytes[memory.start..memory.start + bytes]
+    }
+
+    /// The first so many bytes of each.
+    pub fn all(&self, bytes: &[usize; PACKET_MEMORIES]) -> [&[u8]; PACKET_MEMORIES] {
+        let mut all = [&[][..]; PACKET_MEMORIES];
+        for ((lent, memory), bytes) in all.iter_mut().zip(&self.memories).zip(bytes) {
+            *lent = &memory.bytes[memory.start..memory.start + bytes];
+        }
+        all
+    }
+
+    /// A part of a memory; none if there is no such.
+    fn part(&self, part: &Part) -> Option<&[u8]> {
+        let memory = self.memories.get(part.owner as usize)?;
+        let from = memory.bytes.get(memory.start + part.at as usize..)?;
+        from.get(..part.length as usize)
+    }
+
+    /// The first byte of any memory that isn't what the model has stored there, or
+    /// was at first, told.
+    pub fn difference(&self, stored: &Stored) -> Option<String> {
+        (0..).zip(&self.memories).find_map(|(port, memory)| {
+            let told = memory.difference(stored.of_port(port))?;
+            Some(format!("of port {port}'s packet memory {told}"))
+        })
+    }
+}
+
+/// Is a call lent packet memories?
+pub fn lends(call: &Call) -> bool {
+    matches!(call, Call::ArrivePacket { .. } | Call::Show { .. })
+}
+
+/// The packets that arrived since the last setup, by entry id, as they came.
+#[derive(Debug, Clone, Default)]
+pub struct Arrived(BTreeMap<u16, Vec<u8>>);
+
+impl Arrived {
+    pub fn note(&mut self, call: &Call, reply: &Reply) {
+        match (call, reply) {
+            (Call::Setup(_), Reply::Done) => self.0.clear(),
+            (Call::ArrivePacket { packet, .. }, Reply::Entry(entry)) => {
+                self.0.insert(*entry, packet.clone());
+            }
+            _ => {}
+        }
+    }
+
+    /// Does a part of the packet memories hold the packet, all of it and no more?
+    pub fn is_at(&self, packets: &Packets, entry: u16, part: &Part) -> Result<(), String> {
+        let arrived = self.packet(entry)?;
+        match packets.part(part) {
+            Some(bytes) if bytes == arrived => Ok(()),
+            Some(_) => Err(format!("{part:?} is not the packet of entry {entry}")),
+            None => Err(format!("{part:?} is no part of a packet memory")),
+        }
+    }
+
+    /// Does the node's slot start with its packet?
+    pub fn is_in_its_slot(&self, packets: &Packets, entry: u16) -> Result<(), String> {
+        let (owner, index) = (u32::from(entry) / 2048, u64::from(entry) % 2048);
+        let part = Part {
+            owner,
+            at: index * SLOT_BYTES as u64,
+            length: self.packet(entry)?.len() as u32,
+        };
+        self.is_at(packets, entry, &part)
+    }
+
+    fn packet(&self, entry: u16) -> Result<&[u8], String> {
+        let packet = self.0.get(&entry).map(|packet| &packet[..]);
+        packet.ok_or_else(|| format!("no packet of entry {entry} has arrived"))
+    }
+}
