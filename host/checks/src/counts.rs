@@ -5,6 +5,8 @@ use std::fmt;
 use model::{Call, Reply, Shape, REFUSALS};
 use traffic::{Before, Halts};
 
+use crate::packets::WholeCounts;
+
 const NAMES: [&str; 18] = [
     "setup",
     "arrive",
@@ -51,8 +53,8 @@ pub struct Counts {
     highest_entry: u16,
     /// What was seen of halted ports.
     pub halts: Halts,
-    /// How often a packet was found in its slot, and where it was shown.
-    found: [u64; 2],
+    /// What whole packets and shows were answered.
+    pub whole: WholeCounts,
 }
 
 impl Counts {
@@ -77,6 +79,7 @@ impl Counts {
     /// A call, what stood before it at its port, and its answer.
     pub fn note(&mut self, before: Option<Before>, call: &Call, reply: &Reply) {
         self.halts.note(before, call, reply);
+        self.whole.note(call, reply);
         if let Reply::Refused(number) = reply {
             self.refused[*number as usize] += 1;
             return;
@@ -114,21 +117,9 @@ impl Counts {
         for (cell, more) in self.refused.iter_mut().zip(&other.refused) {
             *cell += more;
         }
-        self.note_found(other.found);
+        self.whole.add(&other.whole);
         self.highest_entry = self.highest_entry.max(other.highest_entry);
         self.halts.add(&other.halts);
-    }
-
-    /// Packets that were found in their slot, and where they are shown.
-    pub fn note_found(&mut self, found: [u64; 2]) {
-        for (cell, more) in self.found.iter_mut().zip(found) {
-            *cell += more;
-        }
-    }
-
-    /// How often a packet was found in its slot, and where it is shown.
-    pub fn found(&self) -> [u64; 2] {
-        self.found
     }
 
     pub fn refused(&self, number: usize) -> u64 {
@@ -188,11 +179,6 @@ impl fmt::Display for Counts {
         for number in self.refusals() {
             write!(f, " [{number}] {}", self.refused[number as usize])?;
         }
-        let [kept, shown] = self.found;
-        write!(
-            f,
-            "\npackets found in their slot {kept}, where they are shown {shown}"
-        )?;
-        write!(f, "\n{}", self.halts)
+        write!(f, "\n{}\n{}", self.whole, self.halts)
     }
 }

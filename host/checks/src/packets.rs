@@ -2,6 +2,7 @@
 //! came in, to be found there again.
 
 use std::collections::BTreeMap;
+use std::fmt;
 
 use model::{Call, Part, Reply, Stored, PACKET_MEMORIES, SLOT_BYTES};
 use traffic::{packet_bytes, Random};
@@ -167,5 +168,97 @@ impl Arrived {
     fn packet(&self, entry: u16) -> Result<&[u8], String> {
         let packet = self.0.get(&entry).map(|packet| &packet[..]);
         packet.ok_or_else(|| format!("no packet of entry {entry} has arrived"))
+    }
+}
+
+/// What a whole packet and a show can be refused, in the order of the tests.
+const OF_ARRIVAL: [usize; 12] = [3, 24, 17, 4, 16, 7, 20, 8, 9, 19, 10, 11];
+const OF_SHOW: [usize; 6] = [3, 24, 17, 4, 5, 12];
+
+/// How often they were answered what.
+#[derive(Debug, Clone, Default, PartialEq, Eq)]
+pub struct WholeCounts {
+    /// By the refusal's number; 0 is none. Of packets of under ten bytes 16 is counted
+    /// by itself.
+    arrival: [u64; 28],
+    too_short: u64,
+    show: [u64; 28],
+    /// Headers alone that were refused 24.
+    header: u64,
+    /// How often a packet was found in its slot, and where it was shown.
+    found: [u64; 2],
+}
+
+impl WholeCounts {
+    pub fn note(&mut self, call: &Call, reply: &Reply) {
+        let number = match reply {
+            Reply::Refused(number) => usize::from(*number),
+            _ => 0,
+        };
+        match call {
+            Call::ArrivePacket { packet, .. } if number == 16 && packet.len() < 10 => {
+                self.too_short += 1;
+            }
+            Call::ArrivePacket { .. } => self.arrival[number] += 1,
+            Call::Show { .. } => self.show[number] += 1,
+            Call::Arrive { .. } if number == 24 => self.header += 1,
+            _ => {}
+        }
+    }
+
+    /// Packets that were found in their slot, and where they are shown.
+    pub fn note_found(&mut self, found: [u64; 2]) {
+        for (cell, more) in self.found.iter_mut().zip(found) {
+            *cell += more;
+        }
+    }
+
+    pub fn add(&mut self, other: &WholeCounts) {
+        let more = other.arrival.iter().chain(&other.show);
+        let cells = self.arrival.iter_mut().chain(&mut self.show);
+        for (cell, more) in cells.zip(more) {
+            *cell += more;
+        }
+        self.too_short += other.too_short;
+        self.header += other.header;
+        self.note_found(other.found);
+    }
+
+    /// Every answer with how often it came.
+    fn all(&self) -> Vec<(String, u64)> {
+        let told = |what: &str, counts: &[u64; 28], numbers: &[usize]| -> Vec<(String, u64)> {
+            let numbers = [0].iter().chain(numbers);
+            numbers
+                .map(|&n| (format!("{what} {n}"), counts[n]))
+                .collect()
+        };
+        let mut all = told("whole packet", &self.arrival, &OF_ARRIVAL);
+        all.extend(told("show", &self.show, &OF_SHOW));
+        all.push(("under ten bytes 16".into(), self.too_short));
+        all.push(("header alone 24".into(), self.header));
+        all.push(("found in its slot".into(), self.found[0]));
+        all.push(("found where it is shown".into(), self.found[1]));
+        all
+    }
+
+    /// What came less often than it should; 3, which comes before the first setup
+    /// alone, has a least of its own.
+    pub fn too_rare(&self, least_of_3: u64, least: u64) -> Vec<(String, u64)> {
+        let mut all = self.all();
+        all.retain(|(what, times)| match what.ends_with(" 3") {
+            true => *times < least_of_3,
+            false => *times < least,
+        });
+        all
+    }
+}
+
+impl fmt::Display for WholeCounts {
+    fn fmt(&self, f: &mut fmt::Formatter<'_>) -> fmt::Result {
+        write!(f, "packets:")?;
+        for (what, times) in self.all() {
+            write!(f, " {what}: {times},")?;
+        }
+        Ok(())
     }
 }

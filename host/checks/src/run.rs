@@ -386,7 +386,7 @@ pub fn made<D: Desk>(plan: &Plan, desk: &D, counts: &mut Counts) -> Result<(), (
         let reply = pair.call(&call).map_err(|message| (at, message))?;
         counts.note(before, &call, &reply);
     }
-    counts.note_found(pair.found);
+    counts.whole.note_found(pair.found);
     pair.compare_ledgers()
         .map_err(|message| (plan.calls, message))
 }

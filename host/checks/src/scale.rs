@@ -82,7 +82,7 @@ impl Scale {
     /// compared too, and with shows of what is in the slots.
     pub fn share_with_packets(&self, small: usize, packets: u32) -> usize {
         let least = Scale::ten_bytes(1).cost();
-        let more = packet_bytes(packets) * usize::from(packets > 0);
+        let more = packet_bytes(packets) / 8 * usize::from(packets > 0);
         (small * least / (self.cost() + more)).clamp(1, small)
     }
 }
