@@ -31,6 +31,12 @@ const NAMES: [&str; 18] = [
 /// The kinds of calls that are done where packets are kept alone: the last two.
 const OF_PACKETS: usize = 2;
 
+/// The refusals that these calls can be given: 21 is the writer's of headers,
+/// which is tried by itself.
+fn refusals() -> impl Iterator<Item = u8> {
+    REFUSALS.into_iter().filter(|&number| number != 21)
+}
+
 /// Can an arrival at a switch of this shape be given it? A field that is full has
 /// no queue too many, and some headers have no reserved bits.
 fn can_be(number: u8, shape: &Shape) -> bool {
@@ -66,14 +72,9 @@ impl Counts {
         }
     }
 
-    /// The refusals that these calls can be given: 21 is the writer's of headers,
-    /// which is tried by itself, and two need packets that are kept.
-    fn refusals(&self) -> impl Iterator<Item = u8> + '_ {
-        REFUSALS.into_iter().filter(|number| match number {
-            21 => false,
-            16 | 17 => self.packets,
-            _ => true,
-        })
+    /// Two are given where packets are kept alone.
+    fn can_come(&self, number: u8) -> bool {
+        self.packets || ![16, 17].contains(&number)
     }
 
     /// A call, what stood before it at its port, and its answer.
@@ -141,7 +142,8 @@ impl Counts {
             1..=3 => least_1_to_3,
             _ => least_of_others,
         };
-        self.refusals()
+        refusals()
+            .filter(|&number| self.can_come(number))
             .map(|number| (number, self.refused[number as usize]))
             .filter(|&(number, times)| times < least(number))
             .collect()
@@ -150,12 +152,14 @@ impl Counts {
     /// The refusals that came less often than they should, of calls on switches of
     /// one shape; and those that came though such a switch gives none.
     pub fn amiss(&self, shape: &Shape, least: u64) -> Vec<(u8, u64)> {
-        self.refusals()
+        refusals()
             .map(|number| (number, self.refused[number as usize]))
-            .filter(|&(number, times)| match can_be(number, shape) {
-                true => times < least,
-                false => times > 0,
-            })
+            .filter(
+                |&(number, times)| match self.can_come(number) && can_be(number, shape) {
+                    true => times < least,
+                    false => times > 0,
+                },
+            )
             .collect()
     }
 
@@ -176,7 +180,7 @@ impl fmt::Display for Counts {
             write!(f, " {name} {times},")?;
         }
         write!(f, "\nrefused:")?;
-        for number in self.refusals() {
+        for number in refusals() {
             write!(f, " [{number}] {}", self.refused[number as usize])?;
         }
         write!(f, "\n{}\n{}", self.whole, self.halts)

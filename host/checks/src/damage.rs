@@ -320,15 +320,16 @@ fn try_calls<D: Desk>(
     for call in calls {
         let mut copy = whole.to_vec();
         let packets = &mut Packets::for_call(call);
-        let told = in_words(call);
+        let told = || in_words(call);
         let answer = desk
             .call(&mut copy[..lent], packets, call)
-            .map_err(|why| format!("{told}: {why}"))?;
+            .map_err(|why| format!("{}: {why}", told()))?;
         if !matches!(call, Call::Setup(_)) {
             let no_state = answer == Reply::Refused(3);
             if *refused_3.get_or_insert(no_state) != no_state {
                 return Err(format!(
-                    "{told} answers {answer:?}, unlike the calls before it"
+                    "{} answers {answer:?}, unlike the calls before it",
+                    told()
                 ));
             }
         }
@@ -337,18 +338,19 @@ fn try_calls<D: Desk>(
         if answer != wanted {
             let why = judged.as_ref().err();
             return Err(format!(
-                "{told} answers {answer:?}, the model {wanted:?} ({why:?})"
+                "{} answers {answer:?}, the model {wanted:?} ({why:?})",
+                told()
             ));
         }
         if let Some(byte) = packets.difference(after.stored()) {
-            return Err(format!("{told} answers {answer:?}, but {byte}"));
+            return Err(format!("{} answers {answer:?}, but {byte}", told()));
         }
         let size_now = after.ledger().map_or(0, |l| size(&l.settings));
         let mut kept = whole.to_vec();
         let still = left(&mut kept[..lent], call, &answer);
         let kept_from = if still { 0 } else { size_now };
         if let Some(byte) = difference(&kept, &copy, kept_from) {
-            return Err(format!("{told} answers {answer:?}, but {byte}"));
+            return Err(format!("{} answers {answer:?}, but {byte}", told()));
         }
         if still && copy == whole {
             continue;
@@ -356,11 +358,11 @@ fn try_calls<D: Desk>(
         verdicts.acts += u64::from(judged.is_ok());
         let pictured = reader::ledger(&copy[..lent]);
         if pictured.as_ref().ok() != after.ledger() {
-            return Err(format!("{told} leaves another ledger than the model"));
+            return Err(format!("{} leaves another ledger than the model", told()));
         }
         let ready = desk.call(&mut copy[..lent], packets, &Call::Ready { port: 0 })?;
         if ready == Reply::Refused(3) {
-            return Err(format!("{told} leaves memory that is no state"));
+            return Err(format!("{} leaves memory that is no state", told()));
         }
     }
     Ok(())

@@ -17,10 +17,12 @@ fn place(port: u32) -> usize {
 }
 
 /// Four packet memories, of which calls are lent the first bytes.
+#[derive(Default)]
 pub struct Packets {
     memories: [Guarded; PACKET_MEMORIES],
 }
 
+#[derive(Default)]
 struct Guarded {
     bytes: Vec<u8>,
     /// As they were at first.
@@ -82,7 +84,7 @@ impl Packets {
         match call {
             Call::ArrivePacket { port, lent, .. } => lendable[place(*port)] = *lent,
             Call::Show { lent, .. } => lendable = *lent,
-            _ => {}
+            _ => return Packets::default(),
         }
         Packets::of_bytes(&mut Random::new(1), lendable)
     }
@@ -110,7 +112,7 @@ impl Packets {
     /// A part of a memory; none if there is no such.
     fn part(&self, part: &Part) -> Option<&[u8]> {
         let memory = self.memories.get(part.owner as usize)?;
-        let from = memory.bytes.get(memory.start + part.at as usize..)?;
+        let from = memory.bytes[memory.start..].get(usize::try_from(part.at).ok()?..)?;
         from.get(..part.length as usize)
     }
 
@@ -175,6 +177,9 @@ impl Arrived {
 const OF_ARRIVAL: [usize; 12] = [3, 24, 17, 4, 16, 7, 20, 8, 9, 19, 10, 11];
 const OF_SHOW: [usize; 6] = [3, 24, 17, 4, 5, 12];
 
+/// What was asked, the refusal's number or 0, and how often it came.
+pub type Answer = (&'static str, usize, u64);
+
 /// How often they were answered what.
 #[derive(Debug, Clone, Default, PartialEq, Eq)]
 pub struct WholeCounts {
@@ -225,39 +230,34 @@ impl WholeCounts {
     }
 
     /// Every answer with how often it came.
-    fn all(&self) -> Vec<(String, u64)> {
-        let told = |what: &str, counts: &[u64; 28], numbers: &[usize]| -> Vec<(String, u64)> {
-            let numbers = [0].iter().chain(numbers);
-            numbers
-                .map(|&n| (format!("{what} {n}"), counts[n]))
-                .collect()
-        };
-        let mut all = told("whole packet", &self.arrival, &OF_ARRIVAL);
-        all.extend(told("show", &self.show, &OF_SHOW));
-        all.push(("under ten bytes 16".into(), self.too_short));
-        all.push(("header alone 24".into(), self.header));
-        all.push(("found in its slot".into(), self.found[0]));
-        all.push(("found where it is shown".into(), self.found[1]));
-        all
+    fn all(&self) -> impl Iterator<Item = Answer> + '_ {
+        let arrivals = OF_ARRIVAL.map(|number| ("whole packet", number, self.arrival[number]));
+        let shows = OF_SHOW.map(|number| ("show", number, self.show[number]));
+        let others = [
+            ("packet of under ten bytes", 16, self.too_short),
+            ("header alone", 24, self.header),
+            ("whole packet", 0, self.arrival[0]),
+            ("show", 0, self.show[0]),
+            ("found in its slot", 0, self.found[0]),
+            ("found where it is shown", 0, self.found[1]),
+        ];
+        arrivals.into_iter().chain(shows).chain(others)
     }
 
     /// What came less often than it should; 3, which comes before the first setup
     /// alone, has a least of its own.
-    pub fn too_rare(&self, least_of_3: u64, least: u64) -> Vec<(String, u64)> {
-        let mut all = self.all();
-        all.retain(|(what, times)| match what.ends_with(" 3") {
-            true => *times < least_of_3,
-            false => *times < least,
-        });
-        all
+    pub fn too_rare(&self, least_of_3: u64, least: u64) -> Vec<Answer> {
+        let least = |number: usize| if number == 3 { least_of_3 } else { least };
+        let rare = |&(_, number, times): &Answer| times < least(number);
+        self.all().filter(rare).collect()
     }
 }
 
 impl fmt::Display for WholeCounts {
     fn fmt(&self, f: &mut fmt::Formatter<'_>) -> fmt::Result {
         write!(f, "packets:")?;
-        for (what, times) in self.all() {
-            write!(f, " {what}: {times},")?;
+        for (what, number, times) in self.all() {
+            write!(f, " {what} [{number}] {times},")?;
         }
         Ok(())
     }

@@ -78,11 +78,14 @@ impl Scale {
         self.share_with_packets(small, 0)
     }
 
-    /// The same with packet memories for so many nodes a port, all of which are
-    /// compared too, and with shows of what is in the slots.
+    /// The same with packet memories for so many nodes a port: all their bytes are
+    /// compared too, and what is in the slots is shown.
     pub fn share_with_packets(&self, small: usize, packets: u32) -> usize {
         let least = Scale::ten_bytes(1).cost();
-        let more = packet_bytes(packets) / 8 * usize::from(packets > 0);
+        let more = match packets {
+            0 => 0,
+            _ => packet_bytes(packets) / 8,
+        };
         (small * least / (self.cost() + more)).clamp(1, small)
     }
 }

@@ -333,6 +333,20 @@ fn the_size_is_the_published_formula() {
     for nodes in (0..5000).chain([65_536, 65_537, 1 << 31, u32::MAX]) {
         agrees(Settings::ten_bytes(nodes, 64, 1, 0));
     }
+    // Packets stand outside of the state.
+    for nodes in [0, 1, 2, 256, 2048, 2049] {
+        for packets in (0..=300).chain([65_535, 65_536, 65_537, u32::MAX]) {
+            for settings in [
+                Settings::ten_bytes(nodes, 64, 1, 0),
+                Settings::wide(4, 24, nodes, 64, 1, 0),
+            ] {
+                agrees(Settings {
+                    packets,
+                    ..settings
+                });
+            }
+        }
+    }
     // 0 where any setting is out of its row.
     let good = Settings::wide(8, 16, 100, 64, 8, 65_535);
     agrees(good);
