@@ -262,3 +262,104 @@ impl fmt::Display for WholeCounts {
         Ok(())
     }
 }
+
+#[cfg(test)]
+mod tests {
+    use model::{size, Model, Settings, Shape};
+    use traffic::{plain, whole_of};
+
+    use super::*;
+
+    const SETTINGS: Settings = Settings::ten_bytes(3, 64, 1, 16).with_packets();
+    const LENT: usize = 3 * SLOT_BYTES;
+
+    /// Two packets of each port, in its first and its second slot; and what has come.
+    fn filled() -> (Packets, Model, Arrived) {
+        let mut random = Random::new(1);
+        let mut packets = Packets::new(&mut random, 3);
+        let mut model = Model::new(size(&SETTINGS));
+        model.call(&Call::Setup(SETTINGS));
+        let mut arrived = Arrived::default();
+        for (port, slot) in (0..4).flat_map(|port| [0, 1].map(|slot| (port, slot))) {
+            let header = plain(&Shape::TEN_BYTES, 0, port, 0, 100);
+            let packet = whole_of(&mut random, &header);
+            let at = slot * SLOT_BYTES;
+            packets.of_port(port, LENT)[at..at + 100].copy_from_slice(&packet);
+            let lent = LENT;
+            let call = Call::ArrivePacket { port, packet, lent };
+            let reply = model.call(&call);
+            arrived.note(&call, &reply);
+        }
+        (packets, model, arrived)
+    }
+
+    /// One by one: about the memory, at the edges of what is lent and of its slots, in
+    /// a packet and behind it.
+    #[test]
+    fn a_byte_that_differs_is_told_wherever_it_is() {
+        let (mut packets, model, _) = filled();
+        assert_eq!(packets.difference(model.stored()), None);
+        for port in 0..PACKET_MEMORIES {
+            let start = packets.memories[port].start;
+            let last = packets.memories[port].bytes.len() - 1;
+            let of_slot = |slot: usize| [0, 50, 99, 100, 8191].map(|at| slot * SLOT_BYTES + at);
+            let inside = [0, 1, 2, 3].into_iter().flat_map(of_slot);
+            let about = [0, start - 1, last];
+            for at in inside.map(|at| start + at).chain(about) {
+                packets.memories[port].bytes[at] ^= 1;
+                let told = packets.difference(model.stored()).expect("a difference");
+                let place = at as isize - start as isize;
+                let wanted = format!("of port {port}'s packet memory byte {place} is ");
+                assert!(told.starts_with(&wanted), "{told}");
+                packets.memories[port].bytes[at] ^= 1;
+            }
+        }
+        assert_eq!(packets.difference(model.stored()), None);
+    }
+
+    #[test]
+    fn a_packet_is_found_where_it_is_alone() {
+        let (mut packets, _, arrived) = filled();
+        for (owner, index) in (0..4).flat_map(|owner| [0, 1].map(|index| (owner, index))) {
+            let entry = (owner * 2048 + index) as u16;
+            let right = Part {
+                owner,
+                at: u64::from(index) * SLOT_BYTES as u64,
+                length: 100,
+            };
+            assert_eq!(arrived.is_at(&packets, entry, &right), Ok(()));
+            assert_eq!(arrived.is_in_its_slot(&packets, entry), Ok(()));
+            let others = [
+                (owner ^ 1, right.at, 100),
+                (owner + 4, right.at, 100),
+                (owner, right.at ^ SLOT_BYTES as u64, 100),
+                (owner, right.at + 1, 100),
+                (owner, u64::MAX, 100),
+                (owner, right.at, 99),
+                (owner, right.at, 101),
+                (owner, right.at, u32::MAX),
+            ];
+            for (owner, at, length) in others {
+                let part = Part { owner, at, length };
+                assert!(arrived.is_at(&packets, entry, &part).is_err(), "{part:?}");
+            }
+            for at in [0, 99].map(|at| right.at as usize + at) {
+                packets.of_port(owner, LENT)[at] ^= 1;
+                assert!(arrived.is_in_its_slot(&packets, entry).is_err());
+                packets.of_port(owner, LENT)[at] ^= 1;
+            }
+        }
+        // A node that no packet has come to.
+        assert!(arrived.is_in_its_slot(&packets, 2).is_err());
+    }
+
+    #[test]
+    fn a_setup_forgets_what_came() {
+        let (packets, _, mut arrived) = filled();
+        let setup = Call::Setup(SETTINGS);
+        arrived.note(&setup, &Reply::Refused(1));
+        assert_eq!(arrived.is_in_its_slot(&packets, 0), Ok(()));
+        arrived.note(&setup, &Reply::Done);
+        assert!(arrived.is_in_its_slot(&packets, 0).is_err());
+    }
+}

@@ -116,7 +116,7 @@ fn taken(
     }
 }
 
-const SLIPS: [Slip; 27] = [
+const SLIPS: [Slip; 28] = [
     ("the slot of the node behind", |m, p, c| {
         stored(m, p, c, |memory, at, packet| {
             let at = (at + SLOT_BYTES) % memory.len();
@@ -189,6 +189,14 @@ const SLIPS: [Slip; 27] = [
         if let (Call::Show { lent, .. }, Reply::Shown(part)) = (c, &reply) {
             let at = part.at as usize + part.length as usize;
             p.of_port(part.owner, lent[0])[at] ^= 1;
+        }
+        Ok(reply)
+    }),
+    ("a show that writes into the state", |m, p, c| {
+        let reply = library::with_packets(m, p, c)?;
+        if let Reply::Shown(_) = reply {
+            // In port 0's first bucket.
+            m[4488] ^= 1;
         }
         Ok(reply)
     }),
