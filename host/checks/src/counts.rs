@@ -5,7 +5,9 @@ use std::fmt;
 use model::{Call, Reply, Shape, REFUSALS};
 use traffic::{Before, Halts};
 
-const NAMES: [&str; 16] = [
+use crate::packets::WholeCounts;
+
+const NAMES: [&str; 18] = [
     "setup",
     "arrive",
     "stitch",
@@ -22,7 +24,12 @@ const NAMES: [&str; 16] = [
     "timed turn",
     "idle timed turn",
     "bucket",
+    "whole packet",
+    "show",
 ];
+
+/// The kinds of calls that are done where packets are kept alone: the last two.
+const OF_PACKETS: usize = 2;
 
 /// The refusals that these calls can be given: 21 is the writer's of headers,
 /// which is tried by itself.
@@ -42,6 +49,8 @@ fn can_be(number: u8, shape: &Shape) -> bool {
 
 #[derive(Debug, Clone, Default, PartialEq, Eq)]
 pub struct Counts {
+    /// Of traffic in which packets are kept: then their answers must come too.
+    packets: bool,
     /// In the order of `NAMES`.
     accepted: [u64; NAMES.len()],
     /// By the refusal's number; the cells of other numbers stay 0.
@@ -50,12 +59,28 @@ pub struct Counts {
     highest_entry: u16,
     /// What was seen of halted ports.
     pub halts: Halts,
+    /// What whole packets and shows were answered.
+    pub whole: WholeCounts,
 }
 
 impl Counts {
+    /// Of traffic in which packets are kept.
+    pub fn with_packets() -> Counts {
+        Counts {
+            packets: true,
+            ..Counts::default()
+        }
+    }
+
+    /// Two are given where packets are kept alone.
+    fn can_come(&self, number: u8) -> bool {
+        self.packets || ![16, 17].contains(&number)
+    }
+
     /// A call, what stood before it at its port, and its answer.
     pub fn note(&mut self, before: Option<Before>, call: &Call, reply: &Reply) {
         self.halts.note(before, call, reply);
+        self.whole.note(call, reply);
         if let Reply::Refused(number) = reply {
             self.refused[*number as usize] += 1;
             return;
@@ -80,6 +105,8 @@ impl Counts {
             Call::TimedTurn { .. } if *reply == Reply::Idle => 14,
             Call::TimedTurn { .. } => 13,
             Call::Bucket { .. } => 15,
+            Call::ArrivePacket { .. } => 16,
+            Call::Show { .. } => 17,
         };
         self.accepted[kind] += 1;
     }
@@ -91,6 +118,7 @@ impl Counts {
         for (cell, more) in self.refused.iter_mut().zip(&other.refused) {
             *cell += more;
         }
+        self.whole.add(&other.whole);
         self.highest_entry = self.highest_entry.max(other.highest_entry);
         self.halts.add(&other.halts);
     }
@@ -115,6 +143,7 @@ impl Counts {
             _ => least_of_others,
         };
         refusals()
+            .filter(|&number| self.can_come(number))
             .map(|number| (number, self.refused[number as usize]))
             .filter(|&(number, times)| times < least(number))
             .collect()
@@ -125,16 +154,22 @@ impl Counts {
     pub fn amiss(&self, shape: &Shape, least: u64) -> Vec<(u8, u64)> {
         refusals()
             .map(|number| (number, self.refused[number as usize]))
-            .filter(|&(number, times)| match can_be(number, shape) {
-                true => times < least,
-                false => times > 0,
-            })
+            .filter(
+                |&(number, times)| match self.can_come(number) && can_be(number, shape) {
+                    true => times < least,
+                    false => times > 0,
+                },
+            )
             .collect()
     }
 
     /// Was every kind of call accepted so often at least?
     pub fn each_call_at_least(&self, least: u64) -> bool {
-        self.accepted.iter().all(|&times| times >= least)
+        let kinds = match self.packets {
+            true => NAMES.len(),
+            false => NAMES.len() - OF_PACKETS,
+        };
+        self.accepted[..kinds].iter().all(|&times| times >= least)
     }
 }
 
@@ -148,6 +183,6 @@ impl fmt::Display for Counts {
         for number in refusals() {
             write!(f, " [{number}] {}", self.refused[number as usize])?;
         }
-        write!(f, "\n{}", self.halts)
+        write!(f, "\n{}\n{}", self.whole, self.halts)
     }
 }

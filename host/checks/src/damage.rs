@@ -6,18 +6,19 @@ use std::fmt;
 
 use model::checksum::crc8;
 use model::header::Header;
-use model::{size, Call, Ledger, Model, Reply, Settings};
+use model::{size, Call, Ledger, Model, Reply, Settings, PACKET_MEMORIES, SLOT_BYTES};
 use traffic::headers::{reserved_bits, right_fields, spelt};
-use traffic::{Profile, Random, Traffic};
+use traffic::{whole_of, Profile, Random, Traffic};
 
 use crate::changes::{apply, changes, Change};
 use crate::cut::cut_down;
 use crate::finding::WAYS;
 use crate::night::{self, Crew};
+use crate::packets::Packets;
 use crate::run::Pair;
 use crate::scale::Scale;
 use crate::tables::SETTINGS_END;
-use crate::{difference, left, reader, Desk};
+use crate::{difference, in_words, left, reader, Desk};
 
 /// A run that can be made again: traffic, and damage now and then.
 #[derive(Debug, Clone, Copy, PartialEq, Eq)]
@@ -27,6 +28,8 @@ pub struct Plan {
     pub scale: Scale,
     /// How many damaged memories.
     pub damaged: usize,
+    /// For how many nodes a port there is packet memory; of none, none are kept.
+    pub packets: u32,
 }
 
 impl Plan {
@@ -35,12 +38,15 @@ impl Plan {
     pub fn numbered(seed: u64, number: u64, damaged: usize) -> Plan {
         let mut random = Random::new(!seed ^ number.wrapping_mul(0xD1B5_4A32_D192_ED03));
         let profiles = Profile::ALL.len() as u64;
-        let scale = Scale::of_turn(number / profiles, &mut random);
+        let turn = number / profiles;
+        let scale = Scale::of_turn(turn, &mut random);
+        let packets = scale.packets(turn);
         Plan {
             seed: random.word(),
             profile: Profile::ALL[(number % profiles) as usize],
             scale,
-            damaged: scale.share(damaged),
+            damaged: scale.share_with_packets(damaged, packets),
+            packets,
         }
     }
 }
@@ -170,8 +176,26 @@ fn lying(random: &mut Random, settings: &Settings, port: u32) -> Vec<u8> {
     header
 }
 
-/// Every kind of call, meant to succeed mostly, and a lie: on the ledger before
-/// the damage, which is often nearly that after it.
+/// A whole packet of this header.
+fn packet(random: &mut Random, settings: &Settings, port: u32, header: &[u8]) -> Call {
+    let [lent, ..] = packet_memories(random, settings);
+    let packet = whole_of(random, header);
+    Call::ArrivePacket { port, packet, lent }
+}
+
+/// The sizes of packet memories: right mostly, if the nodes are few.
+fn packet_memories(random: &mut Random, settings: &Settings) -> [usize; PACKET_MEMORIES] {
+    let most = Scale::FEW_NODES as usize * SLOT_BYTES;
+    let mut lent = [settings.packet_memory().min(most); PACKET_MEMORIES];
+    if random.one_in(16) {
+        lent[random.below(4) as usize] -= 1;
+    }
+    lent
+}
+
+/// Every kind of call, meant to succeed mostly, and lies: on the ledger before
+/// the damage, which is often nearly that after it. Headers alone and whole packets,
+/// of which one kind is refused.
 fn one_of_each(random: &mut Random, ledger: &Ledger) -> Vec<Call> {
     let settings = &ledger.settings;
     let Settings {
@@ -196,6 +220,14 @@ fn one_of_each(random: &mut Random, ledger: &Ledger) -> Vec<Call> {
     let port = random.below(ports);
     let (low, any) = (random.below(ports), random.below(4096));
     let room = settings.shape().round_bytes();
+    let headers = [
+        arriving(random, settings, port),
+        lying(random, settings, port),
+    ];
+    let [whole, lying_whole] = headers.map(|header| {
+        let port = wild(port, random);
+        packet(random, settings, port, &header)
+    });
     vec![
         Call::Ready {
             port: wild(fetched.0, random),
@@ -244,6 +276,13 @@ fn one_of_each(random: &mut Random, ledger: &Ledger) -> Vec<Call> {
             port: wild(port, random),
             header: lying(random, settings, port),
         },
+        whole,
+        lying_whole,
+        Call::Show {
+            port: wild(fetched.0, random),
+            queue: fetched.1,
+            lent: packet_memories(random, settings),
+        },
         Call::Round {
             // Now and then too little room: 3 is tested before 27.
             room: vec![0x5A; room + 3 - random.pick(&[0, 0, 3, 3, 3, 3, 4, 3 + room])],
@@ -280,12 +319,17 @@ fn try_calls<D: Desk>(
     let mut refused_3 = None;
     for call in calls {
         let mut copy = whole.to_vec();
-        let answer = desk(&mut copy[..lent], call).map_err(|why| format!("{call:?}: {why}"))?;
+        let packets = &mut Packets::for_call(call);
+        let told = || in_words(call);
+        let answer = desk
+            .call(&mut copy[..lent], packets, call)
+            .map_err(|why| format!("{}: {why}", told()))?;
         if !matches!(call, Call::Setup(_)) {
             let no_state = answer == Reply::Refused(3);
             if *refused_3.get_or_insert(no_state) != no_state {
                 return Err(format!(
-                    "{call:?} answers {answer:?}, unlike the calls before it"
+                    "{} answers {answer:?}, unlike the calls before it",
+                    told()
                 ));
             }
         }
@@ -294,15 +338,19 @@ fn try_calls<D: Desk>(
         if answer != wanted {
             let why = judged.as_ref().err();
             return Err(format!(
-                "{call:?} answers {answer:?}, the model {wanted:?} ({why:?})"
+                "{} answers {answer:?}, the model {wanted:?} ({why:?})",
+                told()
             ));
+        }
+        if let Some(byte) = packets.difference(after.stored()) {
+            return Err(format!("{} answers {answer:?}, but {byte}", told()));
         }
         let size_now = after.ledger().map_or(0, |l| size(&l.settings));
         let mut kept = whole.to_vec();
         let still = left(&mut kept[..lent], call, &answer);
         let kept_from = if still { 0 } else { size_now };
-        if let Some(told) = difference(&kept, &copy, kept_from) {
-            return Err(format!("{call:?} answers {answer:?}, but {told}"));
+        if let Some(byte) = difference(&kept, &copy, kept_from) {
+            return Err(format!("{} answers {answer:?}, but {byte}", told()));
         }
         if still && copy == whole {
             continue;
@@ -310,11 +358,11 @@ fn try_calls<D: Desk>(
         verdicts.acts += u64::from(judged.is_ok());
         let pictured = reader::ledger(&copy[..lent]);
         if pictured.as_ref().ok() != after.ledger() {
-            return Err(format!("{call:?} leaves another ledger than the model"));
+            return Err(format!("{} leaves another ledger than the model", told()));
         }
-        let ready = desk(&mut copy[..lent], &Call::Ready { port: 0 })?;
+        let ready = desk.call(&mut copy[..lent], packets, &Call::Ready { port: 0 })?;
         if ready == Reply::Refused(3) {
-            return Err(format!("{call:?} leaves memory that is no state"));
+            return Err(format!("{} leaves memory that is no state", told()));
         }
     }
     Ok(())
@@ -348,8 +396,10 @@ pub fn run_with<D: Desk>(
 ) -> Result<(), Box<Failure>> {
     let mut random = Random::new(plan.seed.rotate_left(32));
     let memory_len = plan.scale.bytes_and_some(&mut random);
-    let mut pair = Pair::new(desk, plan.seed, memory_len, 256);
-    let mut traffic = Traffic::of(plan.seed, plan.profile, plan.scale.shape);
+    let mut pair =
+        Pair::new(desk, plan.seed, memory_len, 256).with_packets(plan.seed, plan.packets);
+    let mut traffic =
+        Traffic::of(plan.seed, plan.profile, plan.scale.shape).with_packets(plan.packets);
     let mut number = 0;
     while number < plan.damaged {
         let failure = |lent, changes, message| {
@@ -363,8 +413,10 @@ pub fn run_with<D: Desk>(
         };
         for _ in 0..random.among(1, 30) {
             let call = traffic.next(&pair.model);
-            pair.call(&call)
-                .map_err(|why| failure(memory_len, Vec::new(), format!("{call:?}: {why}")))?;
+            pair.call(&call).map_err(|why| {
+                let told = in_words(&call);
+                failure(memory_len, Vec::new(), format!("{told}: {why}"))
+            })?;
         }
         let ledger = match pair.model.ledger() {
             Some(ledger) => ledger,

@@ -88,7 +88,8 @@ struct Image<'m> {
 }
 
 /// The settings' names and rows, in the memory's order. The ten-byte header asks
-/// for just its ports and queues, any other edition for those of the wide ones.
+/// for just its ports and queues, and alone has packets; any other edition asks for
+/// those of the wide ones.
 fn in_its_row(setting: usize, number: u32, edition: u32) -> Result<(), &'static str> {
     let Shape { ports, queues, .. } = Shape::TEN_BYTES;
     let (name, fits) = match setting {
@@ -101,6 +102,7 @@ fn in_its_row(setting: usize, number: u32, edition: u32) -> Result<(), &'static 
         4 => ("slots", (1..=8).contains(&number)),
         5 => ("credit", number <= 65_535),
         6 => ("edition", number <= 1),
+        _ if edition == 0 => ("packets", number <= 1),
         _ => ("packets", number == 0),
     };
     fits.then_some(()).ok_or(name)

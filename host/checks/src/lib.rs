@@ -11,6 +11,7 @@ pub mod finding;
 pub mod headers;
 pub mod library;
 pub mod night;
+pub mod packets;
 pub mod program;
 pub mod reader;
 pub mod run;
@@ -26,13 +27,46 @@ pub mod writer;
 
 use model::{marked, Call, Reply};
 
+use packets::{lends, Packets};
 use tables::Tables;
 
 /// Something that answers calls on lent memory: the library, or in tests a
 /// library with a slip. The error is a broken rule on answers or rooms.
-pub trait Desk: Fn(&mut [u8], &Call) -> Result<Reply, String> {}
+pub trait Desk {
+    /// The packet memories are for the calls that are lent such.
+    fn call(&self, memory: &mut [u8], packets: &mut Packets, call: &Call) -> Result<Reply, String>;
+}
 
-impl<F: Fn(&mut [u8], &Call) -> Result<Reply, String>> Desk for F {}
+/// One that knows of no packet memories: the calls that are lent such are the
+/// library's.
+impl<F: Fn(&mut [u8], &Call) -> Result<Reply, String>> Desk for F {
+    fn call(&self, memory: &mut [u8], packets: &mut Packets, call: &Call) -> Result<Reply, String> {
+        match lends(call) {
+            true => library::with_packets(memory, packets, call),
+            false => self(memory, call),
+        }
+    }
+}
+
+/// One that answers all calls itself.
+pub struct Whole(pub fn(&mut [u8], &mut Packets, &Call) -> Result<Reply, String>);
+
+impl Desk for Whole {
+    fn call(&self, memory: &mut [u8], packets: &mut Packets, call: &Call) -> Result<Reply, String> {
+        self.0(memory, packets, call)
+    }
+}
+
+/// A call in words: of a whole packet, its header and how many bytes there are.
+pub fn in_words(call: &Call) -> String {
+    match call {
+        Call::ArrivePacket { port, packet, lent } => {
+            let (bytes, front) = (packet.len(), &packet[..packet.len().min(10)]);
+            format!("ArrivePacket {{ port: {port}, {bytes} bytes: {front:?}.., lent: {lent} }}")
+        }
+        _ => format!("{call:?}"),
+    }
+}
 
 /// Makes of the bytes before a call those that it must leave, given its answer,
 /// and says true; false where it may change more than a mark. A refused call
@@ -58,7 +92,7 @@ pub fn left(bytes: &mut [u8], call: &Call, reply: &Reply) -> bool {
             true
         }
         (_, Reply::Idle | Reply::Word(..) | Reply::Found(..)) => true,
-        (_, Reply::Mark(_) | Reply::Count(_)) => true,
+        (_, Reply::Mark(_) | Reply::Count(_) | Reply::Shown(_)) => true,
         _ => false,
     }
 }

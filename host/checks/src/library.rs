@@ -1,8 +1,9 @@
 //! One call of the proved library, told in the model's words.
 
-use model::{Call, ListKind, Packet, Reply, Settings, Side, REFUSALS};
+use model::{Call, ListKind, Packet, Part, Reply, Settings, Side, REFUSALS};
 use ventorupo::calls;
 
+use crate::packets::Packets;
 use crate::reader;
 
 /// Rooms start with these bytes, so that a byte that should stay is seen.
@@ -48,24 +49,45 @@ fn refused<T: PartialEq + std::fmt::Debug>(
     }
 }
 
-/// Make the call on this memory. The error is a broken rule on answers and
-/// rooms, whatever the model says.
+/// Make the call on this memory, and on packet memories of its own if it is lent
+/// such: what it leaves there is nobody's. The error is a broken rule on answers
+/// and rooms, whatever the model says.
 pub fn call(memory: &mut [u8], call: &Call) -> Result<Reply, String> {
+    with_packets(memory, &mut Packets::for_call(call), call)
+}
+
+/// The same on these packet memories.
+pub fn with_packets(
+    memory: &mut [u8],
+    packets: &mut Packets,
+    call: &Call,
+) -> Result<Reply, String> {
     match call {
         Call::Setup(settings) => match calls::setup(memory, &numbers(settings)) {
             0 => Ok(Reply::Done),
             number => refused(number, (), ()),
         },
         Call::Arrive { port, header } => {
-            let kept = header.clone();
-            let mut entry = 0xA7A7;
-            let number = calls::arrive(memory, *port, header, &mut entry);
-            if *header != kept {
-                return Err("the header's bytes differ".into());
-            }
-            match number {
-                0 => Ok(Reply::Entry(entry)),
-                _ => refused(number, entry, 0xA7A7),
+            arrived(header, |entry| calls::arrive(memory, *port, header, entry))
+        }
+        Call::ArrivePacket { port, packet, lent } => arrived(packet, |entry| {
+            calls::arrive_packet(memory, packets.of_port(*port, *lent), *port, packet, entry)
+        }),
+        Call::Show { port, queue, lent } => {
+            let before = (0xA7A7_A7A7, 0xA7A7_A7A7_A7A7_A7A7, 0xA7A7_A7A7);
+            let (mut owner, mut at, mut length) = before;
+            let lent = packets.all(lent);
+            match calls::show(
+                memory,
+                lent,
+                *port,
+                *queue,
+                &mut owner,
+                &mut at,
+                &mut length,
+            ) {
+                0 => Ok(Reply::Shown(Part { owner, at, length })),
+                number => refused(number, (owner, at, length), before),
             }
         }
         Call::Stitch { port } => {
@@ -145,6 +167,20 @@ pub fn call(memory: &mut [u8], call: &Call) -> Result<Reply, String> {
             }
         }
         Call::Round { room } => round(memory, room),
+    }
+}
+
+/// An arrival of these bytes, which stay as they are.
+fn arrived(bytes: &[u8], arrive: impl FnOnce(&mut u16) -> u32) -> Result<Reply, String> {
+    let kept = bytes.to_vec();
+    let mut entry = 0xA7A7;
+    let number = arrive(&mut entry);
+    if bytes != kept {
+        return Err("the bytes that arrive differ".into());
+    }
+    match number {
+        0 => Ok(Reply::Entry(entry)),
+        _ => refused(number, entry, 0xA7A7),
     }
 }
 

@@ -2,14 +2,15 @@
 
 use std::fmt;
 
-use model::{size, Call, Ledger, Model, Reply, Shape};
+use model::{size, Call, Ledger, ListKind, Model, Reply, Shape, PACKET_MEMORIES};
 use traffic::{Before, Profile, Random, Traffic};
 
 use crate::counts::Counts;
 use crate::cut::cut_down;
+use crate::packets::{lends, Arrived, Packets};
 use crate::runs::{self, one_by_one, Run, Stream, Told, ANSWER};
 use crate::scale::Scale;
-use crate::{difference, left, night, reader, writer, Desk};
+use crate::{difference, in_words, left, night, reader, writer, Desk};
 
 /// Bytes behind the lent memory, to see that nobody writes there.
 const GUARD: usize = 64;
@@ -28,6 +29,8 @@ pub struct Plan {
     pub calls: usize,
     /// After how many calls the whole ledger is compared.
     pub ledger_every: usize,
+    /// For how many nodes a port there is packet memory; of none, none are kept.
+    pub packets: u32,
 }
 
 impl Plan {
@@ -37,19 +40,28 @@ impl Plan {
     pub fn numbered(seed: u64, number: u64) -> Plan {
         let mut random = Random::new(seed ^ number.wrapping_mul(0xD1B5_4A32_D192_ED03));
         let profiles = Profile::ALL.len() as u64;
-        let scale = Scale::of_turn(number / profiles, &mut random);
+        let turn = number / profiles;
+        let scale = Scale::of_turn(turn, &mut random);
+        let packets = scale.packets(turn);
         Plan {
             seed: random.word(),
             profile: Profile::ALL[(number % profiles) as usize],
             shape: scale.shape,
             memory_len: scale.bytes_and_some(&mut random),
-            calls: scale.share(CALLS),
+            calls: scale.share_with_packets(CALLS, packets),
             ledger_every: 256,
+            packets,
         }
     }
 
     fn traffic(&self) -> Traffic {
-        Traffic::of(self.seed, self.profile, self.shape)
+        Traffic::of(self.seed, self.profile, self.shape).with_packets(self.packets)
+    }
+
+    /// Before its first call.
+    fn begun<'d, D: Desk>(&self, desk: &'d D) -> Pair<'d, D> {
+        let pair = Pair::new(desk, self.seed, self.memory_len, self.ledger_every);
+        pair.with_packets(self.seed, self.packets)
     }
 }
 
@@ -69,7 +81,7 @@ impl fmt::Display for Failure {
         writeln!(f, "fails at call {}: {}", self.at, self.message)?;
         writeln!(f, "cut down to {} calls:", self.remaining.len())?;
         for call in &self.remaining {
-            writeln!(f, "    {call:?}")?;
+            writeln!(f, "    {}", in_words(call))?;
         }
         write!(f, "which fail: {}", self.remaining_message)
     }
@@ -87,6 +99,11 @@ pub struct Pair<'d, D> {
     lent: usize,
     made: usize,
     ledger_every: usize,
+    packets: Packets,
+    /// None from a ledger on: of its packets only headers are known.
+    arrived: Option<Arrived>,
+    /// How often a packet was found in its slot, and where it was shown.
+    found: [u64; 2],
 }
 
 impl<'d, D: Desk> Pair<'d, D> {
@@ -109,6 +126,17 @@ impl<'d, D: Desk> Pair<'d, D> {
             lent,
             made: 0,
             ledger_every,
+            packets: Packets::new(&mut random, 0),
+            arrived: Some(Arrived::default()),
+            found: [0; 2],
+        }
+    }
+
+    /// With packet memories for so many nodes a port.
+    pub fn with_packets(self, seed: u64, nodes: u32) -> Pair<'d, D> {
+        Pair {
+            packets: Packets::new(&mut Random::new(seed), nodes),
+            ..self
         }
     }
 
@@ -126,6 +154,9 @@ impl<'d, D: Desk> Pair<'d, D> {
             lent,
             made: 0,
             ledger_every,
+            packets: Packets::new(&mut Random::new(0), 0),
+            arrived: None,
+            found: [0; 2],
         }
     }
 
@@ -142,7 +173,8 @@ impl<'d, D: Desk> Pair<'d, D> {
     pub fn call(&mut self, call: &Call) -> Result<Reply, String> {
         self.before.copy_from_slice(&self.memory);
         let (start, end) = (self.start, self.start + self.lent);
-        let answer = (self.desk)(&mut self.memory[start..end], call)?;
+        let memory = &mut self.memory[start..end];
+        let answer = self.desk.call(memory, &mut self.packets, call)?;
         let wanted = self.model.call(call);
         if answer != wanted {
             return Err(format!(
@@ -153,10 +185,8 @@ impl<'d, D: Desk> Pair<'d, D> {
         if self.before[..start] != self.memory[..start] {
             return Err(format!("after {answer:?} bytes before the memory differ"));
         }
-        let kept_from = match left(&mut self.before[start..end], call, &answer) {
-            true => 0,
-            false => size_now,
-        };
+        let still = left(&mut self.before[start..end], call, &answer);
+        let kept_from = if still { 0 } else { size_now };
         let (before, after) = (&self.before[start..], &self.memory[start..]);
         if let Some(told) = difference(before, after, kept_from) {
             return Err(format!("after {answer:?} {told}"));
@@ -166,6 +196,16 @@ impl<'d, D: Desk> Pair<'d, D> {
             if let Some(told) = difference(&image, &after[..size_now], 0) {
                 return Err(format!("after setup {told}"));
             }
+        }
+        if let Some(arrived) = &mut self.arrived {
+            arrived.note(call, &answer);
+        }
+        if !still {
+            self.find_packets()?;
+        }
+        if lends(call) || self.keeps_packets() {
+            self.compare_packets()
+                .map_err(|told| format!("after {answer:?} {told}"))?;
         }
         self.made += 1;
         // More often after a round: it moves much, and tells of its turns alone.
@@ -203,11 +243,60 @@ impl<'d, D: Desk> Pair<'d, D> {
         if let Some(told) = difference(&self.before, &self.memory, 0) {
             return Err(format!("after a run, beside its calls one by one, {told}"));
         }
+        self.find_packets()?;
+        self.compare_packets()?;
         self.made += 1;
         if self.made % self.ledger_every == 0 {
             self.compare_ledgers()?;
         }
         Ok(told)
+    }
+
+    fn keeps_packets(&self) -> bool {
+        let settings = self.model.ledger().map(|ledger| ledger.settings);
+        matches!(settings, Some(settings) if settings.packets == 1)
+    }
+
+    /// Every byte of the packet memories, and about them.
+    fn compare_packets(&self) -> Result<(), String> {
+        let told = self.packets.difference(self.model.stored());
+        told.map_or(Ok(()), Err)
+    }
+
+    /// Every packet of the switch in its slot; and where it is shown, if it is the
+    /// oldest in a queue's slots, and that a show writes nothing.
+    fn find_packets(&mut self) -> Result<(), String> {
+        let (ledger, arrived) = match (self.model.ledger(), &self.arrived) {
+            (Some(ledger), Some(arrived)) if ledger.settings.packets == 1 => (ledger, arrived),
+            _ => return Ok(()),
+        };
+        for packet in ledger
+            .ports
+            .iter()
+            .flat_map(|at| at.packets.iter().flatten())
+        {
+            arrived.is_in_its_slot(&self.packets, packet.entry)?;
+            self.found[0] += 1;
+        }
+        self.before.copy_from_slice(&self.memory);
+        for (kind, list) in ledger.lists() {
+            let (port, queue, oldest) = match (kind, list.front()) {
+                (ListKind::Prefetch { port, queue }, Some(oldest)) => (port, queue, *oldest),
+                _ => continue,
+            };
+            let lent = [ledger.settings.packet_memory(); PACKET_MEMORIES];
+            let call = Call::Show { port, queue, lent };
+            let memory = &mut self.memory[self.start..self.start + self.lent];
+            match self.desk.call(memory, &mut self.packets, &call)? {
+                Reply::Shown(part) => arrived.is_at(&self.packets, oldest, &part)?,
+                other => return Err(format!("{call:?} answers {other:?}")),
+            }
+            self.found[1] += 1;
+        }
+        match difference(&self.before, &self.memory, 0) {
+            Some(told) => Err(format!("after shows {told}")),
+            None => Ok(()),
+        }
     }
 
     /// The whole ledger, read off the bytes, beside the model's; then what the
@@ -289,7 +378,7 @@ pub fn run<D: Desk>(plan: &Plan, desk: &D, counts: &mut Counts) -> Result<(), Bo
 /// Make the run; the error is the number of the first call after which something
 /// differs, and what.
 pub fn made<D: Desk>(plan: &Plan, desk: &D, counts: &mut Counts) -> Result<(), (usize, String)> {
-    let mut pair = Pair::new(desk, plan.seed, plan.memory_len, plan.ledger_every);
+    let mut pair = plan.begun(desk);
     let mut traffic = plan.traffic();
     for at in 0..plan.calls {
         let call = traffic.next(&pair.model);
@@ -297,6 +386,7 @@ pub fn made<D: Desk>(plan: &Plan, desk: &D, counts: &mut Counts) -> Result<(), (
         let reply = pair.call(&call).map_err(|message| (at, message))?;
         counts.note(before, &call, &reply);
     }
+    counts.whole.note_found(pair.found);
     pair.compare_ledgers()
         .map_err(|message| (plan.calls, message))
 }
@@ -312,8 +402,12 @@ fn failure<D: Desk>(plan: &Plan, desk: &D, at: usize, message: String) -> Failur
         calls.push(call);
     }
     // Compare the ledger after each call now: it may have differed for long.
+    let each = Plan {
+        ledger_every: 1,
+        ..*plan
+    };
     let message_of = |calls: &[Call]| -> Option<(usize, String)> {
-        let mut pair = Pair::new(desk, plan.seed, plan.memory_len, 1);
+        let mut pair = each.begun(desk);
         calls
             .iter()
             .enumerate()

@@ -8,6 +8,7 @@ use traffic::{run_calls, run_field, tagged, Profile, Random, Traffic};
 use ventorupo::{calls, Switch};
 
 use crate::cut::cut_down;
+use crate::packets::Packets;
 use crate::run::Pair;
 use crate::scale::Scale;
 use crate::{library, reader, Desk};
@@ -110,7 +111,9 @@ pub fn answer(reply: &Reply) -> [u8; ANSWER] {
 pub fn one_by_one<D: Desk>(desk: &D, memory: &mut [u8], calls: &[Call]) -> Result<Vec<u8>, String> {
     let mut answers = Vec::with_capacity(ANSWER * calls.len());
     for call in calls {
-        answers.extend(answer(&desk(memory, call)?));
+        // No field is lent any.
+        let packets = &mut Packets::for_call(call);
+        answers.extend(answer(&desk.call(memory, packets, call)?));
     }
     Ok(answers)
 }
@@ -204,8 +207,10 @@ pub struct Tally {
     stops: [u64; 3],
 }
 
-/// The refusals that a field can be given.
+/// The refusals that a field can be given; and the one that every arrival is given
+/// where packets are kept.
 const OF_FIELDS: [usize; 13] = [4, 5, 6, 7, 8, 9, 10, 11, 12, 13, 14, 19, 20];
+pub const OTHER_KIND: usize = 24;
 
 impl Tally {
     fn note(&mut self, told: &Told) {
@@ -225,6 +230,11 @@ impl Tally {
         }
         self.runs += other.runs;
         self.idle += other.idle;
+    }
+
+    /// How many fields were given a refusal.
+    pub fn refused(&self, number: usize) -> u64 {
+        self.answers[number]
     }
 
     /// How many fields were done.
@@ -257,7 +267,7 @@ impl fmt::Display for Tally {
             self.runs,
             self.idle
         )?;
-        for number in OF_FIELDS {
+        for number in OF_FIELDS.into_iter().chain([OTHER_KIND]) {
             write!(f, " [{number}] {}", self.answers[number])?;
         }
         Ok(())
@@ -272,6 +282,8 @@ pub struct Plan {
     pub scale: Scale,
     /// Of all its runs together, about.
     pub fields: usize,
+    /// For how many nodes a port there is packet memory; of none, none are kept.
+    pub packets: u32,
 }
 
 impl Plan {
@@ -280,12 +292,15 @@ impl Plan {
     pub fn numbered(seed: u64, number: u64, fields: usize) -> Plan {
         let mut random = Random::new(seed ^ number.wrapping_mul(0x8CB9_2BA7_2F3D_8DD7));
         let profiles = Profile::ALL.len() as u64;
-        let scale = Scale::of_turn(number / profiles, &mut random);
+        let turn = number / profiles;
+        let scale = Scale::of_turn(turn, &mut random);
+        let packets = scale.packets(turn);
         Plan {
             seed: random.word(),
             profile: Profile::ALL[(number % profiles) as usize],
             scale,
-            fields: scale.share(fields),
+            fields: scale.share_with_packets(fields, packets),
+            packets,
         }
     }
 }
@@ -303,6 +318,8 @@ pub struct Runs {
     pair: Pair<'static, Single>,
     /// The model of the last call that the traffic was asked for.
     ahead: Model,
+    /// Between two runs, of single calls fewer than this.
+    between: u32,
     pub tally: Tally,
 }
 
@@ -315,15 +332,23 @@ impl Runs {
         let credit = random.pick(&[3, 40, 300, 65_535]);
         let settings = Settings::of(shape, nodes, beat, random.among(1, 8), credit);
         let lent = plan.scale.bytes_and_some(&mut random);
-        let mut pair = Pair::new(&SINGLE, plan.seed, lent, 64);
+        let pair = Pair::new(&SINGLE, plan.seed, lent, 64);
+        let mut pair = pair.with_packets(plan.seed, plan.packets);
+        let (settings, between) = match plan.packets {
+            0 => (settings, 4),
+            // No field brings a packet: single calls do.
+            _ => (settings.with_packets(), 60),
+        };
         pair.call(&Call::Setup(settings))?;
+        let traffic = Traffic::of(plan.seed, plan.profile, shape);
         Ok(Runs {
             run,
             shape,
             random,
-            traffic: Traffic::of(plan.seed, plan.profile, shape),
+            traffic: traffic.with_packets(plan.packets),
             ahead: pair.model.clone(),
             pair,
+            between,
             tally: Tally::default(),
         })
     }
@@ -408,7 +433,7 @@ impl Runs {
                 self.single(&Call::Clear { port })?;
             }
         }
-        for _ in 0..self.random.below(4) {
+        for _ in 0..self.random.below(self.between) {
             match self.traffic.next(&self.ahead) {
                 Call::Setup(_) => {}
                 call => self.single(&call)?,

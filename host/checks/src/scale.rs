@@ -2,7 +2,7 @@
 //! the time a call on such a state takes.
 
 use model::{size, Settings, Shape};
-use traffic::{Random, SHAPES};
+use traffic::{packet_bytes, Random, SHAPES};
 
 /// A switch's shape and its nodes a port.
 #[derive(Debug, Clone, Copy, PartialEq, Eq)]
@@ -12,6 +12,9 @@ pub struct Scale {
 }
 
 impl Scale {
+    /// So few nodes a port that packets can be kept: their memories are large.
+    pub const FEW_NODES: u32 = 16;
+
     pub const fn ten_bytes(nodes: u32) -> Scale {
         Scale {
             shape: Shape::TEN_BYTES,
@@ -49,6 +52,16 @@ impl Scale {
         self.bytes() + random.below(13 * self.shape.ports) as usize
     }
 
+    /// For how many nodes a port there is packet memory in a turn: every second of
+    /// those with the ten-byte header has it, if the nodes are few.
+    pub fn packets(&self, turn: u64) -> u32 {
+        let may = self.shape == Shape::TEN_BYTES && self.nodes <= Scale::FEW_NODES;
+        match may && turn % 4 == 0 {
+            true => self.nodes,
+            false => 0,
+        }
+    }
+
     /// About how long a call takes here, in nanoseconds: the library tests the
     /// map and walks all lists and nodes, traffic and model look at all lists,
     /// and the memory is copied and compared.
@@ -62,8 +75,18 @@ impl Scale {
     /// As many of something that makes calls as take about the time of so many on
     /// a small switch with the ten-byte header; at least one, and no more.
     pub fn share(&self, small: usize) -> usize {
+        self.share_with_packets(small, 0)
+    }
+
+    /// The same with packet memories for so many nodes a port: all their bytes are
+    /// compared too, and what is in the slots is shown.
+    pub fn share_with_packets(&self, small: usize, packets: u32) -> usize {
         let least = Scale::ten_bytes(1).cost();
-        (small * least / self.cost()).clamp(1, small)
+        let more = match packets {
+            0 => 0,
+            _ => packet_bytes(packets) / 8,
+        };
+        (small * least / (self.cost() + more)).clamp(1, small)
     }
 }
 

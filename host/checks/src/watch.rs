@@ -4,6 +4,9 @@
 
 use model::{Call, Ledger, ListKind, Packet, Reply};
 
+use traffic::Random;
+
+use crate::packets::Packets;
 use crate::{reader, Desk};
 
 /// How long a packet waited for something, in rounds, and the promised most.
@@ -142,6 +145,8 @@ impl Watch {
 pub struct Scene<'d, D> {
     desk: &'d D,
     memory: Vec<u8>,
+    /// To be lent in vain: no packets are kept here.
+    packets: Packets,
     /// Made and not refused.
     rounds: u32,
     pub watch: Option<Watch>,
@@ -171,6 +176,7 @@ impl<'d, D: Desk> Scene<'d, D> {
         Scene {
             desk,
             memory: vec![0; bytes],
+            packets: Packets::new(&mut Random::new(0), 0),
             rounds: 0,
             watch: None,
         }
@@ -185,11 +191,15 @@ impl<'d, D: Desk> Scene<'d, D> {
         self.memory.len()
     }
 
+    fn answer(&mut self, call: &Call) -> Result<Reply, String> {
+        self.desk.call(&mut self.memory, &mut self.packets, call)
+    }
+
     /// One call, and a look at the packet. The error is a promise broken.
     pub fn call(&mut self, call: &Call) -> Result<Reply, String> {
         let line = self.line_ahead(call)?;
         let before = self.rounds;
-        let reply = (self.desk)(&mut self.memory, call)?;
+        let reply = self.answer(call)?;
         self.rounds += u32::from(matches!(reply, Reply::Turns(_)));
         if let Some(mut watch) = self.watch.take() {
             if watch.left.is_none() {
@@ -294,7 +304,7 @@ impl<'d, D: Desk> Scene<'d, D> {
         let call = Call::Where {
             entry: entry.into(),
         };
-        match (self.desk)(&mut self.memory, &call)? {
+        match self.answer(&call)? {
             Reply::Found(list, position) => Ok((list, position)),
             other => Err(format!("{call:?} answers {other:?}")),
         }

@@ -1,8 +1,9 @@
 //! The same calls through the safe wrapper's typed answers.
 
-use model::{Call, ListKind, Packet, Reply, Side};
+use model::{Call, ListKind, Packet, Part, Reply, Side};
 use ventorupo::{EntryId, Refusal, RoundTurn, Settings, Switch, Turn};
 
+use crate::packets::Packets;
 use crate::tables::SETTINGS_END;
 use crate::{library, reader};
 
@@ -14,8 +15,18 @@ fn round_bytes(memory: &[u8]) -> usize {
     }
 }
 
-/// Make the call through a `Switch` that borrows this memory.
+/// Make the call through a `Switch` that borrows this memory, and on packet memories
+/// of its own if it is lent such.
 pub fn call(memory: &mut [u8], call: &Call) -> Result<Reply, String> {
+    with_packets(memory, &mut Packets::for_call(call), call)
+}
+
+/// The same on these packet memories.
+pub fn with_packets(
+    memory: &mut [u8],
+    packets: &mut Packets,
+    call: &Call,
+) -> Result<Reply, String> {
     let round_bytes = round_bytes(memory);
     let mut switch = Switch::over(&mut *memory);
     let reply = match call {
@@ -33,6 +44,15 @@ pub fn call(memory: &mut [u8], call: &Call) -> Result<Reply, String> {
             switch.setup_again(settings).map(|()| Reply::Done)
         }
         Call::Arrive { port, header } => switch.arrive(*port, header).map(entry),
+        Call::ArrivePacket { port, packet, lent } => {
+            let lent = packets.of_port(*port, *lent);
+            switch.arrive_packet(lent, *port, packet).map(entry)
+        }
+        Call::Show { port, queue, lent } => {
+            let lent = packets.all(lent);
+            let shown = switch.show(lent, *port, *queue);
+            shown.map(|shown| Reply::Shown(part(lent, shown)))
+        }
         Call::Stitch { port } => switch.stitch(*port).map(|record| {
             let mut bytes = Vec::new();
             bytes.extend(record.entry.0.to_be_bytes());
@@ -86,6 +106,21 @@ pub fn call(memory: &mut [u8], call: &Call) -> Result<Reply, String> {
 fn entry(id: EntryId) -> Reply {
     assert_eq!(id.port() * 2048 + id.index(), id.0);
     Reply::Entry(id.0)
+}
+
+/// Where a part lies: found by its address, since it must be no copy.
+fn part(lent: [&[u8]; 4], shown: &[u8]) -> Part {
+    let first = |bytes: &[u8]| bytes.as_ptr() as usize;
+    let owner = lent.iter().position(|memory| {
+        let end = first(memory) + memory.len();
+        (first(memory)..end).contains(&first(shown))
+    });
+    let owner = owner.expect("a part of a packet memory");
+    Part {
+        owner: owner as u32,
+        at: (first(shown) - first(lent[owner])) as u64,
+        length: shown.len() as u32,
+    }
 }
 
 fn turned(turn: Turn) -> Reply {

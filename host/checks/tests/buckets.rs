@@ -329,6 +329,7 @@ const TIMED: Plan = Plan {
     memory_len: 6616 + 52 * 4,
     calls: 20_000,
     ledger_every: 64,
+    packets: 0,
 };
 
 /// One less in this bucket of the port, and one more in that, where there is one.

@@ -30,6 +30,7 @@ fn run_profile<D: Desk>(
             memory_len: scale.bytes() + 7,
             calls: calls(&scale),
             ledger_every: 64,
+            packets: 0,
         };
         if let Err(failure) = run(&plan, desk, &mut counts) {
             panic!("{failure}");
@@ -115,6 +116,7 @@ fn full_pools(scale: Scale, times: u32) {
         memory_len: scale.bytes() + 7,
         calls: 0,
         ledger_every: 512,
+        packets: 0,
     };
     // The traffic looks at the model alone, so the run's length can be found
     // without the library.
@@ -295,6 +297,7 @@ fn memory_too_short_for_any_state() {
                 memory_len,
                 calls: 50,
                 ledger_every: 1,
+                packets: 0,
             };
             if let Err(failure) = run(&plan, &library::call, &mut counts) {
                 panic!("{failure}");
@@ -329,6 +332,20 @@ fn the_size_is_the_published_formula() {
     }
     for nodes in (0..5000).chain([65_536, 65_537, 1 << 31, u32::MAX]) {
         agrees(Settings::ten_bytes(nodes, 64, 1, 0));
+    }
+    // Packets stand outside of the state.
+    for nodes in [0, 1, 2, 256, 2048, 2049] {
+        for packets in (0..=300).chain([65_535, 65_536, 65_537, u32::MAX]) {
+            for settings in [
+                Settings::ten_bytes(nodes, 64, 1, 0),
+                Settings::wide(4, 24, nodes, 64, 1, 0),
+            ] {
+                agrees(Settings {
+                    packets,
+                    ..settings
+                });
+            }
+        }
     }
     // 0 where any setting is out of its row.
     let good = Settings::wide(8, 16, 100, 64, 8, 65_535);
@@ -386,6 +403,7 @@ fn damaged_memory_of_every_shape_is_judged_alike_by_all() {
                 profile,
                 scale,
                 damaged: 20,
+                packets: 0,
             };
             if let Err(failure) = damage::run(&plan, &library::call, &mut verdicts) {
                 panic!("{failure}");
@@ -406,6 +424,7 @@ const SLIPPERY: Plan = Plan {
     memory_len: 6616 + 52 * 4,
     calls: 20_000,
     ledger_every: 256,
+    packets: 0,
 };
 
 fn calls_that_remain<D: Desk>(desk: &D) -> Vec<Call> {

@@ -258,6 +258,7 @@ fn found<D: Desk>(desk: &D) -> bool {
         memory_len: Scale::ten_bytes(4).bytes(),
         calls: 20_000,
         ledger_every: 256,
+        packets: 0,
     };
     made(&plan, desk, &mut Counts::default()).is_err()
 }

@@ -85,8 +85,13 @@ fn words(reply: &Reply) -> String {
         Reply::Stitched(record) => format!("0 {}", u16::from_be_bytes([record[0], record[1]])),
         Reply::Idle => "0 idle".to_string(),
         Reply::Leaves(packet, _) => format!("0 {}", packet.entry),
-        Reply::Word(..) | Reply::Found(..) | Reply::Mark(_) | Reply::Count(_) | Reply::Turns(_) => {
-            unreachable!("no tag asks for ready, where, a mark, a bucket or a round")
+        Reply::Word(..)
+        | Reply::Found(..)
+        | Reply::Mark(_)
+        | Reply::Count(_)
+        | Reply::Turns(_)
+        | Reply::Shown(_) => {
+            unreachable!("no tag asks for ready, where, a mark, a bucket, a round or a packet")
         }
     }
 }

@@ -34,9 +34,16 @@ impl Bits {
     }
 }
 
+/// Where a header arrives, and of how many bytes its packet is if all of it comes.
+pub(crate) struct Arrival {
+    pub port: u32,
+    pub packet_bytes: Option<usize>,
+}
+
 /// The header in some bytes, for a shape in its rows: 6, 7, 20, 9, 19 and, where
-/// it arrives at a port, 8 after 20. The error is the refusal's number.
-pub(crate) fn judged(shape: &Shape, bytes: &[u8], port: Option<u32>) -> Result<Header, u8> {
+/// it arrives at a port, 8 after 20 and, of a whole packet, 16 after 9. The error
+/// is the refusal's number.
+pub(crate) fn judged(shape: &Shape, bytes: &[u8], arrival: Option<Arrival>) -> Result<Header, u8> {
     if bytes.len() != shape.header_bytes() {
         return Err(6);
     }
@@ -63,11 +70,15 @@ pub(crate) fn judged(shape: &Shape, bytes: &[u8], port: Option<u32>) -> Result<H
         return Err(20);
     }
     // A source that fits its field and is no port is nobody's.
-    if port.map_or(false, |port| port != source) {
+    if matches!(&arrival, Some(arrival) if arrival.port != source) {
         return Err(8);
     }
     if length < shape.shortest() {
         return Err(9);
+    }
+    let packet_bytes = arrival.and_then(|arrival| arrival.packet_bytes);
+    if packet_bytes.map_or(false, |bytes| bytes != length as usize) {
+        return Err(16);
     }
     if queue >= shape.queues {
         return Err(19);

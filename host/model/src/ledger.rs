@@ -4,10 +4,10 @@
 
 use std::collections::VecDeque;
 
-use crate::header;
+use crate::header::{self, Arrival};
 use crate::{
-    price, Choice, ListKind, Packet, Reply, Settings, Side, BUCKETS, DESTINATIONS,
-    ENTRIES_PER_PORT, MOST_CREDIT, PLACE_BYTES,
+    price, Choice, ListKind, Packet, Part, Reply, Settings, Side, BUCKETS, DESTINATIONS,
+    ENTRIES_PER_PORT, MOST_CREDIT, PACKET_MEMORIES, PLACE_BYTES, SLOT_BYTES,
 };
 
 /// What the ledger holds for one port. Lists run from the oldest (front) to
@@ -107,6 +107,26 @@ impl Ledger {
         }
     }
 
+    /// A call of the other kind is refused: with whole packets where the switch keeps
+    /// none, or with a header alone where it keeps them.
+    fn of_this_kind(&self, with_packets: bool) -> Result<(), u8> {
+        if with_packets == (self.settings.packets == 1) {
+            Ok(())
+        } else {
+            Err(24)
+        }
+    }
+
+    /// Is every packet memory of the one size that there is?
+    fn packet_memories(&self, lent: &[usize]) -> Result<(), u8> {
+        let size = self.settings.packet_memory();
+        if lent.iter().all(|&bytes| bytes == size) {
+            Ok(())
+        } else {
+            Err(17)
+        }
+    }
+
     /// What is recorded for a node; none if it is free or no node.
     pub fn packet(&self, entry: u16) -> Option<&Packet> {
         self.ports
@@ -122,10 +142,34 @@ impl Ledger {
             .expect("a node outside the free lists has a record")
     }
 
-    pub(crate) fn arrive(&mut self, port: u32, bytes: &[u8]) -> Result<Reply, u8> {
-        let p = self.port_in_range(port)?;
-        let header = header::judged(&self.settings.shape(), bytes, Some(port));
-        let at = &mut self.ports[p];
+    pub(crate) fn arrive(&mut self, port: u32, header: &[u8]) -> Result<u16, u8> {
+        self.of_this_kind(false)?;
+        self.port_in_range(port)?;
+        let packet_bytes = None;
+        self.take_in(header, Arrival { port, packet_bytes })
+    }
+
+    /// The packet's bytes are stored by the model, in the slot of the node that is
+    /// answered.
+    pub(crate) fn arrive_packet(
+        &mut self,
+        port: u32,
+        packet: &[u8],
+        lent: usize,
+    ) -> Result<u16, u8> {
+        self.of_this_kind(true)?;
+        self.packet_memories(&[lent])?;
+        self.port_in_range(port)?;
+        let header_bytes = self.settings.shape().header_bytes();
+        let header = packet.get(..header_bytes).ok_or(16)?;
+        let packet_bytes = Some(packet.len());
+        self.take_in(header, Arrival { port, packet_bytes })
+    }
+
+    /// A header that arrives at a port in range, by itself or with its packet.
+    fn take_in(&mut self, bytes: &[u8], arrival: Arrival) -> Result<u16, u8> {
+        let at = &mut self.ports[arrival.port as usize];
+        let header = header::judged(&self.settings.shape(), bytes, Some(arrival));
         // A header that lies halts the port where it came in; the first mark stays.
         if let (Err(number @ (7 | 8)), 0) = (&header, at.mark) {
             at.mark = *number;
@@ -152,7 +196,7 @@ impl Ledger {
         });
         at.arrival_credit[queue] -= price;
         at.ingress.push_back(entry);
-        Ok(Reply::Entry(entry))
+        Ok(entry)
     }
 
     pub(crate) fn stitch(&mut self, port: u32) -> Result<Reply, u8> {
@@ -172,12 +216,18 @@ impl Ledger {
         Ok(Reply::Stitched(record))
     }
 
-    pub(crate) fn prefetch(&mut self, port: u32, queue: u32) -> Result<Reply, u8> {
+    /// A queue of a port, both in range.
+    fn queue_in_range(&self, port: u32, queue: u32) -> Result<(usize, usize), u8> {
         let p = self.port_in_range(port)?;
-        if queue >= self.settings.queues {
-            return Err(5);
+        if queue < self.settings.queues {
+            Ok((p, queue as usize))
+        } else {
+            Err(5)
         }
-        let q = queue as usize;
+    }
+
+    pub(crate) fn prefetch(&mut self, port: u32, queue: u32) -> Result<Reply, u8> {
+        let (p, q) = self.queue_in_range(port, queue)?;
         let slots = self.settings.slots as usize;
         let at = &mut self.ports[p];
         if at.egress[q].is_empty() {
@@ -189,6 +239,25 @@ impl Ledger {
         let entry = at.egress[q].pop_front().ok_or(12)?;
         at.prefetch[q].push_back(entry);
         Ok(Reply::Entry(entry))
+    }
+
+    /// The oldest packet in the prefetch slots lies in its owner's packet memory, at
+    /// the start of its node's slot.
+    pub(crate) fn show(
+        &self,
+        port: u32,
+        queue: u32,
+        lent: &[usize; PACKET_MEMORIES],
+    ) -> Result<Reply, u8> {
+        self.of_this_kind(true)?;
+        self.packet_memories(lent)?;
+        let (p, q) = self.queue_in_range(port, queue)?;
+        let oldest = *self.ports[p].prefetch[q].front().ok_or(12)?;
+        Ok(Reply::Shown(Part {
+            owner: owner(oldest) as u32,
+            at: (index(oldest) * SLOT_BYTES) as u64,
+            length: self.recorded(oldest).length.into(),
+        }))
     }
 
     pub(crate) fn credit(&mut self, port: u32, queue: u32, amount: u32) -> Result<Reply, u8> {

@@ -1,8 +1,9 @@
 //! An independent model of the queue manager, written from papers 01 and 02
-//! (requests) alone.
+//! (requests) alone.
 //!
 //! The model keeps plain lists and numbers; it has no memory image. The
-//! caller's memory is only a length here, so that setup can refuse a short one.
+//! caller's memory is only a length here, so that setup can refuse a short one;
+//! of the ports' packet memories it keeps what packets have left in them.
 
 #![forbid(unsafe_code)]
 
@@ -13,12 +14,14 @@ pub mod header;
 pub mod ledger;
 mod runs;
 mod shape;
+mod stored;
 #[cfg(test)]
 mod tests;
 
 pub use ledger::{Ledger, Port};
 pub use runs::{Ran, Stop};
 pub use shape::{Settings, Shape, TEN_BYTES, WIDE};
+pub use stored::Stored;
 
 /// The most ports.
 pub const MOST_PORTS: u32 = 32;
@@ -37,6 +40,12 @@ pub const FOOTER: u32 = 2;
 /// The most that 13 bits of length can say.
 pub const LONGEST: u32 = 8191;
 
+/// The bytes of a node's slot in its port's packet memory.
+pub const SLOT_BYTES: usize = 8192;
+/// The packet memories: one for each port of a switch with the ten-byte header,
+/// which alone keeps packets.
+pub const PACKET_MEMORIES: usize = 4;
+
 /// The buckets of each port.
 pub const BUCKETS: usize = 33;
 
@@ -44,8 +53,8 @@ pub const BUCKETS: usize = 33;
 pub const PLACE_BYTES: usize = 8;
 
 /// The numbers of the refusals.
-pub const REFUSALS: [u8; 19] = [
-    1, 2, 3, 4, 5, 6, 7, 8, 9, 10, 11, 12, 13, 14, 15, 19, 20, 21, 27,
+pub const REFUSALS: [u8; 22] = [
+    1, 2, 3, 4, 5, 6, 7, 8, 9, 10, 11, 12, 13, 14, 15, 16, 17, 19, 20, 21, 24, 27,
 ];
 
 /// The calls. Numbers are wide, so that a caller can hand in any number.
@@ -103,6 +112,19 @@ pub enum Call {
     Round {
         room: Vec<u8>,
     },
+    /// A whole packet, with how many bytes of the port's packet memory are lent.
+    ArrivePacket {
+        port: u32,
+        packet: Vec<u8>,
+        lent: usize,
+    },
+    /// The oldest packet in a queue's slots, with how many bytes of each port's
+    /// packet memory are lent.
+    Show {
+        port: u32,
+        queue: u32,
+        lent: [usize; PACKET_MEMORIES],
+    },
 }
 
 /// The answers.
@@ -112,7 +134,7 @@ pub enum Reply {
     Refused(u8),
     /// Setup, credit, map and clear: accepted, no value.
     Done,
-    /// Arrive and prefetch: the entry id.
+    /// Arrive, with a header or a whole packet, and prefetch: the entry id.
     Entry(u16),
     /// Stitch: the ten-byte record.
     Stitched([u8; 10]),
@@ -130,6 +152,18 @@ pub enum Reply {
     Count(u32),
     /// Round: the bytes for each port's turn.
     Turns(Vec<u8>),
+    /// Show: where the packet lies.
+    Shown(Part),
+}
+
+/// A part of a port's packet memory.
+#[derive(Debug, Clone, Copy, PartialEq, Eq)]
+pub struct Part {
+    /// Whose memory it is.
+    pub owner: u32,
+    /// Its first byte.
+    pub at: u64,
+    pub length: u32,
 }
 
 /// Everything recorded for a node that isn't free, with its entry id.
@@ -181,7 +215,10 @@ pub const MARKS: [u8; 4] = [0, 7, 8, 18];
 /// before a call with what is after it; the model itself does not ask.
 pub fn marked(call: &Call, reply: &Reply) -> Option<(u32, u8)> {
     match (call, reply) {
-        (Call::Arrive { port, .. }, Reply::Refused(number @ (7 | 8))) => Some((*port, *number)),
+        (
+            Call::Arrive { port, .. } | Call::ArrivePacket { port, .. },
+            Reply::Refused(number @ (7 | 8)),
+        ) => Some((*port, *number)),
         _ => None,
     }
 }
@@ -206,12 +243,14 @@ pub fn price(length: u32, queue: u32, beat: u32) -> u32 {
     }
 }
 
-/// The queue manager: lent memory of some length, and the ledger, if any.
+/// The queue manager: lent memory of some length, and the ledger, if any; and what
+/// it has written into packet memories.
 #[derive(Debug, Clone, PartialEq, Eq)]
 pub struct Model {
     memory_len: usize,
     choice: Choice,
     ledger: Option<Ledger>,
+    stored: Stored,
 }
 
 impl Model {
@@ -226,6 +265,7 @@ impl Model {
             memory_len,
             choice,
             ledger: None,
+            stored: Stored::default(),
         }
     }
 
@@ -233,9 +273,8 @@ impl Model {
     /// The calls count on a sound one: ask `check` first.
     pub fn with_ledger(memory_len: usize, ledger: Ledger) -> Model {
         Model {
-            memory_len,
-            choice: Choice::default(),
             ledger: Some(ledger),
+            ..Model::new(memory_len)
         }
     }
 
@@ -257,6 +296,11 @@ impl Model {
     /// The ledger; none before the first accepted setup.
     pub fn ledger(&self) -> Option<&Ledger> {
         self.ledger.as_ref()
+    }
+
+    /// What whole packets have left in the packet memories.
+    pub fn stored(&self) -> &Stored {
+        &self.stored
     }
 
     /// The audit: every node's place, eight bytes each, into lent room. The
@@ -288,7 +332,7 @@ impl Model {
         match call {
             // Taken above: setup alone needs no ledger.
             Call::Setup(_) => unreachable!(),
-            Call::Arrive { port, header } => ledger.arrive(*port, header),
+            Call::Arrive { port, header } => ledger.arrive(*port, header).map(Reply::Entry),
             Call::Stitch { port } => ledger.stitch(*port),
             Call::Prefetch { port, queue } => ledger.prefetch(*port, *queue),
             Call::Credit {
@@ -305,6 +349,12 @@ impl Model {
             Call::TimedTurn { port, now } => ledger.timed_turn(*port, *now, self.choice),
             Call::Bucket { port, bucket } => ledger.bucket(*port, *bucket),
             Call::Round { room } => ledger.round(room.len(), self.choice),
+            Call::ArrivePacket { port, packet, lent } => {
+                let entry = ledger.arrive_packet(*port, packet, *lent)?;
+                self.stored.store(entry, packet);
+                Ok(Reply::Entry(entry))
+            }
+            Call::Show { port, queue, lent } => ledger.show(*port, *queue, lent),
         }
     }
 

@@ -93,8 +93,13 @@ fn told(reply: &Reply) -> [u8; ANSWER] {
         // The record begins with the entry id.
         Reply::Stitched(record) => [0, 0, record[0], record[1]],
         Reply::Leaves(packet, _) => done(packet.entry),
-        Reply::Word(..) | Reply::Found(..) | Reply::Mark(_) | Reply::Count(_) | Reply::Turns(_) => {
-            unreachable!("no field asks for ready, where, a mark, a bucket or a round")
+        Reply::Word(..)
+        | Reply::Found(..)
+        | Reply::Mark(_)
+        | Reply::Count(_)
+        | Reply::Turns(_)
+        | Reply::Shown(_) => {
+            unreachable!("no field asks for ready, where, a mark, a bucket, a round or a packet")
         }
     }
 }

@@ -1,6 +1,6 @@
 //! The shape of a switch: edition, ports and queues; and the settings.
 
-use crate::{FOOTER, MOST_CREDIT, MOST_NODES, MOST_PORTS, MOST_QUEUES};
+use crate::{FOOTER, MOST_CREDIT, MOST_NODES, MOST_PORTS, MOST_QUEUES, SLOT_BYTES};
 
 /// The edition of the ten-byte header.
 pub const TEN_BYTES: u32 = 0;
@@ -118,7 +118,7 @@ pub struct Settings {
     pub queues: u32,
     /// 0 for the ten-byte header, 1 for the wide ones.
     pub edition: u32,
-    /// Does the state keep packets? 0: not yet built.
+    /// 1 if the switch keeps packets, else 0.
     pub packets: u32,
 }
 
@@ -154,6 +154,16 @@ impl Settings {
         }
     }
 
+    /// The same, and the switch keeps packets.
+    pub const fn with_packets(self) -> Settings {
+        Settings { packets: 1, ..self }
+    }
+
+    /// The bytes of each port's packet memory.
+    pub const fn packet_memory(&self) -> usize {
+        self.nodes as usize * SLOT_BYTES
+    }
+
     pub const fn shape(&self) -> Shape {
         Shape {
             edition: self.edition,
@@ -164,11 +174,13 @@ impl Settings {
 
     /// Is every setting in its row of the papers' tables?
     pub fn in_their_rows(&self) -> bool {
+        // The ten-byte edition alone has packets.
+        let most_packets = u32::from(self.edition == TEN_BYTES);
         (1..=MOST_NODES).contains(&self.nodes)
             && [64, 128, 256, 512].contains(&self.beat)
             && (1..=8).contains(&self.slots)
             && self.credit <= MOST_CREDIT
             && self.shape().in_its_rows()
-            && self.packets == 0
+            && self.packets <= most_packets
     }
 }

@@ -3,6 +3,7 @@
 //! are in `wide`.
 
 mod halts;
+mod packets;
 mod runs;
 mod waits;
 mod wide;
@@ -105,7 +106,7 @@ impl Desk {
             let mark = &mut ledger.ports[port as usize].mark;
             *mark = if *mark == 0 { number } else { *mark };
         }
-        if let Reply::Refused(_) | Reply::Idle | Reply::Mark(_) = reply {
+        if let Reply::Refused(_) | Reply::Idle | Reply::Mark(_) | Reply::Shown(_) = reply {
             assert_eq!(self.0, left, "{call:?}");
         }
         assert_eq!(self.0.check(), Ok(()), "{call:?}");
@@ -540,6 +541,16 @@ fn everything_but_setup_is_refused_before_setup() {
         Call::Bucket {
             port: 9,
             bucket: 33,
+        },
+        Call::ArrivePacket {
+            port: 9,
+            packet: vec![],
+            lent: 1,
+        },
+        Call::Show {
+            port: 9,
+            queue: 24,
+            lent: [0, 1, 2, 3],
         },
     ] {
         assert_eq!(model.call(&call), Reply::Refused(3));
@@ -1045,6 +1056,7 @@ fn check_names_the_broken_rule() {
     }
     assert_eq!(broken(|l| l.settings.beat = 96), "(a)");
     assert_eq!(broken(|l| l.settings.nodes = 9), "(a)");
+    assert_eq!(broken(|l| l.settings.packets = 2), "(a)");
     assert_eq!(broken(|l| l.map[3] = 4), "(b)");
     assert_eq!(broken(|l| l.ports[2].last_served = 24), "(b)");
     assert_eq!(broken(|l| l.ports[2].outward_credit[9] = 65_536), "(b)");

@@ -11,12 +11,14 @@ mod acts;
 mod headers;
 mod mixes;
 mod night;
+mod packets;
 mod rounds;
 mod runs;
 mod sums;
 
 use std::time::Instant;
 
+use checks::packets::lends;
 use checks::tables::Tables;
 use checks::{library, writer};
 use model::{marked, size, Call, Choice, Model, Reply, Settings, Shape};
@@ -93,9 +95,10 @@ fn valid_traffic(
     (list, model)
 }
 
-/// All but setup, and but the round, which is timed by itself.
+/// All but setup, and but the round and those with packets, which are timed by
+/// themselves.
 fn single(call: &Call) -> bool {
-    !matches!(call, Call::Setup(_) | Call::Round { .. })
+    !matches!(call, Call::Setup(_) | Call::Round { .. }) && !lends(call)
 }
 
 /// Memory after traffic: nodes in many lists, in no particular order.
@@ -437,6 +440,9 @@ fn quick(memory: &mut [u8], call: &Call) -> u32 {
         Call::TimedTurn { port, now } => calls::timed_turn(memory, *port, *now, &mut [0; 16]),
         Call::Bucket { port, bucket } => calls::bucket(memory, *port, *bucket, &mut 0),
         Call::Round { .. } => calls::round(memory, &mut [0; MOST_TURNS]),
+        Call::ArrivePacket { .. } | Call::Show { .. } => {
+            unreachable!("{:?} is lent packet memories", call)
+        }
     }
 }
 
@@ -494,8 +500,8 @@ fn processor() -> String {
 }
 
 /// The parts, by the names under which they can be asked for.
-const PARTS: [&str; 9] = [
-    "checksum", "headers", "test", "night", "calls", "traffic", "acts", "round", "runs",
+const PARTS: [&str; 10] = [
+    "checksum", "headers", "packets", "test", "night", "calls", "traffic", "acts", "round", "runs",
 ];
 
 /// What is asked for: all parts, or those that the command line names.
@@ -525,6 +531,9 @@ fn main() {
     }
     if has("headers") {
         headers::each_form();
+    }
+    if has("packets") {
+        packets::stored();
     }
     for shape in SWITCHES {
         of_a_switch(shape, &has);

@@ -11,9 +11,9 @@ fn right_length(tag: u8) -> usize {
 }
 
 /// A call's tagged field: tag, length, value. None where no field can say it:
-/// ready, where, a round, clear, report, a timed turn and bucket have no tag, a field has no room for
-/// larger numbers, a setup's is of the ten-byte header, and an arrival's header is
-/// ten bytes.
+/// ready, where, a round, clear, report, a timed turn, bucket, a whole packet and
+/// show have no tag, a field has no room for larger numbers, a setup's is of the
+/// ten-byte header and of headers alone, and an arrival's header is ten bytes.
 pub fn field(call: &Call) -> Option<Vec<u8>> {
     let one = |number: u32| u8::try_from(number).ok();
     let two = |number: u32| Some(u16::try_from(number).ok()?.to_be_bytes());
@@ -59,7 +59,9 @@ pub fn field(call: &Call) -> Option<Vec<u8>> {
         | Call::Clear { .. }
         | Call::Report { .. }
         | Call::TimedTurn { .. }
-        | Call::Bucket { .. } => return None,
+        | Call::Bucket { .. }
+        | Call::ArrivePacket { .. }
+        | Call::Show { .. } => return None,
     };
     Some(tagged(tag, &value))
 }

@@ -43,6 +43,10 @@ impl Before {
         let ledger = model.ledger()?;
         let (port, arriving) = match call {
             Call::Arrive { port, header } => (*port, arriving(ledger, *port, header)),
+            Call::ArrivePacket { port, packet, .. } => {
+                let front = packet.len().min(ledger.settings.shape().header_bytes());
+                (*port, arriving(ledger, *port, &packet[..front]))
+            }
             Call::Clear { port } => (*port, None),
             _ => return None,
         };

@@ -6,6 +6,7 @@
 mod fields;
 mod halts;
 pub mod headers;
+mod packets;
 mod random;
 #[cfg(test)]
 mod tests;
@@ -13,6 +14,7 @@ mod tests;
 pub use fields::{field, run_calls, run_field, stream, tagged};
 pub use halts::{Before, Halts};
 pub use headers::{header, plain, SHAPES};
+pub use packets::{packet_bytes, whole, whole_of};
 pub use random::Random;
 
 use headers::{
@@ -21,7 +23,7 @@ use headers::{
 use model::header::Header;
 use model::{
     size, Call, Ledger, Model, Port, Settings, Shape, BUCKETS, DESTINATIONS, ENTRIES_PER_PORT,
-    LONGEST, MOST_CREDIT, MOST_NODES,
+    LONGEST, MOST_CREDIT, MOST_NODES, WIDE,
 };
 
 /// What kind of traffic.
@@ -109,9 +111,10 @@ enum Step {
     Report,
     TimedTurn,
     Bucket,
+    Show,
 }
 
-const STEPS: [Step; 13] = [
+const STEPS: [Step; 14] = [
     Step::Arrive,
     Step::Stitch,
     Step::Prefetch,
@@ -125,6 +128,7 @@ const STEPS: [Step; 13] = [
     Step::Report,
     Step::TimedTurn,
     Step::Bucket,
+    Step::Show,
 ];
 
 // Settings just beyond their rows, and some that a cut to a byte or two would
@@ -133,22 +137,26 @@ const WRONG_NODES: [u32; 8] = [0, 2049, 2368, 4160, 65_535, 65_537, 70_000, u32:
 const WRONG_BEATS: [u32; 10] = [0, 1, 32, 63, 65, 96, 192, 1024, 65_600, u32::MAX];
 const WRONG_SLOTS: [u32; 6] = [0, 9, 255, 257, 70_000, u32::MAX];
 const WRONG_CREDITS: [u32; 5] = [65_536, 65_537, 70_000, 1 << 31, u32::MAX];
-const WRONG_PACKETS: [u32; 6] = [1, 2, 255, 256, 65_536, u32::MAX];
+const WRONG_PACKETS: [u32; 8] = [2, 3, 255, 256, 257, 65_536, 65_537, u32::MAX];
 
-// The refusals at which a hostile call aims.
-const AIMS: [u32; 15] = [4, 5, 6, 7, 8, 9, 10, 11, 12, 13, 14, 15, 19, 20, 27];
+// The refusals at which a hostile call aims, where the switch keeps no packets and
+// where it does.
+const AIMS: [u32; 16] = [4, 5, 6, 7, 8, 9, 10, 11, 12, 13, 14, 15, 19, 20, 24, 27];
+const PACKET_AIMS: [u32; 17] = [
+    4, 5, 7, 8, 9, 10, 11, 12, 13, 14, 15, 16, 17, 19, 20, 24, 27,
+];
 
 impl Phase {
     /// How often each of the steps, in the order of `STEPS`. A clear is made seldom
     /// where no port is halted; where one is, often: else the lies among the calls
     /// would leave nothing but queue 0.
-    fn weights(self) -> [u32; 13] {
+    fn weights(self) -> [u32; 14] {
         match self {
-            Phase::Fill => [40, 24, 14, 5, 3, 3, 4, 5, 1, 8, 2, 3, 2],
-            Phase::Even => [20, 20, 20, 12, 3, 10, 4, 4, 2, 8, 2, 10, 3],
-            Phase::Drain => [5, 20, 25, 16, 1, 15, 3, 3, 2, 8, 2, 15, 3],
-            Phase::Flood => [60, 20, 10, 3, 2, 0, 2, 3, 0, 8, 1, 0, 1],
-            Phase::Ebb => [0, 24, 26, 20, 1, 14, 2, 2, 2, 8, 1, 14, 1],
+            Phase::Fill => [40, 24, 14, 5, 3, 3, 4, 5, 1, 8, 2, 3, 2, 4],
+            Phase::Even => [20, 20, 20, 12, 3, 10, 4, 4, 2, 8, 2, 10, 3, 8],
+            Phase::Drain => [5, 20, 25, 16, 1, 15, 3, 3, 2, 8, 2, 15, 3, 8],
+            Phase::Flood => [60, 20, 10, 3, 2, 0, 2, 3, 0, 8, 1, 0, 1, 4],
+            Phase::Ebb => [0, 24, 26, 20, 1, 14, 2, 2, 2, 8, 1, 14, 1, 6],
         }
     }
 }
@@ -171,6 +179,9 @@ pub struct Traffic {
     calls_left_in_phase: u32,
     /// Most arrivals go to these queues, so that some lists get long.
     busy_queues: Vec<u32>,
+    /// For how many nodes a port there is packet memory; of none no setup keeps
+    /// packets.
+    packet_nodes: u32,
 }
 
 impl Traffic {
@@ -188,6 +199,16 @@ impl Traffic {
             phase: Phase::Fill,
             calls_left_in_phase: 0,
             busy_queues: Vec::new(),
+            packet_nodes: 0,
+        }
+    }
+
+    /// With packet memory for so many nodes a port: most setups keep packets, if the
+    /// header has ten bytes.
+    pub fn with_packets(self, nodes: u32) -> Traffic {
+        Traffic {
+            packet_nodes: nodes,
+            ..self
         }
     }
 
@@ -299,7 +320,7 @@ impl Traffic {
             Profile::Brim => (most, r.among(1, 8), MOST_CREDIT),
         };
         let beat = r.pick(&[64, 128, 256, 512]);
-        Settings::of(shape, nodes.min(most), beat, slots, credit)
+        self.keeping(Settings::of(shape, nodes.min(most), beat, slots, credit))
     }
 
     /// A setup; one in three is meant to be refused where the profile is for it.
@@ -335,6 +356,7 @@ impl Traffic {
                 1 => settings.beat = r.pick(&WRONG_BEATS),
                 2 => settings.slots = r.pick(&WRONG_SLOTS),
                 3 => settings.credit = r.pick(&WRONG_CREDITS),
+                4 if settings.edition == WIDE && r.one_in(2) => settings.packets = 1,
                 4 => settings.packets = r.pick(&WRONG_PACKETS),
                 5 => {
                     let Shape {
@@ -408,6 +430,7 @@ impl Traffic {
             }),
             Step::TimedTurn => Some(self.timed_turn(ledger)),
             Step::Bucket => Some(self.bucket(ledger)),
+            Step::Show => self.show(ledger),
         }
     }
 
@@ -502,13 +525,14 @@ impl Traffic {
 
     /// A length up to a most, with the edges of beats often.
     fn length(&mut self, shape: &Shape, most: u32, beat: u32) -> u32 {
-        let wanted = match self.random.below(8) {
+        let wanted = match self.random.below(10) {
             0 => shape.shortest(),
             1 => shape.shortest() + 1,
             2 => most,
             3 => beat * self.random.below(most / beat + 1),
             4 => beat * self.random.below(most / beat + 1) + 1,
-            5 => self.random.below(most + 1),
+            5 => beat * self.random.among(1, most / beat + 1) - 1,
+            6 => self.random.below(most + 1),
             // Mostly small, so that credit lasts for some packets.
             _ => self.random.below(4 * beat),
         };
@@ -570,7 +594,7 @@ impl Traffic {
         }
         let length = self.length(&shape, most, beat);
         let header = self.header(&shape, port, queue, length);
-        Some(Call::Arrive { port, header })
+        Some(self.arrival(ledger, port, header))
     }
 
     fn stitch(&mut self, ledger: &Ledger) -> Option<Call> {
@@ -712,7 +736,10 @@ impl Traffic {
         if self.random.one_in(7) {
             return self.anything(ledger);
         }
-        let aim = self.random.pick(&AIMS);
+        let aim = match ledger.settings.packets {
+            0 => self.random.pick(&AIMS),
+            _ => self.random.pick(&PACKET_AIMS),
+        };
         self.aimed(aim, ledger)
     }
 
@@ -765,11 +792,11 @@ impl Traffic {
             4 => {
                 let port = self.beyond(ports);
                 let queue = self.random.below(queues);
-                match self.random.below(11) {
-                    0 => Call::Arrive {
-                        port,
-                        header: self.header(&shape, port % ports, queue, shape.shortest()),
-                    },
+                match self.random.below(12) {
+                    0 => {
+                        let header = self.header(&shape, port % ports, queue, shape.shortest());
+                        self.arrival(ledger, port, header)
+                    }
                     1 => Call::Stitch { port },
                     2 => Call::Prefetch { port, queue },
                     3 => Call::Credit {
@@ -793,13 +820,23 @@ impl Traffic {
                         port,
                         bucket: self.random.below(2 * BUCKETS as u32),
                     },
+                    10 if ledger.settings.packets == 1 => Call::Show {
+                        port,
+                        queue: self.random.below(2 * queues),
+                        lent: self.right_sizes(ledger),
+                    },
                     _ => Call::Ready { port },
                 }
             }
             5 => {
                 let queue = self.beyond(queues);
-                match self.random.below(4) {
+                match self.random.below(5) {
                     0 => Call::Prefetch { port, queue },
+                    4 if ledger.settings.packets == 1 => Call::Show {
+                        port,
+                        queue,
+                        lent: self.right_sizes(ledger),
+                    },
                     1 => Call::Credit {
                         port,
                         queue,
@@ -816,10 +853,14 @@ impl Traffic {
                     },
                 }
             }
-            6 => Call::Arrive {
-                port,
-                header: self.header_of_another_size(&shape, port),
-            },
+            6 => {
+                let header = self.header_of_another_size(&shape, port);
+                Call::Arrive { port, header }
+            }
+            16 if self.random.one_in(4) => self.any_packet(ledger, port),
+            16 => self.wrong_count(ledger, port),
+            17 => self.wrong_size(ledger, port),
+            24 => self.other_kind(ledger),
             7 => {
                 let queue = self.written_queue(&shape);
                 let reserved = match self.random.one_in(4) {
@@ -830,26 +871,26 @@ impl Traffic {
                 let mut header = self.header_with(&shape, port, queue, length, reserved);
                 let byte = self.random.below(header.len() as u32) as usize;
                 header[byte] ^= 1 << self.random.below(8);
-                Call::Arrive { port, header }
+                self.arrival(ledger, port, header)
             }
             8 => {
                 let source = self.other_source(&shape, port);
                 let queue = self.written_queue(&shape);
                 let length = self.any_length(&shape);
                 let header = self.header(&shape, source, queue, length);
-                Call::Arrive { port, header }
+                self.arrival(ledger, port, header)
             }
             9 => {
                 let queue = self.written_queue(&shape);
                 let length = self.random.below(shape.shortest());
                 let header = self.header(&shape, port, queue, length);
-                Call::Arrive { port, header }
+                self.arrival(ledger, port, header)
             }
             19 => {
                 let queue = made_up_queue(&mut self.random, &shape).unwrap_or(queues - 1);
                 let length = self.random.among(shape.shortest(), LONGEST);
                 let header = self.header(&shape, port, queue, length);
-                Call::Arrive { port, header }
+                self.arrival(ledger, port, header)
             }
             20 => {
                 // Alone, or beside faults that are tested later.
@@ -862,7 +903,7 @@ impl Traffic {
                 let length = self.any_length(&shape);
                 let reserved = reserved_bits(&mut self.random, &shape).unwrap_or(0);
                 let header = self.header_with(&shape, source, queue, length, reserved);
-                Call::Arrive { port, header }
+                self.arrival(ledger, port, header)
             }
             10 if self.random.one_in(3) => {
                 // At a halted port, if there is one, with credit in hand if there is any.
@@ -872,7 +913,7 @@ impl Traffic {
                     .max_by_key(|&queue| credit[queue as usize])
                     .unwrap();
                 let header = self.header(&shape, port, queue, shape.shortest());
-                Call::Arrive { port, header }
+                self.arrival(ledger, port, header)
             }
             10 => {
                 // The queue with the least credit, and just above it if it can be.
@@ -892,7 +933,7 @@ impl Traffic {
                     _ => least,
                 };
                 let header = self.header(&shape, port, queue, length);
-                Call::Arrive { port, header }
+                self.arrival(ledger, port, header)
             }
             11 => {
                 // The port with the fewest free nodes, at a price that is covered.
@@ -901,7 +942,10 @@ impl Traffic {
                     .unwrap();
                 let queue = self.covered_queue(ledger, port);
                 let header = self.header(&shape, port, queue, shape.shortest());
-                Call::Arrive { port, header }
+                self.arrival(ledger, port, header)
+            }
+            12 if ledger.settings.packets == 1 && self.random.one_in(3) => {
+                self.nothing_to_show(ledger)
             }
             12 => {
                 let queue = self.random.below(queues);
@@ -1018,11 +1062,17 @@ impl Traffic {
         } else {
             self.random.below(queues)
         };
-        match self.random.below(17) {
+        match self.random.below(20) {
             0..=4 => {
                 let header = self.any_header(&ledger.settings.shape(), port);
-                Call::Arrive { port, header }
+                self.arrival(ledger, port, header)
             }
+            17 | 18 => self.any_packet(ledger, port),
+            19 => Call::Show {
+                port,
+                queue,
+                lent: self.any_sizes(ledger),
+            },
             5 => Call::Stitch { port },
             6 => Call::Prefetch { port, queue },
             7 => Call::Credit {

@@ -2,7 +2,7 @@ use std::collections::BTreeMap;
 
 use model::bench::bench;
 use model::header::{read, write, Header};
-use model::{marked, size, Call, Choice, Model, Reply, Settings, Shape, Stop, REFUSALS};
+use model::{marked, size, Call, Choice, Ledger, Model, Reply, Settings, Shape, Stop, REFUSALS};
 
 use crate::fields::calls;
 use crate::headers::{
@@ -10,7 +10,7 @@ use crate::headers::{
 };
 use crate::{
     field, header, plain, run_calls, run_field, stream, Before, Halts, Profile, Random, Traffic,
-    SHAPES,
+    PACKET_AIMS, SHAPES,
 };
 
 /// How often each answer came. Refusals by their numbers.
@@ -39,21 +39,20 @@ fn name(call: &Call, reply: &Reply) -> &'static str {
         (Call::TimedTurn { .. }, Reply::Idle) => "idle timed turn",
         (Call::TimedTurn { .. }, _) => "timed turn",
         (Call::Bucket { .. }, _) => "bucket",
+        (Call::ArrivePacket { .. }, _) => "whole packet",
+        (Call::Show { .. }, _) => "show",
     }
 }
 
-/// What a call that moves nothing leaves of a model: all of it but, where a header
+/// What a call that moves nothing leaves of a ledger: all of it but, where a header
 /// lied, the mark of a port that had none.
-fn left(before: &Model, call: &Call, reply: &Reply) -> Model {
-    let mut ledger = match before.ledger() {
-        Some(ledger) => ledger.clone(),
-        None => return before.clone(),
-    };
+fn left(before: &Ledger, call: &Call, reply: &Reply) -> Ledger {
+    let mut ledger = before.clone();
     if let Some((port, number)) = marked(call, reply) {
         let mark = &mut ledger.ports[port as usize].mark;
         *mark = if *mark == 0 { number } else { *mark };
     }
-    Model::with_ledger(before.memory_len(), ledger)
+    ledger
 }
 
 /// 200,000 calls of a profile, over some seeds, with the ten-byte header.
@@ -61,12 +60,24 @@ fn run(profile: Profile, memory_len: usize) -> Counts {
     run_shape(profile, Shape::TEN_BYTES, memory_len, 25_000)
 }
 
-/// So many calls eight times over. Both choices of the turn answer the same, the
-/// check holds, and a refusal changes nothing but a mark.
+/// So many calls eight times over, with no packets.
 fn run_shape(profile: Profile, shape: Shape, memory_len: usize, calls: usize) -> Counts {
+    run_traffic(profile, memory_len, calls, |seed| {
+        Traffic::of(seed, profile, shape)
+    })
+}
+
+/// Both choices of the turn answer the same, the check holds, and a refusal changes
+/// nothing but a mark.
+fn run_traffic(
+    profile: Profile,
+    memory_len: usize,
+    calls: usize,
+    traffic: impl Fn(u64) -> Traffic,
+) -> Counts {
     let mut counts = Counts::default();
     for seed in 0..8 {
-        let mut traffic = Traffic::of(seed, profile, shape);
+        let mut traffic = traffic(seed);
         let mut whole = Model::with_choice(memory_len, Choice::WholeWord);
         let mut early = Model::with_choice(memory_len, Choice::EarlyOut);
         for number in 0..calls {
@@ -80,21 +91,26 @@ fn run_shape(profile: Profile, shape: Shape, memory_len: usize, calls: usize) ->
                 Reply::Refused(refusal) => counts.refused[refusal as usize] += 1,
                 _ => *counts.accepted.entry(name(&call, &reply)).or_default() += 1,
             }
-            let nothing = matches!(reply, Reply::Refused(_) | Reply::Idle | Reply::Mark(_));
+            let nothing = matches!(
+                reply,
+                Reply::Refused(_) | Reply::Idle | Reply::Mark(_) | Reply::Shown(_)
+            );
             if let (Some(before), true) = (before, nothing) {
-                assert_eq!(whole, left(&before, &call, &reply), "{call:?}");
+                let wanted = before.ledger().map(|ledger| left(ledger, &call, &reply));
+                assert_eq!(whole.ledger(), wanted.as_ref(), "{call:?}");
+                assert_eq!(whole.stored(), before.stored(), "{call:?}");
             }
             if number % 100 == 0 {
                 assert_eq!(
                     whole.check(),
                     Ok(()),
-                    "{profile:?} {shape:?}, seed {seed}, call {number}"
+                    "{profile:?}, seed {seed}, call {number}"
                 );
                 assert_eq!(whole.ledger(), early.ledger());
             }
         }
     }
-    println!("{profile:?} {shape:?}: {:?}", counts.accepted);
+    println!("{profile:?}: {:?}", counts.accepted);
     println!("  refused 1 to 27: {:?}", &counts.refused[1..]);
     println!("  {}", counts.halts);
     counts
@@ -108,7 +124,8 @@ fn each_refusal_at_least(counts: &Counts, least: u64) {
     refusals_of_shape_at_least(&Shape::TEN_BYTES, counts, least);
 }
 
-/// But for those that no arrival of the shape can be given, and the writer's.
+/// But for those that no arrival of the shape can be given, those of switches that
+/// keep packets, and the writer's.
 fn refusals_of_shape_at_least(shape: &Shape, counts: &Counts, least: u64) {
     let random = &mut Random::new(0);
     for refusal in REFUSALS.into_iter().filter(|&refusal| refusal > 3) {
@@ -116,7 +133,7 @@ fn refusals_of_shape_at_least(shape: &Shape, counts: &Counts, least: u64) {
         let can_be = match refusal {
             19 => made_up_queue(random, shape).is_some(),
             20 => reserved_bits(random, shape).is_some(),
-            21 => false,
+            16 | 17 | 21 => false,
             _ => true,
         };
         let enough = if can_be { times >= least } else { times == 0 };
@@ -189,6 +206,37 @@ fn resetup_traffic() {
     each_refusal_at_least(&counts, 200);
     assert!(counts.accepted["setup"] > 1000);
     assert!(counts.refused[1] > 100 && counts.refused[2] > 100);
+}
+
+/// Every profile with packet memories: whole packets are taken in and shown, and all
+/// that they can be refused is; of the few states that keep none come headers too.
+#[test]
+fn traffic_with_whole_packets() {
+    let memory_len = size(&Settings::ten_bytes(6, 64, 1, 0));
+    let mut all = Counts::default();
+    for profile in Profile::ALL {
+        let counts = run_traffic(profile, memory_len, 2_000, |seed| {
+            Traffic::new(seed, profile).with_packets(6)
+        });
+        for call in ["whole packet", "show", "stitch", "prefetch", "turn"] {
+            let times = counts.accepted.get(call).copied().unwrap_or(0);
+            assert!(times >= 100, "{profile:?}, {call}: {times} times");
+        }
+        if profile == Profile::Hostile {
+            for refusal in PACKET_AIMS {
+                let times = counts.refused[refusal as usize];
+                assert!(times >= 100, "refusal {refusal}: {times} times");
+            }
+            assert_eq!(counts.halts.too_rare(20), []);
+        }
+        for (all, refused) in all.refused.iter_mut().zip(counts.refused) {
+            *all += refused;
+        }
+    }
+    for refusal in REFUSALS.into_iter().filter(|&refusal| refusal != 21) {
+        let times = all.refused[refusal as usize];
+        assert!(times >= 20, "refusal {refusal}: {times} times");
+    }
 }
 
 /// Every profile at every shape: all that can be answered is.
@@ -431,13 +479,22 @@ fn fields_have_no_room_for_larger_numbers() {
     assert_eq!(field(&Call::Bucket { port: 0, bucket: 0 }), None);
     for settings in [
         Settings::wide(4, 24, 1, 64, 1, 0),
-        Settings {
-            packets: 1,
-            ..Settings::ten_bytes(1, 64, 1, 0)
-        },
+        Settings::ten_bytes(1, 64, 1, 0).with_packets(),
     ] {
         assert_eq!(field(&Call::Setup(settings)), None);
     }
+    let packet = Call::ArrivePacket {
+        port: 0,
+        packet: vec![0; 10],
+        lent: 8192,
+    };
+    assert_eq!(field(&packet), None);
+    let show = Call::Show {
+        port: 0,
+        queue: 0,
+        lent: [8192; 4],
+    };
+    assert_eq!(field(&show), None);
     let nine = Call::Arrive {
         port: 0,
         header: vec![0; 9],

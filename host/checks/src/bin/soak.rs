@@ -1,13 +1,14 @@
 //! `soak [CALLS [SEED]]`: so many calls of the library beside the model, a quarter
 //! as many again in runs, and a damaged memory for each 50 of them, with what the
-//! night crew asks of it, on switches of every shape and on all processors.
+//! night crew asks of it, on switches of every shape, with whole packets on some, and
+//! on all processors.
 
 use std::time::Instant;
 
 use checks::counts::Counts;
 use checks::damage::{self, Verdicts};
 use checks::program::{fail, say, Words};
-use checks::runs::{self, Tally};
+use checks::runs::{self, Tally, OTHER_KIND};
 use checks::workers::{in_parts, on_all_processors};
 use checks::{library, run};
 
@@ -23,6 +24,8 @@ const CALLS_FOR_A_FIELD: u64 = 4;
 const MANY_CALLS: u64 = 200_000;
 const CALLS_FOR_AN_ANSWER: u64 = 1000;
 const CALLS_FOR_1_TO_3: u64 = 10_000;
+const CALLS_FOR_AN_ANSWER_WITH_PACKETS: u64 = 20_000;
+const CALLS_FOR_3_WITH_PACKETS: u64 = 200_000;
 const CALLS_FOR_A_FIELDS_ANSWER: u64 = 50_000;
 const CALLS_FOR_A_WAY: u64 = 100_000;
 const CALLS_FOR_A_HALT: u64 = 5_000;
@@ -51,9 +54,9 @@ fn compared(seed: u64, calls: u64) -> Counts {
     let counts = on_all_processors(
         "differential run",
         plans.len() as u64,
-        Counts::default(),
+        Counts::with_packets(),
         |run| {
-            let mut counts = Counts::default();
+            let mut counts = Counts::with_packets();
             match run::run(&plans[run as usize], &library::call, &mut counts) {
                 Ok(()) => Ok(counts),
                 Err(failure) => Err(format!("{failure}")),
@@ -140,13 +143,21 @@ fn main() {
     if !rare.is_empty() || !counts.each_call_at_least(least) {
         fail(format!("too rare to count, refusal and times: {rare:?}"));
     }
+    let rare = counts.whole.too_rare(
+        calls / CALLS_FOR_3_WITH_PACKETS,
+        calls / CALLS_FOR_AN_ANSWER_WITH_PACKETS,
+    );
+    if !rare.is_empty() {
+        fail(format!("too rarely answered where packets are: {rare:?}"));
+    }
     let rare = counts.halts.too_rare(calls / CALLS_FOR_A_HALT);
     if !rare.is_empty() {
         fail(format!("too rarely seen of halted ports: {rare:?}"));
     }
-    let rare = tally.too_rare(calls / CALLS_FOR_A_FIELDS_ANSWER);
-    if !rare.is_empty() {
-        fail(format!("too rare in runs: {rare:?}"));
+    let least = calls / CALLS_FOR_A_FIELDS_ANSWER;
+    let rare = tally.too_rare(least);
+    if !rare.is_empty() || tally.refused(OTHER_KIND) < least {
+        fail(format!("too rare in runs: {rare:?}, or {OTHER_KIND}"));
     }
     let rare = verdicts.too_rare(calls / CALLS_FOR_A_WAY);
     if !rare.is_empty() {

@@ -35,6 +35,7 @@ fn runs_of_any_traffic_agree_with_the_model() {
                     profile,
                     scale,
                     fields: scale.share(5_000),
+                    packets: 0,
                 };
                 tally.add(&all(&plan, PROVED).unwrap());
             }
@@ -65,6 +66,7 @@ fn runs_of_1_to_100_000_fields_agree_with_the_model() {
             profile: profiles[number % 3],
             scale,
             fields: 0,
+            packets: 0,
         };
         let mut runs = Runs::begun(&plan, PROVED).unwrap();
         for fields in lengths.into_iter().chain([most]) {
@@ -88,6 +90,7 @@ fn the_wrappers_runs_agree_with_the_model() {
                 profile,
                 scale,
                 fields: scale.share(5_000),
+                packets: 0,
             };
             all(&plan, WRAPPED).unwrap();
         }

@@ -149,6 +149,7 @@ fn found(run: Run, seed: u64) -> Result<(), String> {
             nodes: 4,
         },
         fields: 20_000,
+        packets: 0,
     };
     all(&plan, run).map(|_| ())
 }

@@ -284,14 +284,16 @@ fn editions_ports_and_queues_have_their_rows() {
             }
         }
     }
-    for packets in [1, 2, 255, 256, 65_536, u32::MAX] {
-        for good in [
-            Settings::ten_bytes(1, 64, 1, 0),
-            Settings::wide(4, 24, 1, 64, 1, 0),
-        ] {
+    // Of the ten-byte edition alone one that keeps packets.
+    let ten = Settings::ten_bytes(1, 64, 1, 0);
+    let wide = Settings::wide(4, 24, 1, 64, 1, 0);
+    for packets in [2, 3, 255, 256, 257, 65_536, 65_537, u32::MAX] {
+        for good in [ten, wide] {
             assert_eq!(desk.setup(Settings { packets, ..good }), Reply::Refused(2));
         }
     }
+    assert_eq!(desk.setup(wide.with_packets()), Reply::Refused(2));
+    assert_eq!(desk.setup(ten.with_packets()), Reply::Done);
 }
 
 // The size.
