@@ -73,7 +73,7 @@
  * memory that one of them may change. And each port's packet memory is the same one at every call: that another port's is lent, or other
  * bytes of the same size, can't be noticed, and then a packet is stored and shown where it isn't looked for.
  *
- * A call takes up to 25,902 bytes of stack, a finding up to 33,486, whatever the settings (measured on x86-64 by tools/stack.c, not proved):
+ * A call takes up to 26,046 bytes of stack, a finding up to 33,486, whatever the settings (measured on x86-64 by tools/stack.c, not proved):
  * the test for a state keeps a bit for each of up to 65,536 nodes there, and a sum for each port and queue but 0.
  *
  * Numbers, and structs of numbers, are the machine's own; the rooms of bytes and the fields of a run are big-endian.
