@@ -4,8 +4,8 @@
 //! Every public call but setup, the finding, the repair and those on headers
 //! first tests whether the memory is a state. That test by itself, the acts
 //! without it, and the checksum are timed too, from archives of their own. All
-//! but the checksum is timed on switches with ten-byte headers, and then on the
-//! largest, with 32 ports and 64 queues.
+//! but the checksum is timed on switches with ten-byte headers, and then, but for
+//! whole packets, on the largest, with 32 ports and 64 queues.
 
 mod acts;
 mod headers;

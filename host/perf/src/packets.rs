@@ -109,17 +109,26 @@ impl Switch {
     }
 }
 
+/// What one adds beside what the other adds, where that can be told: not where it is
+/// less than a hundredth of the arrival.
+fn ratio(without: f64, stored: f64, copied: f64) -> String {
+    match copied < without / 100.0 {
+        true => "too little to tell".into(),
+        false => format!("{:.2}", stored / copied),
+    }
+}
+
 pub fn stored() {
-    println!("### What storing adds to the arrival of a packet, ns\n");
-    println!("| bytes | arrival of {SHORTEST} | stored: more than that | {SHORTEST}, and memcpy behind: more | ratio |");
+    println!("### Storing a packet, beside memcpy into the same slots, ns\n");
+    println!("| bytes | arrival of {SHORTEST} | more, if they arrive | more, by memcpy behind it | ratio |");
     println!("|---|---|---|---|---|");
     let mut switch = Switch::new();
     for length in LENGTHS {
         let [without, stored, copied] = switch.each(length);
         let (stored, copied) = (stored - without, copied - without);
         println!(
-            "| {length} | {without:.0} | {stored:.1} | {copied:.1} | {:.2} |",
-            stored / copied
+            "| {length} | {without:.0} | {stored:.1} | {copied:.1} | {} |",
+            ratio(without, stored, copied)
         );
     }
     println!();
