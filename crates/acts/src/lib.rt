@@ -1,15 +1,20 @@
-// The acts without the test, for benchmarks alone: on a memory that is known to be a switch state, each does what the public call does.
+// The acts without the test, for benchmarks alone: on a memory that is known to be a switch state, each does what the public call does. And
+// the storing of a packet by itself.
 // A caller from C has to know it: these are no part of the public surface.
 use layout::Shape;
+use ledger::EntryId;
 use ledger::Load;
 use ranges::Opened;
 ghost use mathlib.Core.Path.{_≡_};
 ghost use mathlib.Core.List.{List};
-ghost use Prim.Native.Nat.{ℕ};
+ghost use Prim.Native.Nat.{ℕ, _+_, _≤_};
+ghost use lib.ListN.{length};
+ghost use Rattle.ledger.specs.Settings.{slotBytes};
 ghost use Rattle.ledger.specs.Buckets.{untimed};
 ghost use Rattle.ledger.specs.Header.{alone};
 ghost use Rattle.ledger.specs.Calls.{arrive, stitch, prefetch, credit, turn};
 ghost use Rattle.ledger.specs.Desk.{act};
+ghost use Rattle.ledger.specs.Packets.{slotAt, stored};
 ghost use Rattle.layout.specs.Picture.{State};
 ghost use Rattle.memory.specs.Judged.{Works};
 ghost use Rattle.memory.specs.Memory.{M};
@@ -77,4 +82,13 @@ pub extern "C" fn act_turn(mem: &mut [u8], port: u32, sent: &mut [u8; 16]) -> u3
 {
     let s = shape(mem);
     rooms::put_sent(turns::turn(mem, s, port), sent)
+}
+
+// What an arrival of a whole packet does beside: the packet stored in its node's slot.
+#[no_mangle]
+pub extern "C" fn act_keep(packets: &mut [u8], entry: u16, packet: &[u8])
+    requires { ⌜ (slotAt entry + slotBytes ≤ length (now packets)) × (length (now packet) ≤ slotBytes) ⌝ }
+    ensures { λ _. ⌜ now (packets .exit) ≡ stored (slotAt entry) (now (packet .entry)) (now (packets .entry)) ⌝ }
+{
+    packets::keep(packets, EntryId(entry), packet)
 }

@@ -21,10 +21,18 @@ mod c {
         ) -> u32;
         pub fn act_credit(mem: *mut u8, len: usize, port: u32, queue: u32, amount: u32) -> u32;
         pub fn act_turn(mem: *mut u8, len: usize, port: u32, sent: *mut u8) -> u32;
+        pub fn act_keep(
+            packets: *mut u8,
+            packets_len: usize,
+            entry: u16,
+            packet: *const u8,
+            packet_len: usize,
+        );
     }
 }
 
 use model::Call;
+use ventorupo::SLOT_BYTES;
 
 /// Whether a call has an act of its own here.
 pub fn has_act(call: &Call) -> bool {
@@ -60,5 +68,22 @@ pub unsafe fn act(memory: &mut [u8], call: &Call) -> u32 {
         } => c::act_credit(mem, len, *port, *queue, *amount),
         Call::Turn { port } => c::act_turn(mem, len, *port, [0; 16].as_mut_ptr()),
         _ => unreachable!("{:?} has no act", call),
+    }
+}
+
+/// Stores a packet in the slot of a node of port 0, as its arrival does.
+pub fn keep(packets: &mut [u8], node: u16, packet: &[u8]) {
+    let end = (usize::from(node) + 1) * SLOT_BYTES;
+    assert!(node < 2048 && end <= packets.len() && packet.len() <= SLOT_BYTES);
+    // Sound: two slices with their lengths, apart; the slot lies in the first, and
+    // the packet is no longer than a slot, as the act asks.
+    unsafe {
+        c::act_keep(
+            packets.as_mut_ptr(),
+            packets.len(),
+            node,
+            packet.as_ptr(),
+            packet.len(),
+        )
     }
 }

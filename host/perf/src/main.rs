@@ -533,6 +533,7 @@ fn main() {
         headers::each_form();
     }
     if has("packets") {
+        packets::by_itself();
         packets::stored();
     }
     for shape in SWITCHES {

@@ -1,11 +1,12 @@
-//! What storing a packet adds to its arrival, beside what memcpy adds to the same
-//! arrival.
+//! Storing a packet beside memcpy: by itself, and what it adds to an arrival.
 
 use model::{size, Settings, Shape};
 use traffic::{plain, whole_of, Random};
 use ventorupo::{calls, SLOT_BYTES};
 
-use crate::{numbers, timed};
+use std::hint::black_box;
+
+use crate::{acts, numbers, timed};
 
 /// The shortest packet: what a longer one adds is counted from here.
 const SHORTEST: usize = 12;
@@ -116,6 +117,44 @@ fn ratio(without: f64, stored: f64, copied: f64) -> String {
         true => "too little to tell".into(),
         false => format!("{:.2}", stored / copied),
     }
+}
+
+/// Nanoseconds of one packet into each of some slots, at its best.
+fn into_slots(length: usize, store: impl Fn(&mut [u8], u16, &[u8])) -> f64 {
+    let packet = &of_length(length)[0];
+    let mut slots = vec![0; NODES as usize * SLOT_BYTES];
+    let mut least = f64::INFINITY;
+    for _ in 0..SAMPLES {
+        let spent = timed(|| {
+            for node in 0..NODES as u16 {
+                store(black_box(&mut slots), node, black_box(packet));
+            }
+        });
+        least = least.min(spent / f64::from(NODES));
+    }
+    assert!(slots
+        .chunks(SLOT_BYTES)
+        .all(|slot| slot[..length] == packet[..]));
+    least
+}
+
+/// The copier by itself, without an arrival.
+pub fn by_itself() {
+    println!("### The copier by itself, beside memcpy into the same slots, ns\n");
+    println!("| bytes | stored | memcpy | ratio |");
+    println!("|---|---|---|---|");
+    for length in LENGTHS {
+        let stored = into_slots(length, acts::keep);
+        let copied = into_slots(length, |slots, node, packet| {
+            let at = usize::from(node) * SLOT_BYTES;
+            slots[at..][..packet.len()].copy_from_slice(packet);
+        });
+        println!(
+            "| {length} | {stored:.1} | {copied:.1} | {:.2} |",
+            stored / copied
+        );
+    }
+    println!();
 }
 
 pub fn stored() {
