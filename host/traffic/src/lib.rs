@@ -832,11 +832,6 @@ impl Traffic {
                 let queue = self.beyond(queues);
                 match self.random.below(5) {
                     0 => Call::Prefetch { port, queue },
-                    4 if ledger.settings.packets == 1 => Call::Show {
-                        port,
-                        queue,
-                        lent: self.right_sizes(ledger),
-                    },
                     1 => Call::Credit {
                         port,
                         queue,
@@ -845,6 +840,11 @@ impl Traffic {
                     2 => Call::Bucket {
                         port,
                         bucket: self.beyond(BUCKETS as u32),
+                    },
+                    3 if ledger.settings.packets == 1 => Call::Show {
+                        port,
+                        queue,
+                        lent: self.right_sizes(ledger),
                     },
                     _ => Call::Credit {
                         port,
@@ -857,10 +857,6 @@ impl Traffic {
                 let header = self.header_of_another_size(&shape, port);
                 Call::Arrive { port, header }
             }
-            16 if self.random.one_in(4) => self.any_packet(ledger, port),
-            16 => self.wrong_count(ledger, port),
-            17 => self.wrong_size(ledger, port),
-            24 => self.other_kind(ledger),
             7 => {
                 let queue = self.written_queue(&shape);
                 let reserved = match self.random.one_in(4) {
@@ -1005,6 +1001,9 @@ impl Traffic {
                     amount,
                 }
             }
+            16 => self.wrong_count(ledger, port),
+            17 => self.wrong_size(ledger, port),
+            24 => self.other_kind(ledger),
             27 => {
                 let most = shape.round_bytes() as u32 - 1;
                 let bytes = match self.random.below(3) {
@@ -1067,12 +1066,6 @@ impl Traffic {
                 let header = self.any_header(&ledger.settings.shape(), port);
                 self.arrival(ledger, port, header)
             }
-            17 | 18 => self.any_packet(ledger, port),
-            19 => Call::Show {
-                port,
-                queue,
-                lent: self.any_sizes(ledger),
-            },
             5 => Call::Stitch { port },
             6 => Call::Prefetch { port, queue },
             7 => Call::Credit {
@@ -1111,6 +1104,12 @@ impl Traffic {
                     true => self.beyond(BUCKETS as u32),
                     false => self.random.below(BUCKETS as u32),
                 },
+            },
+            16 | 17 => self.any_packet(ledger, port),
+            18 => Call::Show {
+                port,
+                queue,
+                lent: self.any_sizes(ledger),
             },
             _ => Call::Where {
                 entry: if self.random.one_in(2) {

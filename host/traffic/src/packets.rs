@@ -96,8 +96,15 @@ impl Traffic {
         sizes
     }
 
+    fn any_size(&mut self, ledger: &Ledger) -> usize {
+        match self.random.one_in(4) {
+            true => self.other_size(ledger),
+            false => self.right_size(ledger),
+        }
+    }
+
     pub(crate) fn any_sizes(&mut self, ledger: &Ledger) -> [usize; PACKET_MEMORIES] {
-        match self.random.one_in(2) {
+        match self.random.one_in(4) {
             true => self.other_sizes(ledger),
             false => self.right_sizes(ledger),
         }
@@ -138,8 +145,11 @@ impl Traffic {
     }
 
     /// Fewer than ten bytes, or not as many as the header says, alone or beside
-    /// faults that are tested later.
+    /// faults that are tested later; now and then beside any.
     pub(crate) fn wrong_count(&mut self, ledger: &Ledger, port: u32) -> Call {
+        if self.random.one_in(4) {
+            return self.any_packet(ledger, port);
+        }
         let shape = ledger.settings.shape();
         let queue = self.written_queue(&shape);
         let length = self.random.among(shape.shortest(), LONGEST);
@@ -155,20 +165,22 @@ impl Traffic {
         }
     }
 
-    /// A whole packet with any faults, its count and the memory's size among them.
+    /// A whole packet with any faults, the memory's size among them.
     pub(crate) fn any_packet(&mut self, ledger: &Ledger, port: u32) -> Call {
+        let packet = self.faulty(ledger, port);
+        let lent = self.any_size(ledger);
+        Call::ArrivePacket { port, packet, lent }
+    }
+
+    /// The bytes of one with any faults, their count among them.
+    fn faulty(&mut self, ledger: &Ledger, port: u32) -> Vec<u8> {
         let header = self.any_header(&ledger.settings.shape(), port);
         let told = told_length(&header);
         let bytes = match self.random.one_in(3) {
             true => self.other_count(told.max(10)),
             false => told,
         };
-        let [lent, ..] = self.any_sizes(ledger);
-        Call::ArrivePacket {
-            port,
-            packet: whole(&mut self.random, &header, bytes),
-            lent,
-        }
+        whole(&mut self.random, &header, bytes)
     }
 
     // Shows.
@@ -214,14 +226,9 @@ impl Traffic {
             let lent = self.other_sizes(ledger);
             return Call::Show { port, queue, lent };
         }
-        match self.any_packet(ledger, port) {
-            Call::ArrivePacket { port, packet, .. } => Call::ArrivePacket {
-                port,
-                packet,
-                lent: self.other_size(ledger),
-            },
-            call => call,
-        }
+        let packet = self.faulty(ledger, port);
+        let lent = self.other_size(ledger);
+        Call::ArrivePacket { port, packet, lent }
     }
 
     /// A header alone where the switch keeps packets, a whole packet or a show where
