@@ -12,8 +12,8 @@ use Rattle.ledger.specs.Desk.{Call, act, isArrivalCall}
 use Rattle.ledger.specs.Answers.{numberOf}
 use Rattle.ledger.specs.declared.Refusal.{Refusal}
 use Rattle.ledger.specs.declared.Refusal.the-variants.{ShortMemory, BadSetting, NoState, NoPort, NoQueue, HeaderSize, Checksum, Source, TooShort}
-use Rattle.ledger.specs.declared.Refusal.the-variants.{NoCredit, NoFreeNode, NothingThere, SlotsInUse, TooMuchCredit, NoSuchId, PacketBytes, PacketMemory, HeaderQueue}
-use Rattle.ledger.specs.declared.Refusal.the-variants.{ReservedBit, NoFit, OtherKind, ShortRoom}
+use Rattle.ledger.specs.declared.Refusal.the-variants.{NoCredit, NoFreeNode, NothingThere, SlotsInUse, TooMuchCredit, NoSuchId}
+use Rattle.ledger.specs.declared.Refusal.the-variants.{PacketBytes, PacketMemory, HeaderQueue, ReservedBit, NoFit, OtherKind, ShortRoom}
 use Rattle.memory.specs.Memory.{M}
 use Rattle.ledger.specs.Packets.{keptIn}
 use Rattle.memory.specs.Packets.{packetOn}

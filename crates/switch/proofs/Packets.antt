@@ -1,13 +1,12 @@
 -- Whole packets: what the contracts of arrive_packet and show say of their memories is what is promised of the memories of all ports.
 -- Assumes nothing.
 use mathlib.Core.Path.{_≡_, refl, sym, ap, _∙_}
-use mathlib.Core.Bool.{true, false, not}
+use mathlib.Core.Bool.{not}
 use mathlib.Core.List.{List}
 use Prim.Native.Nat.{ℕ, _<_}
 use native.Mathlib.Omega.{arith}
 use denote.Ref.{RefT, now}
 use lib.Dec.{eqb}
-use Rattle.ledger.specs.Settings.{keepsPackets}
 use Rattle.ledger.specs.Ledger.{owner}
 use Rattle.ledger.specs.Calls.{Reply, refused, done, entry, stitched, idle, leaves, word, found, reported, counted, part, show}
 use Rattle.ledger.specs.Desk.{act}

@@ -4,8 +4,6 @@ use model::{size, Settings, Shape};
 use traffic::{plain, whole_of, Random};
 use ventorupo::{calls, SLOT_BYTES};
 
-use std::hint::black_box;
-
 use crate::{acts, numbers, timed};
 
 /// The shortest packet: what a longer one adds is counted from here.
@@ -127,7 +125,7 @@ fn into_slots(length: usize, store: impl Fn(&mut [u8], u16, &[u8])) -> f64 {
     for _ in 0..SAMPLES {
         let spent = timed(|| {
             for node in 0..NODES as u16 {
-                store(black_box(&mut slots), node, black_box(packet));
+                store(&mut slots, node, packet);
             }
         });
         least = least.min(spent / f64::from(NODES));

@@ -19,7 +19,8 @@ between-requires c κs =
     let st = start c in
     let a = st .args in
     rw (c .chosen .ensures)
-    (among-all (λ (k : RefT (List ℕ)). a .at + a .n ≤ length (now k)) (a .port) (a .p0) (a .p1) (a .p2) (a .p3) (st .pre .0) (st .pre .1) (st .pre .2) (st .pre .3))
+    (among-all (λ (k : RefT (List ℕ)). a .at + a .n ≤ length (now k)) (a .port) (a .p0) (a .p1) (a .p2) (a .p3)
+    (st .pre .0) (st .pre .1) (st .pre .2) (st .pre .3))
 
 returns : tie.Need-returns
 returns c =

@@ -1,6 +1,6 @@
 -- `shows::show` meets its contract: the part is the owner's, at its node's slot; of a refusal it is empty. Assumes nothing.
 use mathlib.Core.Path.{_≡_, sym, ap, ap₂, _∙_}
-use mathlib.Core.List.{List, [], _∷_}
+use mathlib.Core.List.{[], _∷_}
 use Prim.Native.Nat.{ℕ}
 use borrow.Author.Needs.{needs}
 use lib.ListN.{length}
@@ -24,7 +24,8 @@ asked c = c .before .before
 abbrev answer : tie.Start → Reply
 answer st =
     let a = st .args in
-    acted (settingsOf (a .s)) (a .m .now) (show (length (a .p0 .now) ∷ length (a .p1 .now) ∷ length (a .p2 .now) ∷ length (a .p3 .now) ∷ []) (a .port) (a .queue)) .0
+    acted (settingsOf (a .s)) (a .m .now)
+    (show (length (a .p0 .now) ∷ length (a .p1 .now) ∷ length (a .p2 .now) ∷ length (a .p3 .now) ∷ []) (a .port) (a .queue)) .0
 
 -- a packet is shown
 told : (c : tie.After-shown) → part (c .shown .given .0 .0 .0) (c .shown .given .0 .1 .0) ≡ answer (start (asked c))

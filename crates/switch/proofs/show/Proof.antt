@@ -1,6 +1,6 @@
 -- `switch::show` meets its contract: where the test says a state, the act on it is the call; else refusal 3, and an empty part.
 -- Assumes nothing.
-use mathlib.Core.Path.{_≡_, sym, ap, _∙_}
+use mathlib.Core.Path.{sym, ap, _∙_}
 use mathlib.Core.List.{List, [], _∷_}
 use Prim.Native.Nat.{ℕ}
 use borrow.Author.Needs.{needs}
