@@ -31,16 +31,14 @@ tables-quick = ((refl, refl, refl), ((refl, refl, refl), ((refl, refl, refl), ((
 
 packets-quick : All Quick packets
 unfolding ones leadingZeros number store isBeat portsIn queuesIn packetsIn inRows row size widthOf formOf frontBits frontBytes bodySize headerSize leastLength
-    price
-    isNode place# cell creditAt setCredit startOf get put settingsIn slot chain nodesOf packetAt fill allLinked written image firstFrom
+    price isNode place# cell creditAt setCredit startOf get put settingsIn slot chain nodesOf packetAt fill allLinked written image firstFrom
     prefetchAt fitsAt isNew mark allNew markAll ends right unmarked scan onceFound rangeTest fieldsTest properTest ruleTest firstBad fitsFrom
     fitsFound addPrice addNode addAll addList addFrom sumsOf settledAt dueFound nodesBroken halting isMark marksFound
 packets-quick = ((refl, refl, refl), ((refl, refl, refl), ((refl, refl, refl), ((refl, refl, refl), ((refl, refl, refl), tt)))))
 
 marks-buckets-quick : All Quick marks-buckets
 unfolding ones leadingZeros number store isBeat portsIn queuesIn packetsIn inRows row size widthOf formOf frontBits frontBytes bodySize headerSize leastLength
-    price
-    isNode place# cell creditAt setCredit startOf get put settingsIn slot chain nodesOf packetAt fill allLinked written image firstFrom
+    price isNode place# cell creditAt setCredit startOf get put settingsIn slot chain nodesOf packetAt fill allLinked written image firstFrom
     prefetchAt fitsAt isNew mark allNew markAll ends right unmarked scan onceFound rangeTest fieldsTest properTest ruleTest firstBad fitsFrom
     fitsFound addPrice addNode addAll addList addFrom sumsOf settledAt dueFound nodesBroken halting isMark marksFound
 marks-buckets-quick = ((refl, refl, refl), ((refl, refl, refl), ((refl, refl, refl), tt)))
