@@ -20,7 +20,7 @@ fn headers_alone_are_refused_where_packets_are_kept() {
         wrong_sum[9] ^= 1;
         for header in [
             plain(&Shape::TEN_BYTES, 0, port % 4, 0, 12),
-            plain(&Shape::TEN_BYTES, 0, (port + 1) % 4, 24, 11),
+            plain(&Shape::TEN_BYTES, 0, (port % 4 + 1) % 4, 24, 11),
             wrong_sum,
             vec![],
             vec![0xFF; 9],
