@@ -9,7 +9,7 @@ use Prim.Native.Nat.{ℕ, suc, _+_, _*_, _%_, _^_, _≤_, _<_}
 use native.Mathlib.Nat.{mod-eq-of-lt}
 use native.Mathlib.Omega.{arith}
 use lib.Count.{leadingZeros}
-use lib.Dec.{eqb, ltb, leb}
+use lib.Dec.{ltb, leb}
 use lib.ListN.{length, getD, take, drop, take-append-drop, drop-of-length-le}
 use lib.Seq.{drop-cons, take-at, getD-at}
 use Rattle.numbers.specs.Bytes.{number, digits}
@@ -22,7 +22,8 @@ use Rattle.ledger.specs.Settings.{tenBytes, wide}
 use Rattle.ledger.specs.Header.{Form, Fields, inOrder, widthOf, formOf, widths, frontBits, frontBytes, spare, bodySize, headerSize, leastLength}
 use Rattle.ledger.specs.Header.{fieldsOf, readRules}
 use Rattle.ledger.specs.Rules.{Rule, refuse, guard, Clear}
-use Rattle.ledger.proofs.Tests.{true≢false, leb-yes, leb-no, leb-not, ltb-yes, ltb-no, ltb-not, eqb-yes, eqb-is, not-yes}
+use Rattle.ledger.proofs.Tests.{true≢false, leb-yes, leb-no, leb-not, ltb-yes, ltb-no, ltb-not, not-yes}
+use Rattle.ledger.proofs.Passes.{same, not-other}
 use Rattle.ledger.proofs.Steps.{cleared}
 use Rattle.codec.specs.Label.{Label, labelOf, values, countsIn, refused, gives}
 use Rattle.codec.specs.Reader.{readerRules, reads}
@@ -35,12 +36,6 @@ given-clear : {X : Type 0} (rs : List Rule) (x y : X) → guard rs refused (give
 given-clear [] x y e = (cc, tt)
 given-clear (refuse n true ∷ rs) x y e = absurd (let z : _≡_ {A = ℕ} 0 1 = cc in omega arith)
 given-clear (refuse n false ∷ rs) x y e = let later = given-clear rs x y e in (later .0, (refl, later .1))
-
-same : (a b : ℕ) → not (eqb a b) ≡ false → a ≡ b
-same a b e = eqb-yes a b (not-yes (eqb a b) e)
-
-not-other : (a b : ℕ) → a ≡ b → not (eqb a b) ≡ false
-not-other a b e = ap not (eqb-is a b e)
 
 -- ---- a header that the reader takes, of form F in a switch of n queues: what is known of it, each fact by its name
 
