@@ -15,7 +15,7 @@ use Rattle.ledger.specs.declared.Refusal.the-variants.{ShortMemory, BadSetting,
 use Rattle.ledger.specs.declared.Refusal.the-variants.{NoCredit, NoFreeNode, NothingThere, SlotsInUse, TooMuchCredit, NoSuchId}
 use Rattle.ledger.specs.declared.Refusal.the-variants.{PacketBytes, PacketMemory, HeaderQueue, ReservedBit, NoFit, OtherKind, ShortRoom}
 use Rattle.memory.specs.Memory.{M}
-use Rattle.ledger.specs.Packets.{keptIn}
+use Rattle.ledger.specs.Packets.{bytesAt, keptIn, partIn}
 use Rattle.memory.specs.Packets.{packetOn}
 use Rattle.memory.specs.Rounds.{roundOn}
 use Rattle.memory.specs.Audit.{auditOn}
@@ -27,6 +27,7 @@ use Rattle.memory.proofs.Marks.{refusal-but-the-mark}
 use Rattle.memory.proofs.Rounds.{refused-round-keeps}
 use Rattle.memory.proofs.Audit.{refused-audit-keeps}
 use Rattle.memory.proofs.Door.{refused-repair-keeps}
+use Rattle.switch.proofs.Packets.{four}
 use Rattle.codec.specs.Label as headers
 use Rattle.codec.specs.Label.{Label, Answer}
 use Rattle.codec.specs.Reader.{reads}
@@ -120,6 +121,13 @@ but-the-mark-packet m k p b old no′ =
     let e = numbered-reply r no′ in
     let told = but-the-mark p (whole (length k) b) m old no′ in
     (told .0, ap (λ (x : Reply). keptIn x b k) e, told .1)
+
+-- where a packet is shown, its rooms tell where it lies: so many bytes of the memory of that port, from there on, are those that the answer
+-- stands for
+pub room-tells-part : (x n : ℕ) (old : ℕ × ℕ × ℕ) (a b c d : List ℕ) →
+    let room = partRoom (part x n) old in
+    bytesAt (room .1) (room .2) (four a b c d (room .0)) ≡ partIn (four a b c d) (part x n)
+room-tells-part x n old a b c d = refl
 
 -- and of a round, neither memory nor room
 pub nothing-differs-round : (m room : List ℕ) → (numberIn (roundOn m room .0) ≡ 0 → ⊥) → toldRound (roundOn m room) ≡ (numberIn (roundOn m room .0), m, room)

@@ -6,9 +6,11 @@ use mathlib.Core.List.{List}
 use Prim.Native.Nat.{ℕ, _<_}
 use native.Mathlib.Omega.{arith}
 use denote.Ref.{RefT, now}
+use lib.ListN.{length}
 use lib.Dec.{eqb}
+use Rattle.ledger.specs.Header.{whole}
 use Rattle.ledger.specs.Ledger.{owner}
-use Rattle.ledger.specs.Calls.{Reply, refused, done, entry, stitched, idle, leaves, word, found, reported, counted, part, show}
+use Rattle.ledger.specs.Calls.{Reply, refused, done, entry, stitched, idle, leaves, word, found, reported, counted, part, arrive, show}
 use Rattle.ledger.specs.Desk.{act}
 use Rattle.ledger.specs.Packets.{Memories, slotAt, bytesAt, partIn, packet, keeps}
 use Rattle.ledger.proofs.Tests.{true≢false, eqb-is}
@@ -48,9 +50,10 @@ owner-in-four m ns p q x n e =
     let is = packets-four (settingsIn m) (t .sound .rows) some in
     omega (arith, w .home)
 
--- what an arrival leaves of the packet memory that it was lent is what becomes of its port's
+-- an arrival of a whole packet is the desk's, with as many bytes lent as its port's memory has; and what it leaves of that memory is what
+-- becomes of its port's
 pub packet-by-port : (m : List ℕ) (ks : Memories) (p : ℕ) (b : List ℕ) →
-    let out = packetOn m (ks p) p b in
-    out .2 ≡ keeps (packet p b) (out .0) ks p
+    let out = M (act (arrive p (whole (length (ks p)) b))) m in
+    packetOn m (ks p) p b ≡ (out .0, out .1, keeps (packet p b) (out .0) ks p)
 unfolding packetOn
 packet-by-port m ks p b = rw (eqb-is p p refl)
