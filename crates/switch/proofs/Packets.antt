@@ -2,17 +2,18 @@
 -- Assumes nothing.
 use mathlib.Core.Path.{_≡_, refl, sym, ap, _∙_}
 use mathlib.Core.Bool.{not}
-use mathlib.Core.List.{List}
+use mathlib.Core.List.{List, [], _∷_}
 use Prim.Native.Nat.{ℕ, _<_}
 use native.Mathlib.Omega.{arith}
 use denote.Ref.{RefT, now}
 use lib.ListN.{length}
 use lib.Dec.{eqb}
+use Rattle.ledger.specs.Settings.{Settings}
 use Rattle.ledger.specs.Header.{whole}
 use Rattle.ledger.specs.Ledger.{owner}
 use Rattle.ledger.specs.Calls.{Reply, refused, done, entry, stitched, idle, leaves, word, found, reported, counted, part, arrive, show}
 use Rattle.ledger.specs.Desk.{act}
-use Rattle.ledger.specs.Packets.{Memories, slotAt, bytesAt, partIn, packet, keeps}
+use Rattle.ledger.specs.Packets.{Memories, lengths, slotAt, bytesAt, partIn, packet, keeps}
 use Rattle.ledger.proofs.Tests.{true≢false, eqb-is}
 use Rattle.ledger.proofs.Rows.{packets-four}
 use Rattle.layout.specs.Picture.{settingsIn, State}
@@ -26,6 +27,11 @@ use Rattle.packets.proofs.Laws.{among-map}
 -- four memories, by their ports
 abbrev pub four : List ℕ → List ℕ → List ℕ → List ℕ → Memories
 four a b c d = λ p. among p a b c d
+
+-- with four ports, their lengths are those that show is told
+pub four-lengths : (S : Settings) → S .ports ≡ 4 → (a b c d : List ℕ)
+    → lengths S (four a b c d) ≡ length a ∷ length b ∷ length c ∷ length d ∷ []
+four-lengths S e a b c d = rw e
 
 -- the bytes that show hands back are those that its answer stands for
 pub shown-bytes : (r : Reply) (a b c d : RefT (List ℕ)) → shownOf r a b c d .0 ≡ partIn (four (now a) (now b) (now c) (now d)) r
