@@ -1,7 +1,7 @@
 /* How much stack the calls take: each runs in a thread whose stack was painted before, and what it painted over is told. At the top of the
- * repository, after tools/staticlib capi:
+ * repository, after tools/staticlib ventorupo:
  *
- *     cc -O2 -Iinclude tools/stack.c -Ltarget/staticlib -lcapi -lpthread -o target/stack && target/stack
+ *     cc -O2 -Iinclude tools/stack.c -Ltarget/staticlib -lventorupo -lpthread -o target/stack && target/stack
  */
 #include <pthread.h>
 #include <stdint.h>

@@ -3,5 +3,5 @@
 mod archives;
 
 fn main() {
-    archives::link(&["capi"]);
+    archives::link(&["ventorupo"]);
 }

@@ -32,7 +32,7 @@ fn archives(top: &Path) -> PathBuf {
 fn the_c_snippet_says_what_it_says_that_it_says() {
     let top = Path::new(env!("CARGO_MANIFEST_DIR")).join("../..");
     let readme = fs::read_to_string(top.join("README.md")).unwrap();
-    let line = "    gcc -Iinclude example.c target/staticlib/libcapi.a\n";
+    let line = "    gcc -Iinclude example.c target/staticlib/libventorupo.a\n";
     assert!(readme.contains(line));
     let snippet = fenced(&readme, "c");
     assert!(snippet.contains("/* entry 2048") && snippet.contains("/* sent 2048"));
@@ -44,7 +44,7 @@ fn the_c_snippet_says_what_it_says_that_it_says() {
         .arg("-I")
         .arg(top.join("include"))
         .arg(&source)
-        .arg(archives(&top).join("libcapi.a"))
+        .arg(archives(&top).join("libventorupo.a"))
         .arg("-o")
         .arg(&program)
         .output()
