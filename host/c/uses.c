@@ -15,7 +15,7 @@ static void readers(void)
     struct vr_turned turned = vr_turned_of(room);
     printf("readers: %lu %lu %lu %lu\n", (unsigned long)record.entry, (unsigned long)sent.entry, (unsigned long)place.entry,
            (unsigned long)turned.entry);
-    printf("texts: %s; %s\n", vr_text(VR_NO_STATE), vr_rule_text(1));
+    printf("texts: %s; %s\n", vr_text(VR_DONE), vr_rule_text(0));
 }
 #else
 static void readers(void) { puts("readers: left out"); }
@@ -28,7 +28,7 @@ int main(void)
     uint8_t header[VR_HEADER_BYTES];
     uint32_t size;
     uint16_t entry;
-    printf("version: %s, %d\n", VR_VERSION, VR_VERSION_MINOR);
+    if (VR_VERSION[0] != '0' + VR_VERSION_MAJOR || VR_VERSION_MINOR < 0 || VR_VERSION_PATCH < 0) return 1;
     if (vr_setup(mem, sizeof mem, &settings) != VR_DONE) return 1;
     if (vr_write_header(VR_WIDE, 2, 2, &fields, header, &size) != VR_DONE) return 1;
     if (vr_arrive(mem, sizeof mem, 0, header, size, &entry) != VR_DONE) return 1;
