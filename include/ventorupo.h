@@ -160,7 +160,8 @@ enum vr_answer {
  * memory that one of them may change. And each port's packet memory is the same one at every call: that another port's is lent, or other
  * bytes of the same size, can't be noticed, and then a packet is stored and shown where it isn't looked for.
  *
- * Numbers, and structs of numbers, are the machine's own; the rooms of bytes and the fields of a run are big-endian.
+ * Numbers, and structs of numbers, are the machine's own; the rooms of bytes and the fields of a run are big-endian. So is a state, which
+ * holds no pointers: it may be copied, moved and stored as bytes, and is the same on every machine.
  *
  * Numbers are wide on purpose: port 70,000 is refused 4, an amount above 65,535 is a sum above 65,535, an entry above 65,535 is no node. */
 
@@ -169,8 +170,10 @@ enum vr_answer {
  *
  *     memcpy memset
  *
+ * So calls on memories that have nothing in common may run at once.
+ *
  * A call takes up to 26,046 bytes of stack, a finding up to 33,486, whatever the settings (measured on x86-64 by tools/stack.c, not proved;
- * on aarch64 it was less): the test for a state keeps a bit for each of up to 65,536 nodes there, and a sum for each port and queue but 0.
+ * on aarch64 both were less): the test for a state keeps a bit for each of up to 65,536 nodes there, and a sum for each port and queue but 0.
  *
  * On a board without a C library: link libventorupo.a with a memset and a memcpy of your own, behind the objects that use it, with -nostdlib;
  * examples/board is such a program. The code uses vector registers (SSE2 on x86-64, NEON on aarch64) and loads and stores that are not
@@ -196,7 +199,7 @@ struct vr_settings {
     uint32_t nodes;   /* nodes a port: 1 to 2,048 */
     uint32_t beat;    /* bytes: 64, 128, 256 or 512 */
     uint32_t slots;   /* of a prefetch list: 1 to 8 */
-    uint32_t credit;  /* the arrival credit of each port and queue, in beats: 0 to 65,535 */
+    uint32_t credit;  /* the arrival credit of each port and queue above 0, in beats: 0 to 65,535 */
     uint32_t ports;   /* 2 to 32; in edition 0, with ten-byte headers, it is 4 */
     uint32_t queues;  /* queues a port: 2 to 64; in edition 0 it is 24 */
     uint32_t edition; /* of the header, enum vr_edition: 0, VR_TEN_BYTES, or 1, VR_WIDE */

@@ -4,8 +4,8 @@
 void *memset(void *to, int value, size_t n);
 void *memcpy(void *restrict to, const void *restrict from, size_t n);
 
-/* gcc would see what these loops do and call memset and memcpy in their place, which would be themselves. clang doesn't under
- * -ffreestanding. */
+/* A compiler may see what these loops do and call memset and memcpy in their place, which would be themselves. gcc is told here not to; for
+ * clang -ffreestanding is enough. */
 #if defined(__GNUC__) && !defined(__clang__)
 #pragma GCC optimize("no-tree-loop-distribute-patterns")
 #endif

@@ -10,6 +10,8 @@ enum { PORTS = 8, QUEUES = 16, NODES = 300, BEAT = 64, CREDIT = 200, PACKETS = 1
 static const struct vr_settings settings = {
     .nodes = NODES, .beat = BEAT, .slots = 2, .credit = CREDIT, .ports = PORTS, .queues = QUEUES, .edition = VR_WIDE};
 
+_Static_assert(VR_RECORD_BYTES == 10 && VR_SENT_BYTES == 16 && VR_PLACE_BYTES == 8 && VR_TURNED_BYTES == 4 && VR_HEADER_BYTES == 12, "rooms");
+
 static uint8_t mem[VR_SIZE(PORTS, QUEUES, NODES)];
 static unsigned compared, wrong;
 
