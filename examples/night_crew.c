@@ -5,30 +5,35 @@
 
 #include "ventorupo.h"
 
+enum { PORTS = 4, QUEUES = 24, NODES = 2 };
+
+/* Where these stand in an image (docs/LAYOUT.md). */
+enum { MAP = 16, LAST_SERVED = 4112 };
+
 static const struct vr_settings settings = {
-    .nodes = 2, .beat = 64, .slots = 1, .credit = 16, .ports = 4, .queues = 24, .edition = VR_TEN_BYTES};
+    .nodes = NODES, .beat = 64, .slots = 1, .credit = 16, .ports = PORTS, .queues = QUEUES, .edition = VR_TEN_BYTES};
 
-enum { SIZE = 6720, NODES_IN_ALL = 8, MAP = 16, LAST_SERVED = 4112 }; /* vr_size(&settings); docs/LAYOUT.md */
-
-static uint8_t image[SIZE];
+static uint8_t image[VR_SIZE(PORTS, QUEUES, NODES)];
 
 /* How many nodes stand in lists of each kind, and every packet's place. */
 static void audit(void)
 {
     static const char *kinds[] = {"free", "ingress", "egress", "prefetch"};
-    uint8_t places[8 * NODES_IN_ALL];
+    uint8_t places[PORTS * NODES * VR_PLACE_BYTES];
     unsigned count[4] = {0};
     uint32_t answer = vr_audit(image, sizeof image, places, sizeof places);
     if (answer != VR_DONE) {
-        printf("audit: refused %" PRIu32 "\n", answer);
+        printf("audit: refused %" PRIu32 ": %s\n", answer, vr_text(answer));
         return;
     }
-    for (const uint8_t *at = places; at < places + sizeof places; at += 8) {
-        count[at[2]]++;
-        if (at[2] != 0)
-            printf("audit: entry %d: %s of port %d, queue %d, position %d\n", at[0] << 8 | at[1], kinds[at[2]], at[3], at[4], at[6] << 8 | at[7]);
+    for (const uint8_t *at = places; at < places + sizeof places; at += VR_PLACE_BYTES) {
+        struct vr_place p = vr_place_of(at);
+        count[p.kind]++;
+        if (p.kind == VR_FREE) continue;
+        printf("audit: entry %" PRIu32 ": %s of port %" PRIu32 ", queue %" PRIu32 ", position %" PRIu32 "\n", p.entry, kinds[p.kind], p.port,
+               p.queue, p.position);
     }
-    printf("audit: %u free, %u ingress, %u egress, %u prefetch\n", count[0], count[1], count[2], count[3]);
+    printf("audit: %u free, %u ingress, %u egress, %u prefetch\n", count[VR_FREE], count[VR_INGRESS], count[VR_EGRESS], count[VR_PREFETCH]);
 }
 
 static void find(void)
@@ -39,7 +44,7 @@ static void find(void)
     if (rule == 0)
         puts("find: a switch state");
     else
-        printf("find: rule (%c), item %" PRIu64 "\n", (char)('a' + (int)rule - 1), item);
+        printf("find: rule (%c), item %" PRIu64 "; the rule: %s\n", (int)('a' + rule - 1), item, vr_rule_text(rule));
 }
 
 static void repair(void)
@@ -48,21 +53,22 @@ static void repair(void)
     if (answer == VR_DONE)
         puts("repair: done");
     else
-        printf("repair: refused %" PRIu32 "\n", answer);
+        printf("repair: refused %" PRIu32 ": %s\n", answer, vr_text(answer));
 }
 
 int main(void)
 {
-    /* from port 0 to destination 0, queue 0, length 12 */
-    static const uint8_t header[10] = {0, 0, 0x30, 0, 0, 0, 0, 0, 0, 0x72};
-    uint8_t record[10];
+    static const struct vr_header fields = {.destination = 0, .source = 0, .queue = 0, .length = 12};
+    uint8_t header[VR_HEADER_BYTES], record[VR_RECORD_BYTES];
+    uint32_t size;
     uint16_t entry;
     find(); /* zero bytes: rule (a), the number of ports */
     repair();
     if (vr_setup(image, sizeof image, &settings) != VR_DONE) return 1;
     if (vr_map(image, sizeof image, 0, 3) != VR_DONE) return 1;
+    if (vr_write_header(VR_TEN_BYTES, PORTS, QUEUES, &fields, header, &size) != VR_DONE) return 1;
     for (int packet = 0; packet < 2; packet++)
-        if (vr_arrive(image, sizeof image, 0, header, sizeof header, &entry) != VR_DONE) return 1;
+        if (vr_arrive(image, sizeof image, 0, header, size, &entry) != VR_DONE) return 1;
     if (vr_stitch(image, sizeof image, 0, record) != VR_DONE) return 1;
     find();
     audit();

@@ -3,30 +3,23 @@
  * given the time, and how long they waited is counted. Each step is printed. */
 #include <inttypes.h>
 #include <stdio.h>
-#include <stdlib.h>
 
 #include "ventorupo.h"
 
-enum { PORTS = 4, QUEUES = 24, OUT = 3 };
+enum { PORTS = 4, QUEUES = 24, NODES = 4, OUT = 3 };
 
 static const struct vr_settings settings = {
-    .nodes = 4, .beat = 64, .slots = 2, .credit = 16, .ports = PORTS, .queues = QUEUES, .edition = VR_TEN_BYTES};
+    .nodes = NODES, .beat = 64, .slots = 2, .credit = 16, .ports = PORTS, .queues = QUEUES, .edition = VR_TEN_BYTES};
 
-static uint8_t *mem;
-static size_t len;
-
-static uint32_t be(const uint8_t *at, int n)
-{
-    uint32_t x = 0;
-    while (n-- > 0) x = x << 8 | *at++;
-    return x;
-}
+/* The whole state. Where the settings are known at run time alone: malloc of vr_size(&settings) bytes. */
+static uint8_t mem[VR_SIZE(PORTS, QUEUES, NODES)];
+static const size_t len = sizeof mem;
 
 /* Whether a call was done; a refusal is printed. */
 static int done(const char *step, uint32_t answer)
 {
     if (answer == VR_DONE) return 1;
-    printf("%s: refused %" PRIu32 "\n", step, answer);
+    printf("%s: refused %" PRIu32 ": %s\n", step, answer, vr_text(answer));
     return 0;
 }
 
@@ -35,7 +28,7 @@ static uint8_t noise;
 
 static void arrive(struct vr_header h)
 {
-    uint8_t header[12];
+    uint8_t header[VR_HEADER_BYTES];
     uint32_t size;
     uint16_t entry;
     if (!done("header", vr_write_header(VR_TEN_BYTES, PORTS, QUEUES, &h, header, &size))) return;
@@ -52,15 +45,16 @@ static void clear_if_halted(uint32_t port)
     if (mark == 0)
         printf("report: port %" PRIu32 " isn't halted\n", port);
     else if (done("clear", vr_clear(mem, len, port)))
-        printf("report: port %" PRIu32 " was halted by refusal %" PRIu32 ", and is cleared\n", port, mark);
+        printf("report: port %" PRIu32 " was halted (%s), and is cleared\n", port, vr_text(mark));
 }
 
 /* The oldest packet of the port where it arrived goes to the port that the map names. */
 static void stitch(uint32_t port)
 {
-    uint8_t record[10];
-    if (done("stitch", vr_stitch(mem, len, port, record)))
-        printf("stitch: entry %" PRIu32 " to port %u, queue %u\n", be(record, 2), record[5], record[4]);
+    uint8_t room[VR_RECORD_BYTES];
+    if (!done("stitch", vr_stitch(mem, len, port, room))) return;
+    struct vr_record r = vr_record_of(room);
+    printf("stitch: entry %" PRIu32 " to port %" PRIu32 ", queue %" PRIu32 "\n", r.entry, r.port, r.queue);
 }
 
 /* The oldest packet of a queue goes to a slot of the port that packets leave by. */
@@ -74,17 +68,15 @@ static void fetch(uint32_t queue)
 /* All ports at once: a stitch at each, a prefetch for each queue, a turn at each. */
 static void run_round(void)
 {
-    uint8_t turns[4 * PORTS];
+    uint8_t turns[PORTS * VR_TURNED_BYTES];
     if (!done("round", vr_round(mem, len, turns, sizeof turns))) return;
     printf("round:");
     for (int port = 0; port < PORTS; port++) {
-        const uint8_t *t = turns + 4 * port;
-        if (t[0] != VR_DONE)
-            printf(" port %d is refused %u", port, t[0]); /* not on a switch state */
-        else if (t[1] != 0)
+        struct vr_turned t = vr_turned_of(turns + port * VR_TURNED_BYTES);
+        if (t.idle)
             printf(" port %d is idle", port);
         else
-            printf(" port %d sends entry %" PRIu32, port, be(t + 2, 2));
+            printf(" port %d sends entry %" PRIu32, port, t.entry);
         putchar(port < PORTS - 1 ? ',' : '\n');
     }
 }
@@ -100,32 +92,37 @@ static void show_ready(void)
 static void show_place(uint32_t entry)
 {
     static const char *kinds[] = {"free", "ingress", "egress", "prefetch"};
-    uint8_t at[8];
-    if (done("where", vr_where(mem, len, entry, at)))
-        printf("where: entry %" PRIu32 ": %s of port %u, queue %u, position %" PRIu32 "\n", be(at, 2), kinds[at[2]], at[3], at[4], be(at + 6, 2));
+    uint8_t room[VR_PLACE_BYTES];
+    if (!done("where", vr_where(mem, len, entry, room))) return;
+    struct vr_place p = vr_place_of(room);
+    printf("where: entry %" PRIu32 ": %s of port %" PRIu32 ", queue %" PRIu32 ", position %" PRIu32 "\n", p.entry, kinds[p.kind], p.port, p.queue,
+           p.position);
 }
 
 /* What a single turn has sent, with all that is recorded for the packet. */
-static void show_sent(const uint8_t s[16])
+static void show_sent(struct vr_sent s)
 {
-    if (s[0] == 0)
+    if (s.kind == VR_IDLE) {
         puts("turn: idle");
-    else
-        printf("turn: %s: queue %u, entry %" PRIu32 ", length %" PRIu32 ", destination %" PRIu32 ", time %" PRIu32 ", transaction %u, price %" PRIu32 "\n",
-               s[0] == 1 ? "inside" : "outside", s[1], be(s + 2, 2), be(s + 4, 2), be(s + 6, 2), be(s + 8, 4), s[13], be(s + 14, 2));
+        return;
+    }
+    printf("turn: %s: queue %" PRIu32 ", entry %" PRIu32 ", length %" PRIu32, s.kind == VR_INSIDE ? "inside" : "outside", s.queue, s.entry,
+           s.length);
+    printf(", destination %" PRIu32 ", time %" PRIu32 ", transaction %" PRIu32 ", price %" PRIu32 "\n", s.destination, s.timestamp, s.transaction,
+           s.price);
 }
 
 static void turn(void)
 {
-    uint8_t s[16];
-    if (done("turn", vr_turn(mem, len, OUT, s))) show_sent(s);
+    uint8_t room[VR_SENT_BYTES];
+    if (done("turn", vr_turn(mem, len, OUT, room))) show_sent(vr_sent_of(room));
 }
 
 /* The same at this time, of the clock that the timestamps are of. */
 static void timed_turn(uint32_t now)
 {
-    uint8_t s[16];
-    if (done("timed turn", vr_timed_turn(mem, len, OUT, now, s))) show_sent(s);
+    uint8_t room[VR_SENT_BYTES];
+    if (done("timed turn", vr_timed_turn(mem, len, OUT, now, room))) show_sent(vr_sent_of(room));
 }
 
 /* How long those waited that left by timed turns: bucket b counts the waits whose highest set bit is the b-th. */
@@ -141,9 +138,6 @@ static void show_waits(void)
 
 int main(void)
 {
-    len = (size_t)vr_size(&settings);
-    mem = calloc(len, 1);
-    if (mem == NULL) return 1;
     printf("size: %zu bytes\n", len);
     run_round(); /* zero bytes are no switch state */
     if (!done("setup", vr_setup(mem, len, &settings))) return 1;
@@ -182,6 +176,5 @@ int main(void)
     timed_turn(5); /* the clock has passed its end: a wait of 11 */
     timed_turn(6); /* idle: nothing is counted */
     show_waits();
-    free(mem);
     return 0;
 }

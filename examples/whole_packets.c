@@ -2,7 +2,6 @@
  * the port that sends them is shown where they lie; nothing is copied. Two that are wrong are refused. Each step is printed. */
 #include <inttypes.h>
 #include <stdio.h>
-#include <stdlib.h>
 #include <string.h>
 
 #include "ventorupo.h"
@@ -15,21 +14,21 @@ static const struct vr_settings settings = {
 /* A slot for each node of each port. They are outside of the state, and zero bytes or any others will do. */
 static uint8_t packets[PORTS][NODES * VR_SLOT_BYTES];
 
-static uint8_t *mem;
-static size_t len;
+static uint8_t mem[VR_SIZE(PORTS, QUEUES, NODES)];
+static const size_t len = sizeof mem;
 
 /* Whether a call was done; a refusal is printed. */
 static int done(const char *step, uint32_t answer)
 {
     if (answer == VR_DONE) return 1;
-    printf("%s: refused %" PRIu32 "\n", step, answer);
+    printf("%s: refused %" PRIu32 ": %s\n", step, answer, vr_text(answer));
     return 0;
 }
 
 /* A packet with this text arrives at a port, so many bytes short of what its header says. */
 static void arrive(uint32_t port, const char *text, size_t missing)
 {
-    uint8_t packet[64] = {0}, header[12];
+    uint8_t packet[64] = {0}, header[VR_HEADER_BYTES];
     uint32_t size;
     uint16_t entry;
     size_t length = HEADER + strlen(text) + FOOTER;
@@ -58,8 +57,8 @@ static void show(void)
 /* The oldest packet of the port where it arrived goes to the port that all of them leave by. */
 static void stitch(uint32_t port)
 {
-    uint8_t record[10];
-    if (done("stitch", vr_stitch(mem, len, port, record))) printf("stitch: entry %d\n", record[0] << 8 | record[1]);
+    uint8_t room[VR_RECORD_BYTES];
+    if (done("stitch", vr_stitch(mem, len, port, room))) printf("stitch: entry %" PRIu32 "\n", vr_record_of(room).entry);
 }
 
 /* The oldest that is there goes to a slot. */
@@ -71,20 +70,18 @@ static void fetch(void)
 
 static void turn(void)
 {
-    uint8_t sent[16];
-    if (!done("turn", vr_turn(mem, len, OUT, sent))) return;
-    if (sent[0] == 0)
+    uint8_t room[VR_SENT_BYTES];
+    if (!done("turn", vr_turn(mem, len, OUT, room))) return;
+    struct vr_sent sent = vr_sent_of(room);
+    if (sent.kind == VR_IDLE)
         puts("turn: idle");
     else
-        printf("turn: entry %d leaves\n", sent[2] << 8 | sent[3]);
+        printf("turn: entry %" PRIu32 " leaves\n", sent.entry);
 }
 
 int main(void)
 {
     uint16_t entry;
-    len = (size_t)vr_size(&settings);
-    mem = calloc(len, 1);
-    if (mem == NULL) return 1;
     if (!done("setup", vr_setup(mem, len, &settings))) return 1;
     if (!done("map", vr_map(mem, len, 0, OUT))) return 1;
     if (!done("credit", vr_credit(mem, len, OUT, QUEUE, 100))) return 1;
@@ -109,6 +106,5 @@ int main(void)
     show();
     turn();
     turn();
-    free(mem);
     return 0;
 }

@@ -1,4 +1,4 @@
-/* A wide switch in C: eight ports, 16 queues. A header is written from its fields and read back; its packet arrives, and a round takes it
+/* A wide switch in C: eight ports, 16 queues, in memory of the heap. A header is written from its fields and read back; its packet arrives, and a round takes it
  * to the port that the map names and lets it leave. Each step is printed. */
 #include <inttypes.h>
 #include <stdio.h>
@@ -15,12 +15,12 @@ static const struct vr_settings settings = {
 static int done(const char *step, uint32_t answer)
 {
     if (answer == VR_DONE) return 1;
-    printf("%s: refused %" PRIu32 "\n", step, answer);
+    printf("%s: refused %" PRIu32 ": %s\n", step, answer, vr_text(answer));
     return 0;
 }
 
 /* The bytes of a header, up to twelve; their number, or 0. */
-static uint32_t make(const struct vr_header *fields, uint8_t header[12])
+static uint32_t make(const struct vr_header *fields, uint8_t header[VR_HEADER_BYTES])
 {
     uint32_t size;
     if (!done("write", vr_write_header(VR_WIDE, PORTS, QUEUES, fields, header, &size))) return 0;
@@ -39,24 +39,24 @@ static void show(const uint8_t *header, size_t size)
     printf("read: poisoned %" PRIu32 ", time %" PRIu32 ", credit %" PRIu32 ", transaction %" PRIu32 "\n", h.poisoned, h.timestamp, h.credit, h.transaction);
 }
 
-/* Every port's turn, four bytes each: refusal number, 1 if idle, entry id. */
+/* Every port's turn. */
 static void run_round(uint8_t *mem, size_t len)
 {
-    uint8_t turns[4 * PORTS];
+    uint8_t turns[PORTS * VR_TURNED_BYTES];
     if (!done("round", vr_round(mem, len, turns, sizeof turns))) return;
-    int idle = 0;
+    uint32_t idle = 0;
     for (int port = 0; port < PORTS; port++) {
-        const uint8_t *t = turns + 4 * port;
-        idle += t[1];
-        if (t[0] == VR_DONE && t[1] == 0) printf("round: port %d sends entry %d\n", port, t[2] << 8 | t[3]);
+        struct vr_turned t = vr_turned_of(turns + port * VR_TURNED_BYTES);
+        idle += t.idle;
+        if (!t.idle) printf("round: port %d sends entry %" PRIu32 "\n", port, t.entry);
     }
-    printf("round: %d of %d ports are idle\n", idle, PORTS);
+    printf("round: %" PRIu32 " of %d ports are idle\n", idle, PORTS);
 }
 
 int main(void)
 {
     struct vr_header h = {.destination = 5, .source = 2, .queue = 9, .length = 300, .timestamp = 123456, .credit = 1000, .transaction = 77};
-    uint8_t header[12] = {0};
+    uint8_t header[VR_HEADER_BYTES] = {0};
     uint16_t entry;
     size_t len = (size_t)vr_size(&settings);
     uint8_t *mem = calloc(len, 1);

@@ -15,14 +15,18 @@ enum { ROOM = 1 << 20, PAINT = 0xA5 };
 static struct vr_settings settings;
 static uint8_t *memory, *lent;
 static size_t memory_len, lent_len;
-static uint8_t header[12];
+static uint8_t header[VR_HEADER_BYTES];
 static uint32_t header_len;
 static uint8_t *top;
 
 static void nothing(void) {}
 static void setup(void) { vr_setup(memory, memory_len, &settings); }
 static void arrive(void) { uint16_t entry; vr_arrive(memory, memory_len, 0, header, header_len, &entry); }
-static void turn(void) { uint8_t sent[16]; vr_turn(memory, memory_len, 0, sent); }
+static void stitch(void) { uint8_t record[VR_RECORD_BYTES]; vr_stitch(memory, memory_len, 0, record); }
+static void prefetch(void) { uint16_t entry; vr_prefetch(memory, memory_len, 0, 1, &entry); }
+static void credit(void) { vr_credit(memory, memory_len, 0, 1, 1); }
+static void map(void) { vr_map(memory, memory_len, 0, 0); }
+static void turn(void) { uint8_t sent[VR_SENT_BYTES]; vr_turn(memory, memory_len, 0, sent); }
 static void round_(void) { vr_round(memory, memory_len, lent, lent_len); }
 /* A run: an arrival, whose checksum is tried, and a turn, which makes the port's ready word. */
 static void many(void) {
@@ -37,8 +41,18 @@ static void many(void) {
 }
 static void clear(void) { vr_clear(memory, memory_len, 0); }
 static void report(void) { uint32_t mark; vr_report(memory, memory_len, 0, &mark); }
-static void timed_turn(void) { uint8_t sent[16]; vr_timed_turn(memory, memory_len, 0, 7, sent); }
+static void timed_turn(void) { uint8_t sent[VR_SENT_BYTES]; vr_timed_turn(memory, memory_len, 0, 7, sent); }
 static void bucket(void) { uint32_t count; vr_bucket(memory, memory_len, 0, 3, &count); }
+static void ready(void) { uint64_t word; uint32_t count; vr_ready(memory, memory_len, 0, &word, &count); }
+static void where(void) { uint8_t place[VR_PLACE_BYTES]; vr_where(memory, memory_len, 0, place); }
+static void read_header(void) {
+    struct vr_header said;
+    if (vr_read_header(settings.edition, settings.ports, settings.queues, header, header_len, &said)) abort();
+}
+static void write_header(void) {
+    struct vr_header said = {.source = 0, .queue = 1, .length = 64};
+    if (vr_write_header(settings.edition, settings.ports, settings.queues, &said, header, &header_len)) abort();
+}
 static void audit(void) { vr_audit(memory, memory_len, lent, lent_len); }
 static void find(void) { uint32_t rule; uint64_t item; vr_find(memory, memory_len, &rule, &item); }
 static void repair(void) { vr_repair(memory, memory_len); }
@@ -82,7 +96,7 @@ static size_t taken(void (*call)(void)) {
 
 /* On a state that keeps packets. */
 static void whole_packets(size_t bare) {
-    uint8_t record[10];
+    uint8_t record[VR_RECORD_BYTES];
     uint16_t entry;
     settings.packets = 1;
     packets = calloc(4 * settings.nodes, VR_SLOT_BYTES);
@@ -111,8 +125,11 @@ int main(void) {
         taken(nothing); /* the first thread may bring in more */
         size_t bare = taken(nothing);
         setup();
-        printf("  setup %zu, arrive %zu, turn %zu, round %zu, run %zu, audit %zu", taken(setup) - bare, taken(arrive) - bare, taken(turn) - bare,
-               taken(round_) - bare, taken(many) - bare, taken(audit) - bare);
+        printf("  read a header %zu, write one %zu, setup %zu, map %zu", taken(read_header) - bare, taken(write_header) - bare,
+               taken(setup) - bare, taken(map) - bare);
+        printf(", arrive %zu, stitch %zu, prefetch %zu, credit %zu, ready %zu, where %zu", taken(arrive) - bare, taken(stitch) - bare,
+               taken(prefetch) - bare, taken(credit) - bare, taken(ready) - bare, taken(where) - bare);
+        printf(", turn %zu, round %zu, run %zu, audit %zu", taken(turn) - bare, taken(round_) - bare, taken(many) - bare, taken(audit) - bare);
         printf(", clear %zu, report %zu, timed turn %zu, bucket %zu, find %zu", taken(clear) - bare, taken(report) - bare,
                taken(timed_turn) - bare, taken(bucket) - bare, taken(find) - bare);
         memory[memory_len / 2] ^= 0x55;
