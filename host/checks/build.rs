@@ -44,10 +44,7 @@ fn main() {
     println!("cargo:rerun-if-changed=tests/fences/mod.rs");
     let tests: Vec<String> = PAGES.into_iter().flat_map(tests_of).collect();
     let count = tests.len();
-    let text = format!(
-        "const RUST_FENCES: usize = {count};\n{}",
-        tests.join("\n")
-    );
+    let text = format!("const RUST_FENCES: usize = {count};\n{}", tests.join("\n"));
     let folder = env::var_os("OUT_DIR").expect("a folder to write to");
     fs::write(Path::new(&folder).join("snippets.rs"), text).expect("room for it");
 }
