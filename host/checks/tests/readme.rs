@@ -182,7 +182,7 @@ fn sessions(fences: &[Fence], words: &str) -> Vec<(usize, String)> {
     let fenced = console.map(|fence| (fence.line, fence.text.clone()));
     let indented = blocks(words).into_iter().filter_map(|(line, text)| {
         let compiles = text.starts_with("gcc ").then(|| format!("$ {text}"));
-        let session = text.starts_with("$ ").then(|| text);
+        let session = text.starts_with("$ ").then_some(text);
         Some((line, compiles.or(session)?))
     });
     fenced.chain(indented).collect()

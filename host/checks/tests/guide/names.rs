@@ -1,8 +1,8 @@
 //! Whatever the guide names is there: files, theorems, functions, links.
 
 use std::collections::BTreeSet;
-use std::path::Path;
-use std::{fs, iter};
+use std::fs;
+use std::path::{Path, PathBuf};
 
 use crate::page::{tables, top, words};
 
@@ -10,10 +10,10 @@ use crate::page::{tables, top, words};
 const MADE: [&str; 2] = ["target/", "dist/"];
 
 /// The files below a folder.
-fn files(folder: &Path) -> Vec<std::path::PathBuf> {
+fn files(folder: &Path) -> Vec<PathBuf> {
     let entries = fs::read_dir(folder).unwrap_or_else(|why| panic!("{folder:?}: {why}"));
     let paths = entries.map(|entry| entry.unwrap().path());
-    let below = |path: std::path::PathBuf| match path.is_dir() {
+    let below = |path: PathBuf| match path.is_dir() {
         true if path.ends_with("target") => Vec::new(),
         true => files(&path),
         false => vec![path],
@@ -39,8 +39,9 @@ fn have() -> BTreeSet<String> {
     for file in folders.iter().flat_map(|folder| files(&top().join(folder))) {
         let parts = [file.file_name(), file.file_stem()].into_iter().flatten();
         have.extend(parts.map(|part| part.to_string_lossy().into_owned()));
-        let crates = file.components().map(|part| part.as_os_str());
-        have.extend(crates.map(|part| part.to_string_lossy().into_owned()));
+        let inside = file.strip_prefix(top()).expect("a file of the tree");
+        let folders = inside.components().map(|part| part.as_os_str());
+        have.extend(folders.map(|part| part.to_string_lossy().into_owned()));
         let text = fs::read_to_string(&file).unwrap_or_default();
         have.extend(names_in(&text).map(String::from));
     }
@@ -82,16 +83,17 @@ fn is_there(word: &str, have: &BTreeSet<String>) -> bool {
     have.contains(word) || parts.all(|part| part.is_empty() || have.contains(part))
 }
 
+/// The words of a span that have to be in the tree.
+fn named(span: &str) -> impl Iterator<Item = &str> {
+    let said = said(span);
+    let alone = said.len() == 1;
+    said.into_iter().filter(move |word| counts(word, alone))
+}
+
 #[test]
 fn every_name_is_in_the_tree() {
     let (have, words) = (have(), words());
-    let of_span = |span: &'static str| {
-        let said = said(span);
-        let alone = said.len() == 1;
-        said.into_iter().filter(move |word| counts(word, alone))
-    };
-    let words: &'static str = Box::leak(words.into_boxed_str());
-    let named: Vec<&str> = spans(words).flat_map(of_span).collect();
+    let named: Vec<&str> = spans(&words).flat_map(named).collect();
     assert!(named.len() > 100, "only {} names", named.len());
     let lost: Vec<_> = named.iter().filter(|word| !is_there(word, &have)).collect();
     assert!(lost.is_empty(), "nowhere in the tree: {lost:?}");
@@ -171,8 +173,5 @@ fn the_contents_are_the_parts() {
         .expect("a list of contents");
     let list = list.split("\n## ").next().unwrap_or_default();
     let linked = list.split("](#").skip(1).map(|rest| rest.split(')').next());
-    let linked: Vec<&str> = linked.flatten().collect();
-    assert!(iter::empty::<&str>()
-        .chain(linked.iter().copied())
-        .eq(parts.iter()));
+    assert_eq!(linked.flatten().collect::<Vec<_>>(), parts);
 }

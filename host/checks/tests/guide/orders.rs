@@ -30,7 +30,7 @@ pub fn orders() -> BTreeMap<String, Vec<u8>> {
                 .and_then(|n| n.parse().ok())
                 .expect(part)
         };
-        let order: Vec<u8> = parts.map(|part| number(part)).collect();
+        let order: Vec<u8> = parts.map(number).collect();
         let calls = row[0]
             .split(", ")
             .map(|call| (call.trim_matches('`').to_string(), order.clone()));
@@ -273,7 +273,8 @@ fn of_credit_map_and_where() {
 
 #[test]
 fn of_the_calls_with_a_port_alone() {
-    let calls: [(&str, fn(u32) -> Call); 5] = [
+    type Made = fn(u32) -> Call;
+    let calls: [(&str, Made); 5] = [
         ("turn", |port| Call::Turn { port }),
         ("timed_turn", |port| Call::TimedTurn { port, now: 0 }),
         ("ready", |port| Call::Ready { port }),
