@@ -2,6 +2,7 @@
 //! their order, of the header's bits and of sizes.
 
 mod bits;
+mod layers;
 mod names;
 mod orders;
 mod page;
