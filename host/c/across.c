@@ -459,6 +459,7 @@ static void setup_other(void)
 {
     struct vr_settings s = other_settings();
     size_t lent = below(2) ? (size_t)MOST_STATE : below(MOST_STATE);
+    memset(other, PAINT, sizeof other); /* so that a byte that setup leaves out is seen */
     told(SETUP, vr_setup(other + GUARD, lent, &s));
     take(other, sizeof other);
 }
