@@ -14,10 +14,10 @@ const EVERYWHERE: usize = 10;
 /// [`Refusal`] it is 6, which [`Switch::arrive`] gives.
 ///
 /// ```
-/// use ventorupo::{Batch, Form, Refusal};
+/// use ventorupo::{Batch, Form, Refusal, WrongLength};
 ///
 /// let wrong = Batch::new(Form::wide(8, 16))?.arrive(0, &[0; 9]).unwrap_err();
-/// assert_eq!((wrong.bytes, wrong.size), (9, 11));
+/// assert_eq!(wrong, WrongLength { bytes: 9, size: 11 });
 /// assert_eq!(wrong.to_string(), "a header of 9 bytes, where those of the form have 11");
 /// assert_eq!(Refusal::from(wrong), Refusal::HeaderSize);
 /// # Ok::<(), Refusal>(())

@@ -1,0 +1,137 @@
+//! How the crate is built: with every feature and without, without the standard library,
+//! where the archive is in a release, and what is said where it is missing.
+
+use std::path::{Path, PathBuf};
+use std::process::{Command, Output};
+use std::{env, fs};
+
+const CRATE: &str = env!("CARGO_MANIFEST_DIR");
+const BOARD: &str = include_str!("board/main_on_board.rs");
+
+/// A folder of this test's own, empty.
+fn folder(name: &str) -> PathBuf {
+    let folder = Path::new(env!("CARGO_TARGET_TMPDIR"))
+        .join("building")
+        .join(name);
+    let _ = fs::remove_dir_all(&folder);
+    fs::create_dir_all(&folder).unwrap();
+    folder
+}
+
+/// Where this build has found the archive.
+fn archive() -> PathBuf {
+    let named = env::var_os("VENTORUPO_LIB").map(PathBuf::from);
+    let folder = named.unwrap_or_else(|| Path::new(CRATE).join("../../target/staticlib"));
+    folder.join("libventorupo.a")
+}
+
+/// Cargo on the manifest in a folder, whose builds go to another.
+fn cargo(words: &[&str], manifest: &Path, builds: &Path) -> Command {
+    let mut cargo = Command::new(env::var_os("CARGO").unwrap_or_else(|| "cargo".into()));
+    cargo.args(words).arg("--offline").arg("--manifest-path");
+    cargo.arg(manifest.join("Cargo.toml"));
+    cargo.arg("--target-dir").arg(builds);
+    cargo
+}
+
+fn errors(output: &Output) -> String {
+    String::from_utf8_lossy(&output.stderr).into_owned()
+}
+
+#[test]
+fn with_every_set_of_features() {
+    let builds = folder("features");
+    for features in ["", "alloc", "std"] {
+        let mut cargo = cargo(
+            &["check", "--no-default-features"],
+            Path::new(CRATE),
+            &builds,
+        );
+        cargo
+            .args(["--features", features])
+            .env("RUSTFLAGS", "-D warnings");
+        let checked = cargo.output().unwrap();
+        assert!(checked.status.success(), "{features}: {}", errors(&checked));
+    }
+}
+
+#[test]
+fn without_the_standard_library() {
+    let folder = folder("board");
+    let manifest = format!(
+        "[package]\nname = \"board\"\nversion = \"0.0.0\"\nedition = \"2021\"\n\
+         [workspace]\n[[bin]]\nname = \"board\"\npath = \"board.rs\"\n\
+         [profile.release]\npanic = \"abort\"\n[dependencies.ventorupo]\npath = {CRATE:?}\n\
+         default-features = false\n"
+    );
+    fs::write(folder.join("Cargo.toml"), manifest).unwrap();
+    fs::write(folder.join("board.rs"), BOARD).unwrap();
+    let builds = folder.join("builds");
+    let built = cargo(&["build", "--release"], &folder, &builds).output();
+    let built = built.unwrap();
+    assert!(built.status.success(), "{}", errors(&built));
+    let ran = Command::new(builds.join("release/board")).status().unwrap();
+    assert_eq!(ran.code(), Some(0));
+}
+
+#[test]
+fn without_the_archive() {
+    let empty = folder("empty");
+    let mut cargo = cargo(&["check"], Path::new(CRATE), &folder("no_archive"));
+    let checked = cargo.env("VENTORUPO_LIB", &empty).output().unwrap();
+    let said = errors(&checked);
+    assert!(!checked.status.success());
+    let wanted = [
+        "libventorupo.a, the archive of proved code, is in none of these folders:".to_string(),
+        format!("    {}", empty.display()),
+        "Make it at the top of the repository, with the Rattle toolchain (rt) on the PATH:".into(),
+        "    tools/staticlib ventorupo".into(),
+        "or name the folder that has it in the variable VENTORUPO_LIB.".into(),
+    ];
+    for line in wanted {
+        assert!(
+            said.lines().any(|said| said.trim_end().ends_with(&line)),
+            "{line}: {said}"
+        );
+    }
+    assert!(said.contains("exit status: 1"), "{said}");
+    assert!(!said.contains("panicked"), "{said}");
+}
+
+/// The crate as a release has it, with the archive for this processor.
+#[test]
+fn in_a_release() {
+    let release = folder("release");
+    let own = release.join("rust/ventorupo");
+    for part in ["src", "examples"] {
+        fs::create_dir_all(own.join(part)).unwrap();
+        for file in fs::read_dir(Path::new(CRATE).join(part)).unwrap() {
+            let file = file.unwrap();
+            fs::copy(file.path(), own.join(part).join(file.file_name())).unwrap();
+        }
+    }
+    for file in ["build.rs", "archives.rs"] {
+        fs::copy(Path::new(CRATE).join(file), own.join(file)).unwrap();
+    }
+    let manifest = fs::read_to_string(Path::new(CRATE).join("Cargo.toml")).unwrap();
+    fs::write(own.join("Cargo.toml"), manifest + "\n[workspace]\n").unwrap();
+    let builds = release.join("builds");
+    let build = || {
+        let mut cargo = cargo(&["build", "--example", "replay"], &own, &builds);
+        cargo.env_remove("VENTORUPO_LIB").output().unwrap()
+    };
+    let lib = release.join(format!("lib/{}-linux-gnu", env::consts::ARCH));
+    let said = errors(&build());
+    let shown = own.join("../..").join(lib.strip_prefix(&release).unwrap());
+    assert!(said.contains(&shown.display().to_string()), "{said}");
+    assert!(said.contains("target/staticlib\n"), "{said}");
+    fs::create_dir_all(&lib).unwrap();
+    fs::copy(archive(), lib.join("libventorupo.a")).unwrap();
+    let built = build();
+    assert!(built.status.success(), "{}", errors(&built));
+    let ran = Command::new(builds.join("debug/examples/replay"))
+        .output()
+        .unwrap();
+    let expected = fs::read(Path::new(CRATE).join("examples/replay.expected")).unwrap();
+    assert_eq!(ran.stdout, expected);
+}
