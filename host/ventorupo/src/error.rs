@@ -10,7 +10,7 @@ use crate::Refusal;
 ///
 /// ```
 /// use std::error::Error;
-/// use ventorupo::{Refusal, Settings, Switch};
+/// use ventorupo::{Refusal, Settings, SetupError, Switch};
 ///
 /// fn begin(bytes: usize) -> Result<Switch<Vec<u8>>, Refusal> {
 ///     Ok(Switch::setup(vec![0; bytes], Settings::ten_bytes())?)
@@ -22,7 +22,7 @@ use crate::Refusal;
 ///     assert_eq!(switch.find(), None);
 ///
 ///     assert_eq!(begin(100).unwrap_err(), Refusal::ShortMemory);
-///     let refused = Switch::setup([7; 100], settings).unwrap_err();
+///     let refused: SetupError<_> = Switch::setup([7; 100], settings).unwrap_err();
 ///     assert_eq!(refused.to_string(), "memory shorter than its settings need");
 ///     assert_eq!(refused.memory, [7; 100]);
 ///     Ok(())

@@ -289,13 +289,13 @@ fn without_entry(told: Result<Option<EntryId>, Refusal>) -> Option<Result<(), Re
 /// The answers of a run, read out of its room one by one: see [`Ran::answers`].
 ///
 /// ```
-/// use ventorupo::{Answer, Ran, Stop};
+/// use ventorupo::{Answers, Ran, Stop};
 ///
 /// // Two turns, and the room that a run of them leaves.
 /// let (fields, room) = ([5, 0, 1, 0, 5, 0, 1, 1], [0, 1, 0, 0, 0, 0, 8, 0]);
 /// let ran = Ran { count: 2, why: Stop::Ended };
-/// let sent = ran.answers(&fields, &room).filter_map(|answer| answer.entry());
-/// assert_eq!(sent.count(), 1);
+/// let answers: Answers = ran.answers(&fields, &room);
+/// assert_eq!(answers.filter_map(|answer| answer.entry()).count(), 1);
 /// ```
 #[derive(Debug, Clone)]
 pub struct Answers<'a> {

@@ -12,6 +12,13 @@ const CAPI: &str = include_str!("../../../crates/capi/src/lib.rt");
 const CAPI_RUN: &str = include_str!("../../../crates/capi_run/src/lib.rt");
 const HEADER: &str = include_str!("../../../include/ventorupo.h");
 const README: &str = include_str!("../../../README.md");
+const VERSION: &str = include_str!("../../../VERSION");
+
+#[test]
+fn the_version_is_one() {
+    assert_eq!(ventorupo::VERSION, VERSION.trim_end());
+    assert_eq!(VERSION.lines().count(), 1);
+}
 
 /// What stands in a text between two marks.
 fn between<'a>(text: &'a str, from: &str, to: &str) -> &'a str {

@@ -128,6 +128,27 @@ fn no_memory_at_all() {
     assert_eq!(switch.arrive(0, &[]), Err(Refusal::NoState));
 }
 
+/// Every entry id: 2,048 of each of 32 ports.
+#[test]
+fn an_entry_id_is_a_port_and_an_index() {
+    for entry in 0..=u16::MAX {
+        let id = EntryId(entry);
+        assert_eq!((id.port(), id.index()), (entry >> 11, entry & 0x7FF));
+    }
+}
+
+/// Each field by a number of its own, in the order of the C interface.
+#[test]
+fn every_field_is_set_by_its_name() {
+    let header = Header::new().transaction(8).credit(7).timestamp(6);
+    let header = header.length(4).queue(3).source(2).destination(1);
+    assert_eq!(header.numbers(), [1, 2, 3, 4, 0, 6, 7, 8]);
+    let poisoned = header.poisoned(true);
+    assert_eq!(poisoned.numbers(), [1, 2, 3, 4, 1, 6, 7, 8]);
+    assert_eq!(poisoned.poisoned(false), header);
+    assert_eq!(Header::new().numbers(), [0; 8]);
+}
+
 #[test]
 fn refusals_and_their_numbers() {
     assert_eq!(Refusal::ALL.len(), 22);
