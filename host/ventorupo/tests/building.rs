@@ -98,40 +98,43 @@ fn without_the_archive() {
     assert!(!said.contains("panicked"), "{said}");
 }
 
-/// The crate as a release has it, with the archive for this processor.
+/// Copies the crate, as a release has it.
+fn copy_crate(to: &Path) {
+    let parts = ["src", "examples"].map(|part| Path::new(CRATE).join(part));
+    let files = parts.iter().flat_map(|part| fs::read_dir(part).unwrap());
+    let files = files.map(|file| file.unwrap().path());
+    let builds = ["build.rs", "archives.rs"].map(|file| Path::new(CRATE).join(file));
+    for file in files.chain(builds) {
+        let copy = to.join(file.strip_prefix(CRATE).unwrap());
+        fs::create_dir_all(copy.parent().unwrap()).unwrap();
+        fs::copy(file, copy).unwrap();
+    }
+    let manifest = fs::read_to_string(Path::new(CRATE).join("Cargo.toml")).unwrap();
+    fs::write(to.join("Cargo.toml"), manifest + "\n[workspace]\n").unwrap();
+}
+
+/// First without the archive, then with the one for this processor.
 #[test]
 fn in_a_release() {
     let release = folder("release");
-    let own = release.join("rust/ventorupo");
-    for part in ["src", "examples"] {
-        fs::create_dir_all(own.join(part)).unwrap();
-        for file in fs::read_dir(Path::new(CRATE).join(part)).unwrap() {
-            let file = file.unwrap();
-            fs::copy(file.path(), own.join(part).join(file.file_name())).unwrap();
-        }
-    }
-    for file in ["build.rs", "archives.rs"] {
-        fs::copy(Path::new(CRATE).join(file), own.join(file)).unwrap();
-    }
-    let manifest = fs::read_to_string(Path::new(CRATE).join("Cargo.toml")).unwrap();
-    fs::write(own.join("Cargo.toml"), manifest + "\n[workspace]\n").unwrap();
-    let builds = release.join("builds");
+    let (own, builds) = (release.join("rust/ventorupo"), release.join("builds"));
+    copy_crate(&own);
     let build = || {
         let mut cargo = cargo(&["build", "--example", "replay"], &own, &builds);
         cargo.env_remove("VENTORUPO_LIB").output().unwrap()
     };
-    let lib = release.join(format!("lib/{}-linux-gnu", env::consts::ARCH));
+    let lib = format!("lib/{}-linux-gnu", env::consts::ARCH);
     let said = errors(&build());
-    let shown = own.join("../..").join(lib.strip_prefix(&release).unwrap());
-    assert!(said.contains(&shown.display().to_string()), "{said}");
-    assert!(said.contains("target/staticlib\n"), "{said}");
+    for folder in ["target/staticlib", &lib] {
+        let line = format!("{}\n", own.join("../..").join(folder).display());
+        assert!(said.contains(&line), "{line}: {said}");
+    }
+    let lib = release.join(lib);
     fs::create_dir_all(&lib).unwrap();
     fs::copy(archive(), lib.join("libventorupo.a")).unwrap();
     let built = build();
     assert!(built.status.success(), "{}", errors(&built));
-    let ran = Command::new(builds.join("debug/examples/replay"))
-        .output()
-        .unwrap();
+    let ran = Command::new(builds.join("debug/examples/replay")).output();
     let expected = fs::read(Path::new(CRATE).join("examples/replay.expected")).unwrap();
-    assert_eq!(ran.stdout, expected);
+    assert_eq!(ran.unwrap().stdout, expected);
 }

@@ -5,6 +5,8 @@ use ventorupo::{size, Form, Settings, Switch, TEN_BYTES, WIDE};
 
 const SMALLEST: Settings = Settings::wide(2, 2).nodes(1);
 
+const BOTH: [Settings; 2] = [Settings::ten_bytes(), Settings::wide(8, 16)];
+
 /// As long as a constant says.
 static ZEROS: [u8; SMALLEST.size()] = [0; SMALLEST.size()];
 
@@ -26,20 +28,21 @@ fn the_constant_is_a_memorys_length() {
     assert!(Switch::setup(&mut { ZEROS }[1..], SMALLEST).is_err());
 }
 
-/// Every number of ports and queues, and those beside their rows; with packets and
-/// without.
+/// With few nodes, with more and with the most, with packets and without, of both
+/// editions: how many of them are sizes.
+fn agreed(ports: u32, queues: u32) -> usize {
+    let kinds = [(1, 0), (256, 0), (2048, 0), (1, 1), (256, 1), (2048, 1)];
+    let wide = |(nodes, packets)| Settings::wide(ports, queues).nodes(nodes).packets(packets);
+    let both = kinds.into_iter().map(wide);
+    let both = both.flat_map(|settings| [settings, settings.edition(TEN_BYTES)]);
+    both.filter(|&settings| agree(settings)).count()
+}
+
+/// Every number of ports and queues, and those beside their rows.
 #[test]
 fn every_shape_has_the_librarys_size() {
-    let mut sizes = 0;
-    for ports in 0..=34 {
-        for queues in 0..=66 {
-            for (nodes, packets) in [(1, 0), (256, 0), (2048, 0), (1, 1), (256, 1), (2048, 1)] {
-                let wide = Settings::wide(ports, queues).nodes(nodes).packets(packets);
-                sizes += usize::from(agree(wide));
-                sizes += usize::from(agree(wide.edition(TEN_BYTES)));
-            }
-        }
-    }
+    let shapes = (0..=34).flat_map(|ports| (0..=66).map(move |queues| (ports, queues)));
+    let sizes: usize = shapes.map(|(ports, queues)| agreed(ports, queues)).sum();
     // 31 x 63 shapes at three numbers of nodes; ten bytes at six settings.
     assert_eq!(sizes, 31 * 63 * 3 + 6);
 }
@@ -52,23 +55,18 @@ fn settings_out_of_their_rows_have_none() {
     ];
     let numbers = edges.into_iter().chain([65_535, 65_536, 1 << 31, u32::MAX]);
     let mut none = 0;
-    for number in numbers {
-        for settings in [Settings::ten_bytes(), Settings::wide(8, 16)] {
-            let changed = [
-                settings.nodes(number),
-                settings.beat(number),
-                settings.slots(number),
-                settings.credit(number),
-                settings.ports(number),
-                settings.queues(number),
-                settings.edition(number),
-                settings.packets(number),
-            ];
-            none += changed
-                .into_iter()
-                .filter(|&settings| !agree(settings))
-                .count();
-        }
+    for (number, settings) in numbers.flat_map(|n| BOTH.map(|settings| (n, settings))) {
+        let changed = [
+            settings.nodes(number),
+            settings.beat(number),
+            settings.slots(number),
+            settings.credit(number),
+            settings.ports(number),
+            settings.queues(number),
+            settings.edition(number),
+            settings.packets(number),
+        ];
+        none += changed.into_iter().filter(|&s| !agree(s)).count();
     }
     assert!(none > 150, "{none}");
 }

@@ -5,8 +5,7 @@ mod common;
 
 use common::switch;
 use ventorupo::{
-    calls, EntryId, Form, Header, Place, Ready, Refusal, Settings, Switch, View, BUCKETS,
-    PLACE_BYTES,
+    calls, EntryId, Form, Header, Place, Ready, Refusal, Settings, Switch, View, PLACE_BYTES,
 };
 
 /// Of every edition, with packets and without; no two settings are the same number.
@@ -53,39 +52,44 @@ fn settings_are_read_off_the_image() {
     assert_eq!(View::over(&[]).settings(), Err(Refusal::NoState));
 }
 
-/// Ready word, mark, buckets and places, each beside the plain call.
+/// Ready word, mark and buckets of a port, each beside the plain call.
+fn answers_of_a_port(view: View, port: u32) {
+    let (mut word, mut count, mut mark) = (0, 0, 0);
+    assert_eq!(calls::ready(view.memory(), port, &mut word, &mut count), 0);
+    assert_eq!(view.ready(port), Ok(Ready { word, count }));
+    assert_eq!(calls::report(view.memory(), port, &mut mark), 0);
+    let number = view.report(port).unwrap().map_or(0, |halt| halt.number());
+    assert_eq!(number, mark);
+    for (bucket, told) in (0..).zip(view.buckets(port).unwrap()) {
+        let mut count = 0;
+        assert_eq!(calls::bucket(view.memory(), port, bucket, &mut count), 0);
+        assert_eq!((view.bucket(port, bucket), told), (Ok(count), count));
+    }
+}
+
+/// Every place, beside the plain call.
+fn places(view: View, nodes: u32) {
+    let mut room = vec![0; nodes as usize * PLACE_BYTES];
+    assert_eq!(calls::audit(view.memory(), &mut room), 0);
+    let mut lent = vec![9; room.len()];
+    assert_eq!(view.audit_into(&mut lent), Ok(()));
+    assert_eq!(lent, room);
+    let place = |place: &[u8]| Place::from_bytes(place.try_into().unwrap()).unwrap();
+    let places: Vec<Place> = room.chunks(PLACE_BYTES).map(place).collect();
+    for place in &places {
+        assert_eq!(view.place_of(place.entry), Ok(*place));
+    }
+    assert_eq!(view.audit(), Ok(places));
+}
+
 #[test]
 fn a_view_answers_as_the_library() {
     for settings in settings() {
         let switch = busy(settings);
-        let (view, memory) = (switch.view(), switch.memory());
-        for port in 0..settings.ports {
-            let (mut word, mut count, mut mark) = (0, 0, 0);
-            assert_eq!(calls::ready(memory, port, &mut word, &mut count), 0);
-            assert_eq!(view.ready(port), Ok(Ready { word, count }));
-            assert_eq!(calls::report(memory, port, &mut mark), 0);
-            let number = view.report(port).unwrap().map_or(0, |halt| halt.number());
-            assert_eq!(number, mark);
-            for bucket in 0..BUCKETS as u32 {
-                let mut count = 0;
-                assert_eq!(calls::bucket(memory, port, bucket, &mut count), 0);
-                assert_eq!(view.bucket(port, bucket), Ok(count));
-                assert_eq!(view.buckets(port).unwrap()[bucket as usize], count);
-            }
-        }
-        let mut room = vec![0; (settings.ports * settings.nodes) as usize * PLACE_BYTES];
-        assert_eq!(calls::audit(memory, &mut room), 0);
-        let mut lent = vec![9; room.len()];
-        assert_eq!(view.audit_into(&mut lent), Ok(()));
-        assert_eq!(lent, room);
-        let places = room.chunks(PLACE_BYTES);
-        let places = places.map(|place| Place::from_bytes(place.try_into().unwrap()).unwrap());
-        let places: Vec<Place> = places.collect();
-        assert_eq!(view.audit(), Ok(places.clone()));
-        for place in places {
-            assert_eq!(view.place_of(place.entry), Ok(place));
-        }
-        assert_eq!((view.find(), view.memory()), (None, memory));
+        let view = switch.view();
+        (0..settings.ports).for_each(|port| answers_of_a_port(view, port));
+        places(view, settings.ports * settings.nodes);
+        assert_eq!((view.find(), view.memory()), (None, switch.memory()));
     }
 }
 
@@ -98,22 +102,28 @@ fn a_busy_switch_has_something_to_tell() {
     assert_eq!(switch.buckets(0).unwrap()[4], 1);
 }
 
+fn a_port_is_handed_on(switch: &Switch<Vec<u8>>, port: u32) {
+    let view = switch.view();
+    assert_eq!(switch.ready(port), view.ready(port));
+    assert_eq!(switch.report(port), view.report(port));
+    assert_eq!(switch.buckets(port), view.buckets(port));
+    for bucket in [0, 4, 32, 33] {
+        assert_eq!(switch.bucket(port, bucket), view.bucket(port, bucket));
+    }
+}
+
 #[test]
 fn a_switch_hands_on_to_its_view() {
     for settings in settings() {
         let switch = busy(settings);
         let view = switch.view();
-        for port in [0, 1, settings.ports] {
-            assert_eq!(switch.ready(port), view.ready(port));
-            assert_eq!(switch.report(port), view.report(port));
-            assert_eq!(switch.buckets(port), view.buckets(port));
-            for bucket in [0, 4, 32, 33] {
-                assert_eq!(switch.bucket(port, bucket), view.bucket(port, bucket));
-            }
-        }
-        for entry in [0, 2048, 2049, 5, u16::MAX].map(EntryId) {
-            assert_eq!(switch.place_of(entry), view.place_of(entry));
-        }
+        let ports = [0, 1, settings.ports];
+        ports
+            .into_iter()
+            .for_each(|port| a_port_is_handed_on(&switch, port));
+        let entries = [0, 2048, 2049, 5, u16::MAX].map(EntryId);
+        let places = entries.map(|entry| switch.place_of(entry));
+        assert_eq!(places, entries.map(|entry| view.place_of(entry)));
         assert_eq!(switch.audit(), view.audit());
         assert_eq!(
             (switch.find(), switch.memory()),
@@ -141,4 +151,5 @@ fn a_view_of_no_state_is_refused_3() {
     assert_eq!(view.show([&[]; 4], 0, 0), Err(no_state));
     assert_eq!(view.find().unwrap().to_string(), "rule (a), item 0");
     assert_eq!(view.memory(), [7; 6720]);
+    assert_eq!(Switch::over([7; 6720]).find(), view.find());
 }
