@@ -10,11 +10,9 @@ pub fn link(names: &[&str]) {
     for name in names {
         let file = format!("lib{name}.a");
         let folders = folders();
-        for folder in &folders {
-            println!("cargo:rerun-if-changed={}", folder.join(&file).display());
-        }
         let folder = folders.iter().find(|folder| folder.join(&file).is_file());
         let folder = folder.unwrap_or_else(|| missing(name, &folders));
+        println!("cargo:rerun-if-changed={}", folder.join(&file).display());
         // Whole: the linker does not run in this folder.
         let folder = folder.canonicalize().expect("a folder that is there");
         println!("cargo:rustc-link-search=native={}", folder.display());

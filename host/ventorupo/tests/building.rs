@@ -134,6 +134,9 @@ fn in_a_release() {
     fs::copy(archive(), lib.join("libventorupo.a")).unwrap();
     let built = build();
     assert!(built.status.success(), "{}", errors(&built));
+    // And not a second time.
+    let again = errors(&build());
+    assert!(!again.contains("Compiling"), "{again}");
     let ran = Command::new(builds.join("debug/examples/replay")).output();
     let expected = fs::read(Path::new(CRATE).join("examples/replay.expected")).unwrap();
     assert_eq!(ran.unwrap().stdout, expected);
