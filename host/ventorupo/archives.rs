@@ -26,15 +26,25 @@ fn folders() -> Vec<PathBuf> {
     if let Some(folder) = env::var_os("VENTORUPO_LIB") {
         return vec![PathBuf::from(folder)];
     }
-    let named = |name| env::var(name).expect("cargo names it");
-    let (host, target) = (named("HOST"), named("CARGO_CFG_TARGET_ARCH"));
     let top = Path::new(&named("CARGO_MANIFEST_DIR")).join("../..");
     let own = top.join("target/staticlib");
-    let written = match host.starts_with(&format!("{target}-")) {
-        true => own,
-        false => own.join(&target),
+    let written = match other_processor() {
+        Some(other) => own.join(other),
+        None => own,
     };
+    let target = named("CARGO_CFG_TARGET_ARCH");
     vec![written, top.join(format!("lib/{target}-linux-gnu"))]
+}
+
+fn named(name: &str) -> String {
+    env::var(name).expect("cargo names it")
+}
+
+/// The target's processor, if it isn't this machine's.
+fn other_processor() -> Option<String> {
+    let target = named("CARGO_CFG_TARGET_ARCH");
+    let own = named("HOST").starts_with(&format!("{target}-"));
+    Some(target).filter(|_| !own)
 }
 
 /// Says what to do, and ends the build.
@@ -44,7 +54,8 @@ fn missing(name: &str, folders: &[PathBuf]) -> ! {
         eprintln!("    {}", folder.display());
     }
     eprintln!("Make it at the top of the repository, with the Rattle toolchain (rt) on the PATH:");
-    eprintln!("    tools/staticlib {name}");
+    let other = other_processor().map_or(String::new(), |other| format!(" {other}"));
+    eprintln!("    tools/staticlib {name}{other}");
     eprintln!("or name the folder that has it in the variable VENTORUPO_LIB.");
     exit(1)
 }

@@ -16,23 +16,7 @@ fn main() -> Result<(), Box<dyn Error>> {
     let (ports, queues) = (settings.ports, settings.queues);
     println!("{ports} ports, {queues} queues, {} nodes", settings.nodes);
 
-    // Where every node stands; those in the pools are told by their number.
-    let places = view.audit()?;
-    for port in 0..ports as u8 {
-        let free = ListKind::Free { port };
-        let free = places.iter().filter(|place| place.list == free).count();
-        println!("port {port}: {free} nodes free");
-    }
-    for place in &places {
-        let (port, node) = (place.entry.port(), place.entry.index());
-        match place.list {
-            ListKind::Free { .. } => {}
-            list => println!(
-                "node {node} of port {port}: {list:?}, at {}",
-                place.position
-            ),
-        }
-    }
+    print_places(&view.audit()?, ports as u8);
 
     // Any call on a broken image is refused 3. A finding tells why.
     let last_served = 16 + 4096 + 1;
@@ -53,6 +37,25 @@ fn main() -> Result<(), Box<dyn Error>> {
     let free = places.iter().filter(free).count();
     println!("repaired: {free} of {} nodes are free", places.len());
     Ok(())
+}
+
+/// Where every node stands; those in the pools are told by their number.
+fn print_places(places: &[Place], ports: u8) {
+    for port in 0..ports {
+        let free = ListKind::Free { port };
+        let free = places.iter().filter(|place| place.list == free).count();
+        println!("port {port}: {free} nodes free");
+    }
+    for place in places {
+        let (port, node) = (place.entry.port(), place.entry.index());
+        match place.list {
+            ListKind::Free { .. } => {}
+            list => println!(
+                "node {node} of port {port}: {list:?}, at {}",
+                place.position
+            ),
+        }
+    }
 }
 
 /// An image with three packets: one in a slot, one behind it, one that just arrived.

@@ -34,7 +34,14 @@ fn main() -> Result<(), Box<dyn Error>> {
     println!("the receiver has room again");
     switch.credit(2, 3, 2)?;
     print_round(&mut switch, 5)?;
+    a_port_lies(&mut switch, settings, audio)
+}
 
+fn a_port_lies(
+    switch: &mut Switch<Vec<u8>>,
+    settings: Settings,
+    audio: Header,
+) -> Result<(), Box<dyn Error>> {
     // The header says port 1, and it arrives at port 4: that port is halted.
     let bytes = settings.form().write(&audio)?;
     if let Err(refusal) = switch.arrive(4, &bytes) {

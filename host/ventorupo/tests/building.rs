@@ -98,6 +98,22 @@ fn without_the_archive() {
     assert!(!said.contains("panicked"), "{said}");
 }
 
+/// The command for another processor names it.
+#[test]
+fn without_the_archive_for_another_processor() {
+    let other = match env::consts::ARCH {
+        "aarch64" => "x86_64",
+        _ => "aarch64",
+    };
+    let target = format!("{other}-unknown-linux-gnu");
+    let words = ["check", "--target", &target];
+    let mut cargo = cargo(&words, Path::new(CRATE), &folder("other"));
+    let checked = cargo.env("VENTORUPO_LIB", folder("empty_too")).output();
+    let said = errors(&checked.unwrap());
+    let line = format!("    tools/staticlib ventorupo {other}");
+    assert!(said.lines().any(|said| said.ends_with(&line)), "{said}");
+}
+
 /// Copies the crate, as a release has it.
 fn copy_crate(to: &Path) {
     let parts = ["src", "examples"].map(|part| Path::new(CRATE).join(part));

@@ -80,30 +80,25 @@ fn a_refused_setup_shows_its_refusal() {
     );
 }
 
-/// As the papers, the C header and the README have them; names.rs compares those of
-/// refusals and stops.
+/// As the papers have them; names.rs compares those of the refusals.
 #[test]
-fn the_other_texts() {
+fn the_texts_of_halts_and_stops() {
     let beat = "last mark too early, absent where the length ends, or a beat of a wrong size";
+    let source = "header's source isn't the arriving port";
     let halts: Vec<String> = Halt::ALL.iter().map(|halt| halt.to_string()).collect();
-    let of = |refusal: Refusal| refusal.to_string();
-    assert_eq!(
-        halts,
-        [of(Refusal::Checksum), of(Refusal::Source), beat.into()]
-    );
-    assert_eq!(
-        halts[..2],
-        [
-            "checksum differs",
-            "header's source isn't the arriving port"
-        ]
-    );
+    assert_eq!(halts, ["checksum differs", source, beat]);
+    let refusals = [Refusal::Checksum, Refusal::Source];
+    assert_eq!(halts[..2], refusals.map(|refusal| refusal.to_string()));
     let stops = [
         "the fields ended",
         "a bad field",
         "no room for a good field's answer",
     ];
     assert_eq!(Stop::ALL.map(|stop| stop.to_string()), stops);
+}
+
+#[test]
+fn the_texts_of_batches_and_findings() {
     let wrong = WrongLength { bytes: 9, size: 11 };
     let text = "a header of 9 bytes, where those of the form have 11";
     assert_eq!(wrong.to_string(), text);
@@ -111,20 +106,13 @@ fn the_other_texts() {
     let stopped = Unfinished::Stopped(vec![Answer::Turned(Ok(None)); 2]);
     let text = "stopped at a header of another form than the switch's; calls done before it: 2";
     assert_eq!(stopped.to_string(), text);
-    for refusal in Refusal::ALL {
-        assert_eq!(
-            Unfinished::Refused(*refusal).to_string(),
-            refusal.to_string()
-        );
-    }
-    for rule in Rule::ALL {
-        let finding = Finding {
-            rule: *rule,
-            item: 5,
-        };
-        assert_eq!(
-            finding.to_string(),
-            format!("rule ({}), item 5", rule.letter())
-        );
-    }
+    let told = |&refusal: &Refusal| Unfinished::Refused(refusal).to_string() == refusal.to_string();
+    assert!(Refusal::ALL.iter().all(told));
+    let finding = |&rule: &Rule| Finding { rule, item: 5 }.to_string();
+    let findings: Vec<String> = Rule::ALL.iter().map(finding).collect();
+    let wanted = |letter| format!("rule ({letter}), item 5");
+    assert_eq!(
+        findings,
+        ["a", "b", "c", "d", "e", "f", "g", "i"].map(wanted)
+    );
 }
