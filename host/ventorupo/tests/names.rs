@@ -27,11 +27,14 @@ fn between<'a>(text: &'a str, from: &str, to: &str) -> &'a str {
 }
 
 /// The lines of a list, each of which gives a number to a name: `prefix` name
-/// `equals` number, and what follows a comma.
+/// `equals` number, and what follows a comma or, on the last line, a blank.
 fn listed(lines: &str, prefix: &str, equals: &str) -> Vec<(u32, String)> {
     let read = |line: &str| {
         let (name, rest) = line.trim().strip_prefix(prefix)?.split_once(equals)?;
-        Some((rest.split(',').next()?.parse().ok()?, name.to_string()))
+        Some((
+            rest.split([',', ' ']).next()?.parse().ok()?,
+            name.to_string(),
+        ))
     };
     let read = |line| read(line).unwrap_or_else(|| panic!("no number for a name: {line}"));
     lines.lines().map(read).collect()
