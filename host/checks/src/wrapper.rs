@@ -31,16 +31,9 @@ pub fn with_packets(
     let mut switch = Switch::over(&mut *memory);
     let reply = match call {
         Call::Setup(s) => {
-            let settings = Settings {
-                nodes: s.nodes,
-                beat: s.beat,
-                slots: s.slots,
-                credit: s.credit,
-                ports: s.ports,
-                queues: s.queues,
-                edition: s.edition,
-                packets: s.packets,
-            };
+            let settings = Settings::wide(s.ports, s.queues).edition(s.edition);
+            let settings = settings.nodes(s.nodes).beat(s.beat).slots(s.slots);
+            let settings = settings.credit(s.credit).packets(s.packets);
             switch.setup_again(settings).map(|()| Reply::Done)
         }
         Call::Arrive { port, header } => switch.arrive(*port, header).map(entry),

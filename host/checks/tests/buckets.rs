@@ -10,7 +10,11 @@ use model::{size, Call, Model, Reply, Settings, Shape, BUCKETS};
 use traffic::{header, Profile, Random, Traffic, SHAPES};
 use ventorupo::{bucket_of, waits_of, Refusal, Switch, Turn};
 
-const SMALL: ventorupo::Settings = ventorupo::Settings::ten_bytes(2, 64, 1, 16);
+const SMALL: ventorupo::Settings = ventorupo::Settings::ten_bytes()
+    .nodes(2)
+    .beat(64)
+    .slots(1)
+    .credit(16);
 
 fn switch() -> Switch<Vec<u8>> {
     let memory = vec![0; ventorupo::size(&SMALL).unwrap()];

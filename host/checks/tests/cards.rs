@@ -4,11 +4,11 @@
 use model::checksum::crc8;
 use traffic::header;
 use ventorupo::{
-    find, repair, EntryId, Finding, Halt, ListKind, Refusal, RoundTurn, Rule, Settings, Side,
-    Switch, Turn,
+    find, repair, EntryId, Finding, Halt, ListKind, Refusal, RoundTurn, Rule, Settings, SetupError,
+    Side, Switch, Turn,
 };
 
-const SMALL: Settings = Settings::ten_bytes(8, 64, 4, 128);
+const SMALL: Settings = Settings::ten_bytes().nodes(8).beat(64).slots(4).credit(128);
 
 const SHORTEST: [u8; 10] = [0, 0, 0x30, 0, 0, 0, 0, 0, 0, 0x72];
 
@@ -114,7 +114,7 @@ fn first_bytes() {
 
 #[test]
 fn one_node_is_used_again() {
-    let mut switch = switch(Settings { nodes: 1, ..SMALL });
+    let mut switch = switch(SMALL.nodes(1));
     assert_eq!(switch.arrive(0, &SHORTEST), Ok(EntryId(0)));
     assert_eq!(switch.arrive(0, &SHORTEST), Err(Refusal::NoFreeNode));
     switch.stitch(0).unwrap();
@@ -140,7 +140,7 @@ fn three_ready_after_queue_5() {
 
 #[test]
 fn all_ready_after_queue_5() {
-    let mut switch = switch(Settings { nodes: 64, ..SMALL });
+    let mut switch = switch(SMALL.nodes(64));
     bring_covered(&mut switch, 5);
     assert_eq!(served(&mut switch), 5);
     for queue in 0..24 {
@@ -173,10 +173,10 @@ fn nodes_per_port() {
         (1134, Some(Refusal::ShortMemory)),
         (2048, Some(Refusal::ShortMemory)),
     ] {
-        let settings = Settings { nodes, ..SMALL };
+        let settings = SMALL.nodes(nodes);
         match Switch::setup(vec![0; 65_536], settings) {
             Ok(_) => assert_eq!(wanted, None),
-            Err((refusal, memory)) => {
+            Err(SetupError { refusal, memory }) => {
                 assert_eq!(Some(refusal), wanted);
                 assert_eq!(memory, vec![0; 65_536]);
             }
@@ -187,10 +187,7 @@ fn nodes_per_port() {
 /// All the nodes that entry ids allow, in one list: ids and positions to 8,191.
 #[test]
 fn one_queue_holds_every_node() {
-    let settings = Settings {
-        nodes: 2048,
-        ..SMALL
-    };
+    let settings = SMALL.nodes(2048);
     let mut switch = Switch::setup(vec![0; 113_112], settings).unwrap();
     for entry in 0..8192 {
         let port = u32::from(entry / 2048);
@@ -211,7 +208,7 @@ fn one_queue_holds_every_node() {
 
 #[test]
 fn prefetch_with_nothing_to_take_and_full_slots() {
-    let mut switch = switch(Settings { slots: 1, ..SMALL });
+    let mut switch = switch(SMALL.slots(1));
     bring(&mut switch, 3, 12);
     assert_eq!(switch.prefetch(0, 3), Err(Refusal::NothingThere));
     switch.arrive(0, &plain(0, 0, 3, 12)).unwrap();
@@ -221,7 +218,7 @@ fn prefetch_with_nothing_to_take_and_full_slots() {
 
 #[test]
 fn the_bench_programs_whole_case() {
-    let mut switch = switch(Settings::ten_bytes(1, 64, 1, 16));
+    let mut switch = switch(Settings::ten_bytes().nodes(1).beat(64).slots(1).credit(16));
     assert_eq!(switch.arrive(0, &SHORTEST), Ok(EntryId(0)));
     assert_eq!(switch.stitch(0).unwrap().entry, EntryId(0));
     assert_eq!(switch.prefetch(0, 0), Ok(EntryId(0)));
@@ -276,7 +273,7 @@ fn a_turn_answers_every_recorded_field() {
 /// position, count or field of an answer is 0 where another number is right.
 #[test]
 fn packets_that_cross_from_port_to_port() {
-    let mut switch = switch(Settings::ten_bytes(4, 64, 2, 200));
+    let mut switch = switch(Settings::ten_bytes().nodes(4).beat(64).slots(2).credit(200));
     let across = header(3, 1, 5, 100, true, false, 0x0102_0304, 9, 171);
     let place = |switch: &Switch<Vec<u8>>, entry| {
         let place = switch.place_of(EntryId(entry)).unwrap();
@@ -330,11 +327,7 @@ fn packets_that_cross_from_port_to_port() {
 #[test]
 fn arrive_tests_in_the_papers_order() {
     for queue in 24..32 {
-        let mut switch = switch(Settings {
-            nodes: 1,
-            credit: 0,
-            ..SMALL
-        });
+        let mut switch = switch(SMALL.nodes(1).credit(0));
         switch.arrive(0, &SHORTEST).unwrap();
         let faulty =
             |source, length, reserved| header(0, source, queue, length, true, reserved, 0, 0, 0);
@@ -525,7 +518,7 @@ fn other_refusals_mark_nobody() {
 /// pool.
 #[test]
 fn a_halted_port_tests_in_the_papers_order() {
-    let mut switch = switch(Settings { nodes: 1, ..SMALL });
+    let mut switch = switch(SMALL.nodes(1));
     switch.arrive(0, &SHORTEST).unwrap();
     assert_eq!(
         switch.arrive(0, &plain(0, 0, 5, 12)),
@@ -556,7 +549,7 @@ fn setup_and_repair_lift_the_mark() {
     let fresh = switch.memory().to_vec();
     switch.arrive(2, &wrong_sum(2)).unwrap_err();
     // A refused setup leaves it.
-    let none = Settings { slots: 0, ..SMALL };
+    let none = SMALL.slots(0);
     assert_eq!(switch.setup_again(none), Err(Refusal::BadSetting));
     assert_eq!(switch.report(2), Ok(Some(Halt::Checksum)));
     switch.setup_again(SMALL).unwrap();

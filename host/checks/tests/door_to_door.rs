@@ -5,7 +5,7 @@
 use traffic::header;
 use ventorupo::{EntryId, ListKind, Refusal, RoundTurn, Settings, Switch};
 
-const SETTINGS: Settings = Settings::ten_bytes(25, 64, 2, 16);
+const SETTINGS: Settings = Settings::ten_bytes().nodes(25).beat(64).slots(2).credit(16);
 
 /// Where the packet comes in and goes out, by queue 1; 100 bytes cost 2 beats.
 const IN: u32 = 1;

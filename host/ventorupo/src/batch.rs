@@ -1,7 +1,7 @@
 //! A batch of calls for a run, put together call by call, and its answers.
 
-use std::error::Error;
-use std::fmt;
+use alloc::{vec, vec::Vec};
+use core::fmt;
 
 use crate::runs::{ARRIVE, CREDIT, MAP, PREFETCH, STITCH, TURN};
 use crate::{Answer, Form, Refusal, Stop, Switch, ANSWER_BYTES};
@@ -14,10 +14,10 @@ const EVERYWHERE: usize = 10;
 /// [`Refusal`] it is 6, which [`Switch::arrive`] gives.
 ///
 /// ```
-/// use ventorupo::{Batch, Form, Refusal};
+/// use ventorupo::{Batch, Form, Refusal, WrongLength};
 ///
 /// let wrong = Batch::new(Form::wide(8, 16))?.arrive(0, &[0; 9]).unwrap_err();
-/// assert_eq!((wrong.bytes, wrong.size), (9, 11));
+/// assert_eq!(wrong, WrongLength { bytes: 9, size: 11 });
 /// assert_eq!(wrong.to_string(), "a header of 9 bytes, where those of the form have 11");
 /// assert_eq!(Refusal::from(wrong), Refusal::HeaderSize);
 /// # Ok::<(), Refusal>(())
@@ -40,8 +40,6 @@ impl fmt::Display for WrongLength {
     }
 }
 
-impl Error for WrongLength {}
-
 impl From<WrongLength> for Refusal {
     fn from(_: WrongLength) -> Refusal {
         Refusal::HeaderSize
@@ -58,8 +56,8 @@ impl From<WrongLength> for Refusal {
 /// ```
 /// use ventorupo::{Answer, Batch, Form, Refusal, Settings, Switch};
 ///
-/// let settings = Settings::ten_bytes(1, 64, 1, 16);
-/// let mut switch = Switch::setup([0; 6668], settings).map_err(|(why, _)| why)?;
+/// let settings = Settings::ten_bytes().nodes(1);
+/// let mut switch = Switch::setup([0; 6668], settings)?;
 /// let mut batch = Batch::new(settings.form())?;
 /// batch.map_to(1, 3).credit(3, 5, 100).credit(3, 0, 1);
 /// assert_eq!(batch.len(), 3);
@@ -219,6 +217,12 @@ impl Batch {
     }
 
     /// Whether it has none.
+    ///
+    /// ```
+    /// use ventorupo::{Batch, Form};
+    ///
+    /// assert!(Batch::new(Form::TEN_BYTES).unwrap().is_empty());
+    /// ```
     pub fn is_empty(&self) -> bool {
         self.len == 0
     }
@@ -257,8 +261,8 @@ impl Batch {
 /// ```
 /// use ventorupo::{Batch, Form, Refusal, Settings, Switch, Unfinished};
 ///
-/// let settings = Settings::ten_bytes(1, 64, 1, 16);
-/// let mut switch = Switch::setup([0; 6668], settings).map_err(|(why, _)| why)?;
+/// let settings = Settings::ten_bytes().nodes(1);
+/// let mut switch = Switch::setup([0; 6668], settings)?;
 /// let mut batch = Batch::new(Form::wide(8, 16))?;
 /// batch.turn(0).turn(1).arrive(0, &[0; 11])?;
 /// let why = switch.run(&batch).unwrap_err();
@@ -269,6 +273,7 @@ impl Batch {
 /// assert!(matches!(why, Unfinished::Stopped(done) if done.len() == 2));
 /// # Ok::<(), Refusal>(())
 /// ```
+// Exhaustive: of the stops there are, a batch's room leaves these.
 #[derive(Debug, Clone, PartialEq, Eq)]
 pub enum Unfinished {
     /// The whole run is refused, 3, and nothing was done.
@@ -292,8 +297,6 @@ impl fmt::Display for Unfinished {
     }
 }
 
-impl Error for Unfinished {}
-
 impl<M: AsRef<[u8]> + AsMut<[u8]>> Switch<M> {
     /// A run: the calls of a batch, one after another, on memory that is tested once.
     /// Answers what each of them answers, in their order; a call that is refused does
@@ -306,8 +309,8 @@ impl<M: AsRef<[u8]> + AsMut<[u8]>> Switch<M> {
     /// ```
     /// use ventorupo::{Answer, Batch, Form, Refusal, Settings, Switch, Unfinished};
     ///
-    /// let settings = Settings::ten_bytes(1, 64, 1, 16);
-    /// let mut switch = Switch::setup([0; 6668], settings).map_err(|(why, _)| why)?;
+    /// let settings = Settings::ten_bytes().nodes(1);
+    /// let mut switch = Switch::setup([0; 6668], settings)?;
     /// let mut batch = Batch::new(Form::wide(8, 16))?;
     /// batch.turn(3).arrive(0, &[0; 11])?.turn(2);
     /// let done = vec![Answer::Turned(Ok(None))];

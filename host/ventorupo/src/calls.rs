@@ -106,19 +106,42 @@ mod c {
     }
 }
 
-/// The bytes that a state of these settings takes; 0 if there is none. The
-/// settings are nodes, beat, slots, credit, ports, queues, edition, packets.
+/// The bytes that a state of these settings takes; 0 if there is none. The settings are
+/// nodes, beat, slots, credit, ports, queues, edition, packets.
+///
+/// ```
+/// use ventorupo::calls;
+///
+/// assert_eq!(calls::size(&[1, 64, 1, 16, 4, 24, 0, 0]), 6668);
+/// ```
 pub fn size(settings: &[u32; 8]) -> u64 {
     // Sound: the eight aligned numbers that C reads.
     unsafe { c::vr_size(settings.as_ptr()) }
 }
 
 /// The settings are in the order of [`size`].
+///
+/// ```
+/// use ventorupo::calls;
+///
+/// let mut memory = [0; 6668];
+/// assert_eq!(calls::setup(&mut memory, &[1, 64, 1, 16, 4, 24, 0, 0]), 0);
+/// assert_eq!(calls::setup(&mut memory[1..], &[1, 64, 1, 16, 4, 24, 0, 0]), 1);
+/// ```
 pub fn setup(memory: &mut [u8], settings: &[u32; 8]) -> u32 {
     // Sound: the slice with its length, and eight aligned numbers apart from it.
     unsafe { c::vr_setup(memory.as_mut_ptr(), memory.len(), settings.as_ptr()) }
 }
 
+/// A header arrives at a port; the entry id is written.
+///
+/// ```
+/// use ventorupo::calls;
+///
+/// let (mut memory, mut entry) = ([0; 6668], 9);
+/// assert_eq!(calls::arrive(&mut memory, 0, &[0; 10], &mut entry), 3);
+/// assert_eq!(entry, 9);
+/// ```
 pub fn arrive(memory: &mut [u8], port: u32, header: &[u8], entry: &mut u16) -> u32 {
     // Sound: two slices with their lengths, and an aligned u16, all apart.
     unsafe {
@@ -133,7 +156,14 @@ pub fn arrive(memory: &mut [u8], port: u32, header: &[u8], entry: &mut u16) -> u
     }
 }
 
-/// The packet memory is the arriving port's.
+/// A whole packet arrives at a port, whose packet memory is lent.
+///
+/// ```
+/// use ventorupo::calls;
+///
+/// let (mut memory, mut entry) = ([0; 6668], 9);
+/// assert_eq!(calls::arrive_packet(&mut memory, &mut [], 0, &[0; 12], &mut entry), 3);
+/// ```
 pub fn arrive_packet(
     memory: &mut [u8],
     packets: &mut [u8],
@@ -156,31 +186,79 @@ pub fn arrive_packet(
     }
 }
 
+/// A stitch; the record's ten bytes are written.
+///
+/// ```
+/// use ventorupo::calls;
+///
+/// assert_eq!(calls::stitch(&mut [0; 6668], 0, &mut [0; 10]), 3);
+/// ```
 pub fn stitch(memory: &mut [u8], port: u32, record: &mut [u8; 10]) -> u32 {
     // Sound: the slice with its length; the room has the ten bytes C asks for.
     unsafe { c::vr_stitch(memory.as_mut_ptr(), memory.len(), port, record.as_mut_ptr()) }
 }
 
+/// A prefetch; the entry id is written.
+///
+/// ```
+/// use ventorupo::calls;
+///
+/// assert_eq!(calls::prefetch(&mut [0; 6668], 0, 0, &mut 0), 3);
+/// ```
 pub fn prefetch(memory: &mut [u8], port: u32, queue: u32, entry: &mut u16) -> u32 {
     // Sound: the slice with its length, and an aligned u16 apart from it.
     unsafe { c::vr_prefetch(memory.as_mut_ptr(), memory.len(), port, queue, entry) }
 }
 
+/// Adds to a queue's outward credit.
+///
+/// ```
+/// use ventorupo::calls;
+///
+/// assert_eq!(calls::credit(&mut [0; 6668], 0, 1, 5), 3);
+/// ```
 pub fn credit(memory: &mut [u8], port: u32, queue: u32, amount: u32) -> u32 {
     // Sound: the slice's own pointer and length.
     unsafe { c::vr_credit(memory.as_mut_ptr(), memory.len(), port, queue, amount) }
 }
 
+/// Maps a destination id to a port.
+///
+/// ```
+/// use ventorupo::calls;
+///
+/// assert_eq!(calls::map(&mut [0; 6668], 5, 2), 3);
+/// ```
 pub fn map(memory: &mut [u8], id: u32, port: u32) -> u32 {
     // Sound: the slice's own pointer and length.
     unsafe { c::vr_map(memory.as_mut_ptr(), memory.len(), id, port) }
 }
 
+/// A turn; 16 bytes are written, of an idle turn the first alone.
+///
+/// ```
+/// use ventorupo::calls;
+///
+/// let (mut memory, mut sent) = ([0; 6668], [9; 16]);
+/// calls::setup(&mut memory, &[1, 64, 1, 16, 4, 24, 0, 0]);
+/// assert_eq!(calls::turn(&mut memory, 0, &mut sent), 0);
+/// assert_eq!(sent[..2], [0, 9]);
+/// ```
 pub fn turn(memory: &mut [u8], port: u32, sent: &mut [u8; 16]) -> u32 {
     // Sound: the slice with its length; the room has the 16 bytes C asks for.
     unsafe { c::vr_turn(memory.as_mut_ptr(), memory.len(), port, sent.as_mut_ptr()) }
 }
 
+/// A round; four bytes are written for each port's turn.
+///
+/// ```
+/// use ventorupo::calls;
+///
+/// let mut memory = [0; 6668];
+/// calls::setup(&mut memory, &[1, 64, 1, 16, 4, 24, 0, 0]);
+/// assert_eq!(calls::round(&mut memory, &mut [0; 16]), 0);
+/// assert_eq!(calls::round(&mut memory, &mut [0; 15]), 27);
+/// ```
 pub fn round(memory: &mut [u8], turns: &mut [u8]) -> u32 {
     // Sound: two slices with their lengths, apart.
     unsafe {
@@ -193,8 +271,17 @@ pub fn round(memory: &mut [u8], turns: &mut [u8]) -> u32 {
     }
 }
 
-/// Refused 3 alone, and then neither number is written; what the fields' calls are
-/// refused stands in their answers.
+/// A run of fields; four bytes are written for each. Refused 3 alone, and then neither
+/// number is written; what the fields' calls are refused stands in their answers.
+///
+/// ```
+/// use ventorupo::calls;
+///
+/// let (mut memory, mut room, mut count, mut why) = ([0; 6668], [0; 4], 0, 9);
+/// calls::setup(&mut memory, &[1, 64, 1, 16, 4, 24, 0, 0]);
+/// assert_eq!(calls::run(&mut memory, &[5, 0, 1, 3], &mut room, &mut count, &mut why), 0);
+/// assert_eq!((room, count, why), ([0, 1, 0, 0], 1, 0));
+/// ```
 pub fn run(
     memory: &mut [u8],
     fields: &[u8],
@@ -217,18 +304,40 @@ pub fn run(
     }
 }
 
+/// The port's ready word, and its number of ones.
+///
+/// ```
+/// use ventorupo::calls;
+///
+/// assert_eq!(calls::ready(&[0; 6668], 0, &mut 0, &mut 0), 3);
+/// ```
 pub fn ready(memory: &[u8], port: u32, word: &mut u64, count: &mut u32) -> u32 {
     // Sound: the memory is read only; two aligned rooms, apart from it.
     unsafe { c::vr_ready(memory.as_ptr(), memory.len(), port, word, count) }
 }
 
+/// Where a node stands, in eight bytes.
+///
+/// ```
+/// use ventorupo::calls;
+///
+/// assert_eq!(calls::place_of(&[0; 6668], 0, &mut [0; 8]), 3);
+/// ```
 pub fn place_of(memory: &[u8], entry: u32, place: &mut [u8; 8]) -> u32 {
     // Sound: the memory is read only; the room has the 8 bytes C asks for.
     unsafe { c::vr_where(memory.as_ptr(), memory.len(), entry, place.as_mut_ptr()) }
 }
 
-/// The packet memories are those of ports 0 to 3; what is shown is so many bytes of the
-/// owner's, from `at` on.
+/// The oldest packet in a queue's slots. The packet memories are those of ports 0 to 3;
+/// what is shown is so many bytes of the owner's, from `at` on.
+///
+/// ```
+/// use ventorupo::calls;
+///
+/// let (mut owner, mut at, mut length) = (0, 0, 0);
+/// let number = calls::show(&[0; 6668], [&[]; 4], 0, 0, &mut owner, &mut at, &mut length);
+/// assert_eq!(number, 3);
+/// ```
 pub fn show(
     memory: &[u8],
     packets: [&[u8]; 4],
@@ -262,16 +371,37 @@ pub fn show(
     }
 }
 
+/// Lifts a port's mark.
+///
+/// ```
+/// use ventorupo::calls;
+///
+/// assert_eq!(calls::clear(&mut [0; 6668], 0), 3);
+/// ```
 pub fn clear(memory: &mut [u8], port: u32) -> u32 {
     // Sound: the slice's own pointer and length.
     unsafe { c::vr_clear(memory.as_mut_ptr(), memory.len(), port) }
 }
 
+/// A port's mark, or 0.
+///
+/// ```
+/// use ventorupo::calls;
+///
+/// assert_eq!(calls::report(&[0; 6668], 0, &mut 0), 3);
+/// ```
 pub fn report(memory: &[u8], port: u32, mark: &mut u32) -> u32 {
     // Sound: the memory is read only; an aligned room, apart from it.
     unsafe { c::vr_report(memory.as_ptr(), memory.len(), port, mark) }
 }
 
+/// A turn that is given the time.
+///
+/// ```
+/// use ventorupo::calls;
+///
+/// assert_eq!(calls::timed_turn(&mut [0; 6668], 0, 77, &mut [0; 16]), 3);
+/// ```
 pub fn timed_turn(memory: &mut [u8], port: u32, now: u32, sent: &mut [u8; 16]) -> u32 {
     // Sound: the slice with its length; the room has the 16 bytes C asks for.
     unsafe {
@@ -285,11 +415,25 @@ pub fn timed_turn(memory: &mut [u8], port: u32, now: u32, sent: &mut [u8; 16]) -
     }
 }
 
+/// How many waits a port's bucket has counted.
+///
+/// ```
+/// use ventorupo::calls;
+///
+/// assert_eq!(calls::bucket(&[0; 6668], 0, 32, &mut 0), 3);
+/// ```
 pub fn bucket(memory: &[u8], port: u32, bucket: u32, count: &mut u32) -> u32 {
     // Sound: the memory is read only; an aligned room, apart from it.
     unsafe { c::vr_bucket(memory.as_ptr(), memory.len(), port, bucket, count) }
 }
 
+/// Every node's place, eight bytes each.
+///
+/// ```
+/// use ventorupo::calls;
+///
+/// assert_eq!(calls::audit(&[0; 6668], &mut []), 3);
+/// ```
 pub fn audit(memory: &[u8], places: &mut [u8]) -> u32 {
     // Sound: the memory is read only; two slices with their lengths, apart.
     unsafe {
@@ -302,19 +446,43 @@ pub fn audit(memory: &[u8], places: &mut [u8]) -> u32 {
     }
 }
 
+/// The first rule that is broken, and the first item that shows it; 0 and 0 of a state.
 /// Never refused: both numbers are written always.
+///
+/// ```
+/// use ventorupo::calls;
+///
+/// let (mut rule, mut item) = (9, 9);
+/// calls::find(&[0; 6668], &mut rule, &mut item);
+/// assert_eq!((rule, item), (1, 0));
+/// ```
 pub fn find(memory: &[u8], rule: &mut u32, item: &mut u64) {
     // Sound: the memory is read only; two aligned rooms, apart from it.
     unsafe { c::vr_find(memory.as_ptr(), memory.len(), rule, item) }
 }
 
+/// The starting ledger, with the settings and the map that are there.
+///
+/// ```
+/// use ventorupo::calls;
+///
+/// assert_eq!(calls::repair(&mut [0; 6668]), 3);
+/// ```
 pub fn repair(memory: &mut [u8]) -> u32 {
     // Sound: the slice's own pointer and length.
     unsafe { c::vr_repair(memory.as_mut_ptr(), memory.len()) }
 }
 
-/// The fields are destination, source, queue, length, poisoned, timestamp,
-/// credit, transaction.
+/// What a header says. The fields are destination, source, queue, length, poisoned,
+/// timestamp, credit, transaction.
+///
+/// ```
+/// use ventorupo::calls;
+///
+/// let (header, mut fields) = ([0, 0, 0x30, 0, 0, 0, 0, 0, 0, 0x72], [9; 8]);
+/// assert_eq!(calls::read_header(0, 4, 24, &header, &mut fields), 0);
+/// assert_eq!(fields, [0, 0, 0, 12, 0, 0, 0, 0]);
+/// ```
 pub fn read_header(
     edition: u32,
     ports: u32,
@@ -335,8 +503,17 @@ pub fn read_header(
     }
 }
 
-/// The fields are in the order of [`read_header`]; the header's own bytes are
-/// written, as many as the size says then.
+/// The header that says this. The fields are in the order of [`read_header`]; the
+/// header's own bytes are written, as many as the size says then.
+///
+/// ```
+/// use ventorupo::calls;
+///
+/// let (mut header, mut size) = ([0; 12], 0);
+/// let fields = [0, 0, 0, 12, 0, 0, 0, 0];
+/// assert_eq!(calls::write_header(0, 4, 24, &fields, &mut header, &mut size), 0);
+/// assert_eq!((size, header[9]), (10, 0x72));
+/// ```
 pub fn write_header(
     edition: u32,
     ports: u32,

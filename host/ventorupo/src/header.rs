@@ -1,12 +1,25 @@
 //! A packet's header, read and written.
 
-use std::fmt;
-use std::ops::Deref;
+use core::fmt;
+use core::ops::Deref;
 
 use crate::{calls, done, Refusal, HEADER_BYTES, TEN_BYTES, WIDE};
 
-/// What a header says. Any numbers may stand here; writing refuses those that
-/// don't fit their fields. Reserved bits and checksum are the writer's matter.
+/// What a header says, built from zeros by name. Any numbers may stand here; writing
+/// refuses those that don't fit their fields. Reserved bits and checksum are the
+/// writer's matter.
+///
+/// ```
+/// use ventorupo::{Form, Header};
+///
+/// // From port 1 to destination 5, in queue 3, of 100 bytes.
+/// let header = Header::new().destination(5).source(1).queue(3).length(100);
+/// let bytes = Form::wide(8, 16).write(&header)?;
+/// assert_eq!(bytes.len(), 11);
+/// # Ok::<(), ventorupo::Refusal>(())
+/// ```
+// Exhaustive: the fields are those of the wire, the same in both editions, and no
+// request adds one.
 #[derive(Debug, Clone, Copy, PartialEq, Eq, Hash, Default)]
 pub struct Header {
     /// The destination id, which the switch's map takes to a port. As wide as
@@ -20,6 +33,7 @@ pub struct Header {
     pub length: u32,
     /// 1 for a poisoned packet, else 0.
     pub poisoned: u32,
+    /// On the clock of the timed turns.
     pub timestamp: u32,
     /// Credits on offer: up to 255 in ten bytes, up to 65,535 in a wide header.
     pub credit: u32,
@@ -28,7 +42,105 @@ pub struct Header {
 }
 
 impl Header {
+    /// All zeros, which is too short for any form: a length has to follow.
+    ///
+    /// ```
+    /// use ventorupo::{Form, Header, Refusal};
+    ///
+    /// let header = Header::new();
+    /// assert_eq!(header, Header::default());
+    /// assert_eq!(Form::TEN_BYTES.write(&header), Err(Refusal::NoFit));
+    /// assert!(Form::TEN_BYTES.write(&header.length(12)).is_ok());
+    /// ```
+    pub const fn new() -> Header {
+        Header::from_numbers([0; 8])
+    }
+
+    /// To this destination id, which the switch's map takes to a port.
+    ///
+    /// ```
+    /// assert_eq!(ventorupo::Header::new().destination(5).destination, 5);
+    /// ```
+    pub const fn destination(self, destination: u32) -> Header {
+        Header {
+            destination,
+            ..self
+        }
+    }
+
+    /// From this port, the one where the packet arrives.
+    ///
+    /// ```
+    /// assert_eq!(ventorupo::Header::new().source(1).source, 1);
+    /// ```
+    pub const fn source(self, source: u32) -> Header {
+        Header { source, ..self }
+    }
+
+    /// In this queue.
+    ///
+    /// ```
+    /// assert_eq!(ventorupo::Header::new().queue(3).queue, 3);
+    /// ```
+    pub const fn queue(self, queue: u32) -> Header {
+        Header { queue, ..self }
+    }
+
+    /// Of so many bytes: header, data and footer.
+    ///
+    /// ```
+    /// assert_eq!(ventorupo::Header::new().length(100).length, 100);
+    /// ```
+    pub const fn length(self, length: u32) -> Header {
+        Header { length, ..self }
+    }
+
+    /// Of a poisoned packet, or of none.
+    ///
+    /// ```
+    /// assert_eq!(ventorupo::Header::new().poisoned(true).poisoned, 1);
+    /// ```
+    pub const fn poisoned(self, poisoned: bool) -> Header {
+        let poisoned = poisoned as u32;
+        Header { poisoned, ..self }
+    }
+
+    /// Made at this time, on the clock of the timed turns.
+    ///
+    /// ```
+    /// assert_eq!(ventorupo::Header::new().timestamp(77).timestamp, 77);
+    /// ```
+    pub const fn timestamp(self, timestamp: u32) -> Header {
+        Header { timestamp, ..self }
+    }
+
+    /// With so many credits on offer.
+    ///
+    /// ```
+    /// assert_eq!(ventorupo::Header::new().credit(40).credit, 40);
+    /// ```
+    pub const fn credit(self, credit: u32) -> Header {
+        Header { credit, ..self }
+    }
+
+    /// With this transaction id.
+    ///
+    /// ```
+    /// assert_eq!(ventorupo::Header::new().transaction(9).transaction, 9);
+    /// ```
+    pub const fn transaction(self, transaction: u32) -> Header {
+        Header {
+            transaction,
+            ..self
+        }
+    }
+
     /// As the C interface has them.
+    ///
+    /// ```
+    /// let header = ventorupo::Header::new().source(1).length(100);
+    /// assert_eq!(header.numbers(), [0, 1, 0, 100, 0, 0, 0, 0]);
+    /// ```
     pub const fn numbers(&self) -> [u32; 8] {
         [
             self.destination,
@@ -43,6 +155,12 @@ impl Header {
     }
 
     /// Of the C interface's numbers.
+    ///
+    /// ```
+    /// use ventorupo::Header;
+    ///
+    /// assert_eq!(Header::from_numbers([0, 1, 0, 100, 0, 0, 0, 0]), Header::new().source(1).length(100));
+    /// ```
     pub const fn from_numbers(numbers: [u32; 8]) -> Header {
         let [destination, source, queue, length, poisoned, timestamp, credit, transaction] =
             numbers;
@@ -66,34 +184,33 @@ impl Header {
 /// use ventorupo::{Form, Header, Refusal};
 ///
 /// let form = Form::wide(8, 16);
-/// let header = Header {
-///     destination: 3,
-///     source: 1,
-///     queue: 5,
-///     length: 100,
-///     credit: 40_000,
-///     ..Header::default()
-/// };
+/// let header = Header::new().destination(3).source(1).queue(5).length(100).credit(40_000);
 /// let bytes = form.write(&header)?;
 /// assert_eq!(bytes[..], [0x65, 0x40, 0xC8, 0, 0, 0, 0, 0x9C, 0x40, 0, 0x43]);
 /// // Reader and writer undo each other.
 /// assert_eq!(form.read(&bytes)?, header);
 /// // Any bytes may be read, and any numbers written.
 /// assert_eq!(form.read(&bytes[1..]), Err(Refusal::HeaderSize));
-/// let none = Header { queue: 16, ..header };
-/// assert_eq!(form.write(&none), Err(Refusal::NoFit));
+/// assert_eq!(form.write(&header.queue(16)), Err(Refusal::NoFit));
 /// # Ok::<(), Refusal>(())
 /// ```
+// Exhaustive: a header's widths follow from these three in both editions.
 #[derive(Debug, Clone, Copy, PartialEq, Eq, Hash)]
 pub struct Form {
     /// [`TEN_BYTES`], which needs four ports and 24 queues, or [`WIDE`].
     pub edition: u32,
+    /// 2 to 32.
     pub ports: u32,
+    /// Queues per port: 2 to 64.
     pub queues: u32,
 }
 
 impl Form {
     /// Ten bytes, for four ports and 24 queues.
+    ///
+    /// ```
+    /// assert_eq!(ventorupo::Form::TEN_BYTES.size(), Some(10));
+    /// ```
     pub const TEN_BYTES: Form = Form {
         edition: TEN_BYTES,
         ports: 4,
@@ -101,6 +218,10 @@ impl Form {
     };
 
     /// The wide form for so many ports and queues.
+    ///
+    /// ```
+    /// assert_eq!(ventorupo::Form::wide(8, 16).size(), Some(11));
+    /// ```
     pub const fn wide(ports: u32, queues: u32) -> Form {
         Form {
             edition: WIDE,
@@ -123,14 +244,21 @@ impl Form {
     /// ```
     pub fn size(&self) -> Option<usize> {
         // A header that every form has.
-        let longest = Header {
-            length: 8191,
-            ..Header::default()
-        };
+        let longest = Header::new().length(8191);
         self.write(&longest).ok().map(|bytes| bytes.len())
     }
 
     /// What a header says. Refused 2, 6, 7, 20, 9, 19, in this order.
+    ///
+    /// ```
+    /// use ventorupo::{Form, Header, Refusal};
+    ///
+    /// let mut bytes = [0, 0, 0x30, 0, 0, 0, 0, 0, 0, 0x72];
+    /// assert_eq!(Form::TEN_BYTES.read(&bytes)?, Header::new().length(12));
+    /// bytes[9] = 0;
+    /// assert_eq!(Form::TEN_BYTES.read(&bytes), Err(Refusal::Checksum));
+    /// # Ok::<(), Refusal>(())
+    /// ```
     pub fn read(&self, bytes: &[u8]) -> Result<Header, Refusal> {
         let mut fields = [0; 8];
         let Form {
@@ -149,6 +277,14 @@ impl Form {
     }
 
     /// The header that says this, its checksum made. Refused 2, then 21.
+    ///
+    /// ```
+    /// use ventorupo::{Form, Header};
+    ///
+    /// let bytes = Form::TEN_BYTES.write(&Header::new().length(12))?;
+    /// assert_eq!(bytes[..], [0, 0, 0x30, 0, 0, 0, 0, 0, 0, 0x72]);
+    /// # Ok::<(), ventorupo::Refusal>(())
+    /// ```
     pub fn write(&self, header: &Header) -> Result<HeaderBytes, Refusal> {
         let (mut bytes, mut size) = ([0; HEADER_BYTES], 0);
         let Form {
@@ -170,6 +306,16 @@ impl Form {
 }
 
 /// A header's bytes, up to [`HEADER_BYTES`] of them; they are a slice in all but name.
+///
+/// ```
+/// use ventorupo::{Form, Header, HeaderBytes};
+///
+/// let bytes: HeaderBytes = Form::wide(8, 16).write(&Header::new().length(100))?;
+/// assert_eq!((bytes.len(), bytes[2]), (11, 200));
+/// let mut packet = bytes.to_vec();
+/// packet.resize(100, 0);
+/// # Ok::<(), ventorupo::Refusal>(())
+/// ```
 #[derive(Clone, Copy, PartialEq, Eq, Hash)]
 pub struct HeaderBytes {
     /// Past the size: zeros.

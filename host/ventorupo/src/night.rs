@@ -1,14 +1,20 @@
 //! The night crew's calls, on any bytes: what is wrong with an image, where
 //! every node stands, and a repair.
 
-use std::fmt;
+use core::fmt;
 
-use crate::answers::two;
-use crate::settings::{MOST_NODES, SETTINGS_BYTES};
-use crate::{calls, done, Place, Refusal, MOST_PORTS, PLACE_BYTES};
+use crate::{calls, done, Refusal};
 
 /// A rule of soundness. docs/FINDINGS.md says what each item is.
+///
+/// ```
+/// use ventorupo::{find, Rule};
+///
+/// assert_eq!(find(&[0; 100]).unwrap().rule, Rule::A);
+/// ```
+// Rule (h) is to come.
 #[derive(Debug, Clone, Copy, PartialEq, Eq, Hash, PartialOrd, Ord)]
+#[non_exhaustive]
 pub enum Rule {
     /// The settings are in their rows, and the memory is long enough.
     A = 1,
@@ -31,7 +37,14 @@ pub enum Rule {
 
 impl Rule {
     /// Every rule, in the order in which they are tested.
-    pub const ALL: [Rule; 8] = [
+    ///
+    /// ```
+    /// use ventorupo::Rule;
+    ///
+    /// let letters: String = Rule::ALL.iter().map(|rule| rule.letter()).collect();
+    /// assert_eq!(letters, "abcdefgi");
+    /// ```
+    pub const ALL: &'static [Rule] = &[
         Rule::A,
         Rule::B,
         Rule::C,
@@ -43,24 +56,48 @@ impl Rule {
     ];
 
     /// 1 for (a), 2 for (b), and so on, as the C interface tells it.
-    pub fn number(self) -> u32 {
+    ///
+    /// ```
+    /// assert_eq!(ventorupo::Rule::G.number(), 7);
+    /// ```
+    pub const fn number(self) -> u32 {
         self as u32
     }
 
     /// The rule of a number, if it is one of a rule.
+    ///
+    /// ```
+    /// use ventorupo::Rule;
+    ///
+    /// assert_eq!(Rule::from_number(9), Some(Rule::I));
+    /// assert_eq!(Rule::from_number(8), None);
+    /// ```
     pub fn from_number(number: u32) -> Option<Rule> {
-        Rule::ALL.into_iter().find(|rule| rule.number() == number)
+        let its = |rule: &Rule| rule.number() == number;
+        Rule::ALL.iter().copied().find(its)
     }
 
     /// `a` to `g`, or `i`.
-    pub fn letter(self) -> char {
-        char::from(b'a' + (self as u8 - Rule::A as u8))
+    ///
+    /// ```
+    /// assert_eq!(ventorupo::Rule::G.letter(), 'g');
+    /// ```
+    pub const fn letter(self) -> char {
+        (b'a' + (self as u8 - Rule::A as u8)) as char
     }
 }
 
 /// The first rule that an image breaks, and the first item that shows it.
+///
+/// ```
+/// use ventorupo::{Finding, Rule};
+///
+/// let finding = Finding { rule: Rule::I, item: 3 };
+/// assert_eq!(finding.to_string(), "rule (i), item 3");
+/// ```
 #[derive(Debug, Clone, Copy, PartialEq, Eq, Hash, PartialOrd, Ord)]
 pub struct Finding {
+    /// The first that is broken, in the order of [`Rule::ALL`].
     pub rule: Rule,
     /// What it counts is the rule's matter: docs/FINDINGS.md.
     pub item: u64,
@@ -78,7 +115,7 @@ impl fmt::Display for Finding {
 /// ```
 /// use ventorupo::{find, Rule, Settings, Switch};
 ///
-/// let settings = Settings::ten_bytes(2, 64, 1, 16);
+/// let settings = Settings::ten_bytes().nodes(2);
 /// let mut image = Switch::setup([0; 6720], settings).unwrap().into_memory();
 /// assert_eq!(find(&image), None);
 /// // Port 1 has served queue 200.
@@ -100,14 +137,15 @@ pub fn find(memory: &[u8]) -> Option<Finding> {
 }
 
 /// Where every node stands, written into lent room: port by port and index by
-/// index, eight bytes each, as [`Place::from_bytes`] reads them; what is past
+/// index, eight bytes each, as
+/// [`Place::from_bytes`](crate::Place::from_bytes) reads them; what is past
 /// them stays. Refused 3 if the image is no switch state, then 27 if there is
 /// less room.
 ///
 /// ```
 /// use ventorupo::{audit, Refusal, Settings, Switch};
 ///
-/// let settings = Settings::ten_bytes(2, 64, 1, 16);
+/// let settings = Settings::ten_bytes().nodes(2);
 /// let image = Switch::setup([0; 6720], settings).unwrap().into_memory();
 /// let mut room = [9; 4 * 2 * 8 + 1];
 /// assert_eq!(audit(&image, &mut room[..63]), Err(Refusal::ShortRoom));
@@ -128,7 +166,7 @@ pub fn audit(memory: &[u8], room: &mut [u8]) -> Result<(), Refusal> {
 /// ```
 /// use ventorupo::{find, repair, Refusal, Settings, Switch};
 ///
-/// let settings = Settings::ten_bytes(2, 64, 1, 16);
+/// let settings = Settings::ten_bytes().nodes(2);
 /// let mut image = Switch::setup([9; 6720 + 1], settings).unwrap().into_memory();
 /// image[16] = 3; // Destination 0 goes to port 3.
 /// image[4113] = 200;
@@ -143,22 +181,36 @@ pub fn repair(memory: &mut [u8]) -> Result<(), Refusal> {
     done(calls::repair(memory))
 }
 
-/// How many nodes a state has, read off its settings; of other bytes a number
-/// that is not too large.
-fn nodes(memory: &[u8]) -> usize {
-    if memory.len() < SETTINGS_BYTES {
-        return 0;
-    }
-    let [ports, nodes] = [0, 4].map(|at| usize::from(two(memory, at)));
-    ports.min(MOST_PORTS) * nodes.min(MOST_NODES)
-}
-
 /// Every node's place, read.
-pub(crate) fn places(memory: &[u8]) -> Result<Vec<Place>, Refusal> {
-    let mut room = vec![0; PLACE_BYTES * nodes(memory)];
-    audit(memory, &mut room)?;
-    let place = |block: &[u8]| Place::from_bytes(block.try_into().ok()?);
-    let places = room.chunks_exact(PLACE_BYTES).map(place);
-    let places: Option<Vec<Place>> = places.collect();
-    Ok(places.expect("the library writes list kinds 0 to 3"))
+#[cfg(feature = "alloc")]
+pub(crate) use of_alloc::places;
+
+#[cfg(feature = "alloc")]
+mod of_alloc {
+    use alloc::{vec, vec::Vec};
+
+    use super::audit;
+    use crate::answers::two;
+    use crate::settings::{MOST_NODES, SETTINGS_BYTES};
+    use crate::{Place, Refusal, MOST_PORTS, PLACE_BYTES};
+
+    /// How many nodes a state has, read off its settings; of other bytes a number
+    /// that is not too large.
+    fn nodes(memory: &[u8]) -> usize {
+        if memory.len() < SETTINGS_BYTES {
+            return 0;
+        }
+        let [ports, nodes] = [0, 4].map(|at| usize::from(two(memory, at)));
+        ports.min(MOST_PORTS) * nodes.min(MOST_NODES)
+    }
+
+    /// Every node's place, read.
+    pub(crate) fn places(memory: &[u8]) -> Result<Vec<Place>, Refusal> {
+        let mut room = vec![0; PLACE_BYTES * nodes(memory)];
+        audit(memory, &mut room)?;
+        let place = |block: &[u8]| Place::from_bytes(block.try_into().ok()?);
+        let places = room.chunks_exact(PLACE_BYTES).map(place);
+        let places: Option<Vec<Place>> = places.collect();
+        Ok(places.expect("the library writes list kinds 0 to 3"))
+    }
 }

@@ -18,10 +18,10 @@ impl<M: AsRef<[u8]> + AsMut<[u8]>> Switch<M> {
     /// ```
     /// use ventorupo::{EntryId, Header, Refusal, Settings, Switch, SLOT_BYTES};
     ///
-    /// let settings = Settings::ten_bytes(2, 64, 1, 16).with_packets();
-    /// let mut switch = Switch::setup([0; 6720], settings).map_err(|(why, _)| why)?;
+    /// let settings = Settings::ten_bytes().nodes(2).with_packets();
+    /// let mut switch = Switch::setup([0; 6720], settings)?;
     /// let mut packets = vec![0; settings.packet_memory()];
-    /// let header = Header { source: 3, length: 20, ..Header::default() };
+    /// let header = Header::new().source(3).length(20);
     /// let mut packet = settings.form().write(&header)?.to_vec();
     /// packet.extend(b"ten bytes.");
     /// // Node 0 of port 3 takes it, then node 1 another.
@@ -51,7 +51,9 @@ impl<M: AsRef<[u8]> + AsMut<[u8]>> Switch<M> {
         ))?;
         Ok(EntryId(entry))
     }
+}
 
+impl<M: AsRef<[u8]>> Switch<M> {
     /// The oldest packet in the prefetch slots of a port's queue, which is the next
     /// that a turn sends of that queue: a part of its owner's packet memory, never a
     /// copy, as long as its header says. All four ports' memories are lent, from port
@@ -63,12 +65,12 @@ impl<M: AsRef<[u8]> + AsMut<[u8]>> Switch<M> {
     /// ```
     /// use ventorupo::{Header, Refusal, Settings, Switch, SLOT_BYTES};
     ///
-    /// let settings = Settings::ten_bytes(2, 64, 1, 16).with_packets();
-    /// let mut switch = Switch::setup([0; 6720], settings).map_err(|(why, _)| why)?;
+    /// let settings = Settings::ten_bytes().nodes(2).with_packets();
+    /// let mut switch = Switch::setup([0; 6720], settings)?;
     /// let mut packets = [(); 4].map(|()| vec![0; settings.packet_memory()]);
     /// // From port 3 to port 1 in queue 5.
     /// switch.map(2, 1)?;
-    /// let header = Header { destination: 2, source: 3, queue: 5, length: 20, ..Header::default() };
+    /// let header = Header::new().destination(2).source(3).queue(5).length(20);
     /// let mut packet = settings.form().write(&header)?.to_vec();
     /// packet.extend(b"ten bytes.");
     /// switch.arrive_packet(&mut packets[3], 3, &packet)?;
@@ -89,19 +91,29 @@ impl<M: AsRef<[u8]> + AsMut<[u8]>> Switch<M> {
         port: u32,
         queue: u32,
     ) -> Result<&'a [u8], Refusal> {
-        let (mut owner, mut at, mut length) = (0, 0, 0);
-        done(calls::show(
-            self.memory.as_ref(),
-            packets,
-            port,
-            queue,
-            &mut owner,
-            &mut at,
-            &mut length,
-        ))?;
-        let shown = part(packets, owner, at, length);
-        Ok(shown.expect("the library shows a part of its owner's packet memory"))
+        self.view().show(packets, port, queue)
     }
+}
+
+/// See [`Switch::show`].
+pub(crate) fn show<'a>(
+    memory: &[u8],
+    packets: [&'a [u8]; 4],
+    port: u32,
+    queue: u32,
+) -> Result<&'a [u8], Refusal> {
+    let (mut owner, mut at, mut length) = (0, 0, 0);
+    done(calls::show(
+        memory,
+        packets,
+        port,
+        queue,
+        &mut owner,
+        &mut at,
+        &mut length,
+    ))?;
+    let shown = part(packets, owner, at, length);
+    Ok(shown.expect("the library shows a part of its owner's packet memory"))
 }
 
 /// So many bytes of a memory, if there are so many.

@@ -1,6 +1,6 @@
 //! The refusals.
 
-use std::fmt;
+use core::fmt;
 
 /// The enum, its list and its texts, of a line for each refusal: name, number,
 /// the calls that give it, meaning.
@@ -9,13 +9,33 @@ macro_rules! refusals {
         /// Why a call was refused; the papers' numbers, in their order. A refused call
         /// changes nothing, but that an arrival refused 7 or 8 may mark its port: see
         /// [`Halt`](crate::Halt).
+        ///
+        /// ```
+        /// use ventorupo::{Refusal, Switch};
+        ///
+        /// let refusal = Switch::over([0; 100]).turn(0).unwrap_err();
+        /// assert_eq!(refusal, Refusal::NoState);
+        /// assert_eq!(refusal.number(), 3);
+        /// assert_eq!(refusal.to_string(), "memory is no switch state; for repair, breaks rule (a)");
+        /// ```
+        // The papers have more to come: 18, 22, 23, 25, 26.
         #[derive(Debug, Clone, Copy, PartialEq, Eq, Hash, PartialOrd, Ord)]
+        #[non_exhaustive]
         pub enum Refusal {
             $(#[doc = concat!($number, " (", $calls, "): ", $meaning, ".")] $name = $number,)*
         }
 
         impl Refusal {
             /// Every refusal, in the order of their numbers.
+            ///
+            /// ```
+            /// use ventorupo::Refusal;
+            ///
+            /// for refusal in Refusal::ALL {
+            ///     println!("{}: {refusal}", refusal.number());
+            /// }
+            /// assert_eq!(Refusal::ALL[0], Refusal::ShortMemory);
+            /// ```
             pub const ALL: &'static [Refusal] = &[$(Refusal::$name),*];
         }
 
@@ -26,7 +46,6 @@ macro_rules! refusals {
         }
     };
 }
-
 refusals! {
     ShortMemory = 1, "setup", "memory shorter than its settings need";
     BadSetting = 2, "setup, read_header, write_header", "a setting not in its row";
@@ -54,15 +73,24 @@ refusals! {
 
 impl Refusal {
     /// The number in the papers.
-    pub fn number(self) -> u32 {
+    ///
+    /// ```
+    /// assert_eq!(ventorupo::Refusal::NoCredit.number(), 10);
+    /// ```
+    pub const fn number(self) -> u32 {
         self as u32
     }
 
     /// The refusal of a number, if it is one of a refusal.
+    ///
+    /// ```
+    /// use ventorupo::Refusal;
+    ///
+    /// assert_eq!(Refusal::from_number(10), Some(Refusal::NoCredit));
+    /// assert_eq!(Refusal::from_number(0), None);
+    /// ```
     pub fn from_number(number: u32) -> Option<Refusal> {
         let its = |refusal: &Refusal| refusal.number() == number;
         Refusal::ALL.iter().copied().find(its)
     }
 }
-
-impl std::error::Error for Refusal {}

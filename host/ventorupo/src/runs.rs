@@ -1,7 +1,7 @@
 //! Runs: many calls on memory that is tested once, as fields in bytes, and what they
 //! answer.
 
-use std::fmt;
+use core::fmt;
 
 use crate::answers::two;
 use crate::{calls, done, EntryId, Refusal, RoundTurn, Switch};
@@ -46,6 +46,7 @@ fn first(fields: &[u8]) -> Option<(u8, &[u8])> {
 /// assert_eq!(Stop::BadField.to_string(), "a bad field");
 /// assert_eq!(Stop::from_number(3), None);
 /// ```
+// Exhaustive: fields end, are bad, or have no room, and no request adds a stop.
 #[derive(Debug, Clone, Copy, PartialEq, Eq, Hash, PartialOrd, Ord)]
 pub enum Stop {
     /// 0: the fields ended.
@@ -58,14 +59,26 @@ pub enum Stop {
 
 impl Stop {
     /// Every one, in the order of their numbers.
+    ///
+    /// ```
+    /// assert_eq!(ventorupo::Stop::ALL[2], ventorupo::Stop::NoRoom);
+    /// ```
     pub const ALL: [Stop; 3] = [Stop::Ended, Stop::BadField, Stop::NoRoom];
 
     /// The number in the C interface.
-    pub fn number(self) -> u32 {
+    ///
+    /// ```
+    /// assert_eq!(ventorupo::Stop::NoRoom.number(), 2);
+    /// ```
+    pub const fn number(self) -> u32 {
         self as u32
     }
 
     /// The one of a number, if there is one.
+    ///
+    /// ```
+    /// assert_eq!(ventorupo::Stop::from_number(2), Some(ventorupo::Stop::NoRoom));
+    /// ```
     pub fn from_number(number: u32) -> Option<Stop> {
         Stop::ALL.into_iter().find(|stop| stop.number() == number)
     }
@@ -86,8 +99,8 @@ impl fmt::Display for Stop {
 /// ```
 /// use ventorupo::{Ran, Refusal, Settings, Stop, Switch};
 ///
-/// let settings = Settings::ten_bytes(1, 64, 1, 16);
-/// let mut switch = Switch::setup([0; 6668], settings).map_err(|(why, _)| why)?;
+/// let settings = Settings::ten_bytes().nodes(1);
+/// let mut switch = Switch::setup([0; 6668], settings)?;
 /// // A run of no fields.
 /// let ran = switch.run_fields(&[], &mut [])?;
 /// assert_eq!(ran, Ran { count: 0, why: Stop::Ended });
@@ -108,8 +121,8 @@ impl Ran {
     /// ```
     /// use ventorupo::{Answer, Refusal, Settings, Switch};
     ///
-    /// let settings = Settings::ten_bytes(1, 64, 1, 16);
-    /// let mut switch = Switch::setup([0; 6668], settings).map_err(|(why, _)| why)?;
+    /// let settings = Settings::ten_bytes().nodes(1);
+    /// let mut switch = Switch::setup([0; 6668], settings)?;
     /// let turns = [5, 0, 1, 0, 5, 0, 1, 4];
     /// let mut room = [0; 8];
     /// let ran = switch.run_fields(&turns, &mut room)?;
@@ -132,8 +145,8 @@ impl Ran {
     /// ```
     /// use ventorupo::{Refusal, Settings, Stop, Switch};
     ///
-    /// let settings = Settings::ten_bytes(1, 64, 1, 16);
-    /// let mut switch = Switch::setup([0; 6668], settings).map_err(|(why, _)| why)?;
+    /// let settings = Settings::ten_bytes().nodes(1);
+    /// let mut switch = Switch::setup([0; 6668], settings)?;
     /// // A prefetch, and a field that is cut off.
     /// let fields = [4, 0, 2, 0, 0, 5, 0, 1];
     /// let ran = switch.run_fields(&fields, &mut [0; 8])?;
@@ -161,7 +174,9 @@ impl Ran {
 /// let refused = Answer::Credited(Err(Refusal::NoQueue));
 /// assert_eq!((refused.entry(), refused.refusal()), (None, Some(Refusal::NoQueue)));
 /// ```
+// Other calls may find their place in a run.
 #[derive(Debug, Clone, Copy, PartialEq, Eq, Hash)]
+#[non_exhaustive]
 pub enum Answer {
     /// The node that took the header.
     Arrived(Result<EntryId, Refusal>),
@@ -171,7 +186,9 @@ pub enum Answer {
     Prefetched(Result<EntryId, Refusal>),
     /// The node whose packet was sent; none if nothing was ready.
     Turned(Result<Option<EntryId>, Refusal>),
+    /// Outward credit was added.
     Credited(Result<(), Refusal>),
+    /// A destination id was mapped.
     Mapped(Result<(), Refusal>),
 }
 
@@ -208,7 +225,33 @@ impl Answer {
         }
     }
 
+    /// The tag of the fields that are answered so: 2 for an arrival, and so on to 7 for
+    /// a map entry.
+    ///
+    /// ```
+    /// use ventorupo::Answer;
+    ///
+    /// assert_eq!(Answer::Turned(Ok(None)).tag(), 5);
+    /// ```
+    pub const fn tag(&self) -> u8 {
+        match self {
+            Answer::Arrived(_) => ARRIVE,
+            Answer::Stitched(_) => STITCH,
+            Answer::Prefetched(_) => PREFETCH,
+            Answer::Turned(_) => TURN,
+            Answer::Credited(_) => CREDIT,
+            Answer::Mapped(_) => MAP,
+        }
+    }
+
     /// The refusal, if the call was refused.
+    ///
+    /// ```
+    /// use ventorupo::{Answer, Refusal};
+    ///
+    /// assert_eq!(Answer::Mapped(Err(Refusal::NoPort)).refusal(), Some(Refusal::NoPort));
+    /// assert_eq!(Answer::Mapped(Ok(())).refusal(), None);
+    /// ```
     pub fn refusal(&self) -> Option<Refusal> {
         match *self {
             Answer::Arrived(told) | Answer::Stitched(told) | Answer::Prefetched(told) => told.err(),
@@ -218,6 +261,13 @@ impl Answer {
     }
 
     /// The entry id, if the call answered one.
+    ///
+    /// ```
+    /// use ventorupo::{Answer, EntryId};
+    ///
+    /// assert_eq!(Answer::Turned(Ok(Some(EntryId(7)))).entry(), Some(EntryId(7)));
+    /// assert_eq!(Answer::Turned(Ok(None)).entry(), None);
+    /// ```
     pub fn entry(&self) -> Option<EntryId> {
         match *self {
             Answer::Arrived(told) | Answer::Stitched(told) | Answer::Prefetched(told) => told.ok(),
@@ -239,13 +289,13 @@ fn without_entry(told: Result<Option<EntryId>, Refusal>) -> Option<Result<(), Re
 /// The answers of a run, read out of its room one by one: see [`Ran::answers`].
 ///
 /// ```
-/// use ventorupo::{Answer, Ran, Stop};
+/// use ventorupo::{Answers, Ran, Stop};
 ///
 /// // Two turns, and the room that a run of them leaves.
 /// let (fields, room) = ([5, 0, 1, 0, 5, 0, 1, 1], [0, 1, 0, 0, 0, 0, 8, 0]);
 /// let ran = Ran { count: 2, why: Stop::Ended };
-/// let sent = ran.answers(&fields, &room).filter_map(|answer| answer.entry());
-/// assert_eq!(sent.count(), 1);
+/// let answers: Answers = ran.answers(&fields, &room);
+/// assert_eq!(answers.filter_map(|answer| answer.entry()).count(), 1);
 /// ```
 #[derive(Debug, Clone)]
 pub struct Answers<'a> {
@@ -283,7 +333,7 @@ impl Iterator for Answers<'_> {
     }
 }
 
-impl std::iter::FusedIterator for Answers<'_> {}
+impl core::iter::FusedIterator for Answers<'_> {}
 
 impl<M: AsRef<[u8]> + AsMut<[u8]>> Switch<M> {
     /// A run of fields as they stand in bytes, one behind the other: tag, length of
@@ -297,8 +347,8 @@ impl<M: AsRef<[u8]> + AsMut<[u8]>> Switch<M> {
     /// ```
     /// use ventorupo::{Ran, Refusal, Settings, Stop, Switch};
     ///
-    /// let settings = Settings::ten_bytes(1, 64, 1, 16);
-    /// let mut switch = Switch::setup([0; 6668], settings).map_err(|(why, _)| why)?;
+    /// let settings = Settings::ten_bytes().nodes(1);
+    /// let mut switch = Switch::setup([0; 6668], settings)?;
     /// // Turns of ports 0 and 4, and one more for which there is no room.
     /// let fields = [5, 0, 1, 0, 5, 0, 1, 4, 5, 0, 1, 0];
     /// let mut room = [9; 11];

@@ -1,11 +1,21 @@
 //! The buckets in which a port's timed turns count how long packets waited.
 
-use std::ops::RangeInclusive;
+use core::ops::RangeInclusive;
 
 /// The buckets of each port.
+///
+/// ```
+/// use ventorupo::{bucket_of, BUCKETS};
+///
+/// assert_eq!(bucket_of(u32::MAX) as usize, BUCKETS - 1);
+/// ```
 pub const BUCKETS: usize = 33;
 
 /// Where a bucket stops: it stands for as many or more.
+///
+/// ```
+/// assert_eq!(ventorupo::BUCKET_STOP, 4_294_967_295);
+/// ```
 pub const BUCKET_STOP: u32 = u32::MAX;
 
 /// The bucket in which a wait counts: 0 for a wait of 0, else its highest set bit,

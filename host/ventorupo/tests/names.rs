@@ -12,6 +12,13 @@ const CAPI: &str = include_str!("../../../crates/capi/src/lib.rt");
 const CAPI_RUN: &str = include_str!("../../../crates/capi_run/src/lib.rt");
 const HEADER: &str = include_str!("../../../include/ventorupo.h");
 const README: &str = include_str!("../../../README.md");
+const VERSION: &str = include_str!("../../../VERSION");
+
+#[test]
+fn the_version_is_one() {
+    assert_eq!(ventorupo::VERSION, VERSION.trim_end());
+    assert_eq!(VERSION.lines().count(), 1);
+}
 
 /// What stands in a text between two marks.
 fn between<'a>(text: &'a str, from: &str, to: &str) -> &'a str {
@@ -20,11 +27,14 @@ fn between<'a>(text: &'a str, from: &str, to: &str) -> &'a str {
 }
 
 /// The lines of a list, each of which gives a number to a name: `prefix` name
-/// `equals` number, and what follows a comma.
+/// `equals` number, and what follows a comma or, on the last line, a blank.
 fn listed(lines: &str, prefix: &str, equals: &str) -> Vec<(u32, String)> {
     let read = |line: &str| {
         let (name, rest) = line.trim().strip_prefix(prefix)?.split_once(equals)?;
-        Some((rest.split(',').next()?.parse().ok()?, name.to_string()))
+        Some((
+            rest.split([',', ' ']).next()?.parse().ok()?,
+            name.to_string(),
+        ))
     };
     let read = |line| read(line).unwrap_or_else(|| panic!("no number for a name: {line}"));
     lines.lines().map(read).collect()

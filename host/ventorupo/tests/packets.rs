@@ -12,7 +12,7 @@ use ventorupo::{
 };
 
 /// Two nodes a port, beat 64, two slots, credit for two of the longest packets.
-const HEADERS: Settings = Settings::ten_bytes(2, 64, 2, 256);
+const HEADERS: Settings = Settings::ten_bytes().nodes(2).beat(64).slots(2).credit(256);
 const WHOLE: Settings = HEADERS.with_packets();
 
 /// Where the setting stands, where the last served queues do, and the marks
@@ -93,7 +93,7 @@ fn a_packet_goes_to_the_start_of_its_nodes_slot() {
 /// The shorter of two packets leaves the longer's end in the slot.
 #[test]
 fn the_rest_of_a_slot_stays() {
-    let one = Settings { nodes: 1, ..WHOLE };
+    let one = WHOLE.nodes(1);
     let mut switch = switch(one);
     let mut packets = memories(one);
     for length in [300, 12, 40] {
@@ -147,10 +147,7 @@ fn the_oldest_in_the_slots_is_shown_where_it_lies() {
 /// The last node of the last port, of as many as a port can have.
 #[test]
 fn the_last_slot_of_the_largest_memory() {
-    let most = Settings {
-        nodes: 2048,
-        ..WHOLE
-    };
+    let most = WHOLE.nodes(2048);
     let mut switch = switch(most);
     let mut packets = memories(most);
     let whole = packet(Header {
@@ -244,11 +241,7 @@ impl Tried {
 /// Everything is wrong with a call, and one after another is put right.
 #[test]
 fn a_packets_refusals_in_their_order() {
-    let none_left = Settings {
-        nodes: 1,
-        credit: 3,
-        ..HEADERS
-    };
+    let none_left = HEADERS.nodes(1).credit(3);
     let mut full = switch(none_left.with_packets());
     let free = packet(Header {
         queue: 0,
@@ -369,7 +362,10 @@ fn the_other_kind_is_refused_before_all_but_3() {
         assert_eq!(whole.arrive(port, header), other);
     }
     assert_eq!(whole.memory(), before);
-    for settings in [HEADERS, Settings::wide(4, 24, 2, 64, 2, 256)] {
+    for settings in [
+        HEADERS,
+        Settings::wide(4, 24).nodes(2).beat(64).slots(2).credit(256),
+    ] {
         let mut headers = switch(settings);
         let before = headers.memory().to_vec();
         let mut packets = memories(WHOLE);
@@ -493,7 +489,7 @@ fn all_else_is_as_of_headers() {
 /// What is in the row of the setting, of every byte that it can have.
 #[test]
 fn the_row_of_the_setting() {
-    let wide = Settings::wide(4, 24, 2, 64, 2, 256);
+    let wide = Settings::wide(4, 24).nodes(2).beat(64).slots(2).credit(256);
     for (settings, most) in [(HEADERS, 1), (wide, 0)] {
         let mut image = switch(settings).into_memory();
         for number in (0..=257u16).chain([65_535]) {

@@ -18,15 +18,19 @@ const SHAPES: [(u32, u32, u32); 5] = [
 ];
 
 fn settings() -> [Settings; SHAPES.len()] {
-    SHAPES.map(|(edition, ports, queues)| Settings {
-        edition,
-        ports,
-        queues,
-        ..Settings::ten_bytes(2, 64, 1, 16)
+    SHAPES.map(|(edition, ports, queues)| {
+        Settings::ten_bytes()
+            .nodes(2)
+            .beat(64)
+            .slots(1)
+            .credit(16)
+            .edition(edition)
+            .ports(ports)
+            .queues(queues)
     })
 }
 
-const TEN: Settings = Settings::ten_bytes(2, 64, 1, 16);
+const TEN: Settings = Settings::ten_bytes().nodes(2).beat(64).slots(1).credit(16);
 
 fn header(settings: Settings, source: u32, queue: u32) -> Vec<u8> {
     let header = Header {
@@ -276,7 +280,7 @@ fn bad_fields() {
 /// Cut off after any of its bytes; nothing stands behind it then.
 #[test]
 fn fields_that_are_cut_off() {
-    let wide = Settings::wide(8, 16, 2, 64, 1, 16);
+    let wide = Settings::wide(8, 16).nodes(2).beat(64).slots(1).credit(16);
     let mut switch = switch(wide);
     let whole = field(2, &[&[1][..], &header(wide, 1, 0)].concat());
     let turn = field(5, &[0]);

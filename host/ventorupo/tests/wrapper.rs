@@ -5,10 +5,10 @@ mod common;
 use common::{checksum, switch};
 use ventorupo::{
     audit, find, repair, size, EntryId, Finding, Form, Halt, Header, ListKind, Refusal, RoundTurn,
-    Rule, Settings, Switch, Turn, MOST_PORTS, PLACE_BYTES, TEN_BYTES, TURN_BYTES, WIDE,
+    Rule, Settings, SetupError, Switch, Turn, MOST_PORTS, PLACE_BYTES, TEN_BYTES, TURN_BYTES, WIDE,
 };
 
-const SETTINGS: Settings = Settings::ten_bytes(1, 512, 8, 3);
+const SETTINGS: Settings = Settings::ten_bytes().nodes(1).beat(512).slots(8).credit(3);
 
 /// The bytes of its state.
 const SIZE: usize = 6668;
@@ -31,12 +31,12 @@ const SHAPES: [(u32, u32, u32); 7] = [
 
 /// Of each shape, with so many nodes.
 fn settings(nodes: u32) -> [Settings; SHAPES.len()] {
-    SHAPES.map(|(edition, ports, queues)| Settings {
-        edition,
-        ports,
-        queues,
-        nodes,
-        ..SETTINGS
+    SHAPES.map(|(edition, ports, queues)| {
+        SETTINGS
+            .edition(edition)
+            .ports(ports)
+            .queues(queues)
+            .nodes(nodes)
     })
 }
 
@@ -75,54 +75,45 @@ fn sizes_are_the_published_ones() {
 fn settings_out_of_their_rows() {
     let [ten, .., wide] = settings(1);
     let wrong = [
-        Settings { nodes: 0, ..ten },
-        Settings { nodes: 2049, ..ten },
-        Settings { beat: 65, ..ten },
-        Settings { slots: 0, ..wide },
-        Settings { slots: 9, ..wide },
-        Settings {
-            credit: 65_536,
-            ..wide
-        },
+        ten.nodes(0),
+        ten.nodes(2049),
+        ten.beat(65),
+        wide.slots(0),
+        wide.slots(9),
+        wide.credit(65_536),
         // Ten bytes need just four ports and 24 queues.
-        Settings { ports: 3, ..ten },
-        Settings { ports: 5, ..ten },
-        Settings { queues: 23, ..ten },
-        Settings { queues: 25, ..ten },
-        Settings { ports: 1, ..wide },
-        Settings { ports: 33, ..wide },
-        Settings { queues: 1, ..wide },
-        Settings { queues: 65, ..wide },
-        Settings { edition: 2, ..wide },
-        Settings { edition: 2, ..ten },
-        Settings {
-            ports: u32::MAX,
-            ..wide
-        },
-        Settings { packets: 2, ..ten },
-        Settings {
-            packets: u32::MAX,
-            ..ten
-        },
+        ten.ports(3),
+        ten.ports(5),
+        ten.queues(23),
+        ten.queues(25),
+        wide.ports(1),
+        wide.ports(33),
+        wide.queues(1),
+        wide.queues(65),
+        wide.edition(2),
+        ten.edition(2),
+        wide.ports(u32::MAX),
+        ten.packets(2),
+        ten.packets(u32::MAX),
         // Packets need ten-byte headers.
         wide.with_packets(),
-        Settings {
-            edition: WIDE,
-            ..ten
-        }
-        .with_packets(),
+        ten.edition(WIDE).with_packets(),
     ];
     for settings in wrong {
         assert_eq!(size(&settings), None, "{settings:?}");
         // 2 comes before 1.
         let answer = Switch::setup(vec![7; 3], settings).map(|_| ());
-        assert_eq!(answer, Err((Refusal::BadSetting, vec![7; 3])));
+        let refused = SetupError {
+            refusal: Refusal::BadSetting,
+            memory: vec![7; 3],
+        };
+        assert_eq!(answer, Err(refused));
     }
 }
 
 #[test]
 fn a_refused_setup_hands_the_memory_back() {
-    let (refusal, memory) = Switch::setup(vec![7; SIZE - 1], SETTINGS).unwrap_err();
+    let SetupError { refusal, memory } = Switch::setup(vec![7; SIZE - 1], SETTINGS).unwrap_err();
     assert_eq!(refusal, Refusal::ShortMemory);
     assert_eq!(memory, vec![7; SIZE - 1]);
     let mut switch = Switch::over(memory);
@@ -135,6 +126,27 @@ fn no_memory_at_all() {
     let mut switch = Switch::over(Vec::new());
     assert_eq!(switch.setup_again(SETTINGS), Err(Refusal::ShortMemory));
     assert_eq!(switch.arrive(0, &[]), Err(Refusal::NoState));
+}
+
+/// Every entry id: 2,048 of each of 32 ports.
+#[test]
+fn an_entry_id_is_a_port_and_an_index() {
+    for entry in 0..=u16::MAX {
+        let id = EntryId(entry);
+        assert_eq!((id.port(), id.index()), (entry >> 11, entry & 0x7FF));
+    }
+}
+
+/// Each field by a number of its own, in the order of the C interface.
+#[test]
+fn every_field_is_set_by_its_name() {
+    let header = Header::new().transaction(8).credit(7).timestamp(6);
+    let header = header.length(4).queue(3).source(2).destination(1);
+    assert_eq!(header.numbers(), [1, 2, 3, 4, 0, 6, 7, 8]);
+    let poisoned = header.poisoned(true);
+    assert_eq!(poisoned.numbers(), [1, 2, 3, 4, 1, 6, 7, 8]);
+    assert_eq!(poisoned.poisoned(false), header);
+    assert_eq!(Header::new().numbers(), [0; 8]);
 }
 
 #[test]
@@ -413,7 +425,7 @@ fn fields_wider_than_the_counts() {
     assert_eq!(form.read(&bytes), Err(Refusal::HeaderQueue));
     assert_eq!(more.read(&bytes).unwrap().queue, 33);
     // Read, but not let in: there is no port 7.
-    let settings = Settings::wide(5, 33, 1, 64, 1, 16);
+    let settings = Settings::wide(5, 33).nodes(1).beat(64).slots(1).credit(16);
     let bytes = form.write(&header).unwrap();
     assert_eq!(switch(settings).arrive(4, &bytes), Err(Refusal::Source));
 }
@@ -441,7 +453,7 @@ fn four_bytes_tell_of_a_turn_or_of_none() {
 fn rules_and_their_numbers() {
     // (h) is a rule to come.
     let numbers = (1..=7).chain([9]);
-    for (number, (letter, rule)) in numbers.zip("abcdefgi".chars().zip(Rule::ALL)) {
+    for (number, (letter, &rule)) in numbers.zip("abcdefgi".chars().zip(Rule::ALL)) {
         assert_eq!((rule.number(), rule.letter()), (number, letter));
         assert_eq!(Rule::from_number(number), Some(rule));
     }
@@ -480,7 +492,7 @@ fn a_finding_is_never_refused() {
 #[test]
 fn an_audit_tells_every_place() {
     for nodes in [1, 2, 16, 256, 2048] {
-        let mut switch = switch(Settings { nodes, ..SETTINGS });
+        let mut switch = switch(SETTINGS.nodes(nodes));
         switch.arrive(0, &SHORTEST).unwrap();
         let places = switch.audit().unwrap();
         assert_eq!(places.len(), 4 * nodes as usize);

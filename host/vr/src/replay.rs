@@ -24,7 +24,11 @@ use crate::{view, written, Answer, TROUBLE};
 const PIECE: usize = 1 << 18;
 
 /// The largest switch that a setup's field can ask for.
-const LARGEST: Settings = Settings::ten_bytes(2048, 64, 1, 0);
+const LARGEST: Settings = Settings::ten_bytes()
+    .nodes(2048)
+    .beat(64)
+    .slots(1)
+    .credit(0);
 
 /// What is said of an image that the library refuses.
 const REFUSED: &str = "replay refused (3): it needs a switch state to start from";

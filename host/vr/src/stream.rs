@@ -25,11 +25,7 @@ pub const KINDS: [(&str, usize); 7] = [
 
 pub const SETUP: u8 = 1;
 pub const ARRIVE: u8 = 2;
-pub const STITCH: u8 = 3;
-pub const PREFETCH: u8 = 4;
 pub const TURN: u8 = 5;
-pub const CREDIT: u8 = 6;
-pub const MAP: u8 = 7;
 
 /// Should library and reader ever disagree.
 const UNSEEN: &str = "vr's own reader sees nothing wrong with it: please report this stream";
@@ -118,12 +114,13 @@ impl Front {
         };
         match (tag, bytes[HEAD..].get(..length)) {
             (_, None) => Front::Cut,
-            (SETUP, Some(&[n1, n0, b1, b0, slots, k1, k0])) => Front::Setup(Settings::ten_bytes(
-                number(n1, n0),
-                number(b1, b0),
-                slots.into(),
-                number(k1, k0),
-            )),
+            (SETUP, Some(&[n1, n0, b1, b0, slots, k1, k0])) => Front::Setup(
+                Settings::ten_bytes()
+                    .nodes(number(n1, n0))
+                    .beat(number(b1, b0))
+                    .slots(slots.into())
+                    .credit(number(k1, k0)),
+            ),
             _ => Front::Field { tag, length },
         }
     }
@@ -211,7 +208,13 @@ mod tests {
             (&[1, 0, 7, 0, 1, 0, 64, 1, 0], Front::Cut),
             (
                 &[1, 0, 7, 1, 2, 2, 0, 8, 3, 4, 5],
-                Front::Setup(Settings::ten_bytes(258, 512, 8, 772)),
+                Front::Setup(
+                    Settings::ten_bytes()
+                        .nodes(258)
+                        .beat(512)
+                        .slots(8)
+                        .credit(772),
+                ),
             ),
         ] {
             assert_eq!(Front::of(bytes), front);

@@ -4,7 +4,7 @@ use std::collections::BTreeMap;
 
 use ventorupo::{Answer, Refusal};
 
-use crate::stream::{ARRIVE, CREDIT, KINDS, MAP, PREFETCH, STITCH, TURN};
+use crate::stream::{KINDS, TURN};
 use crate::table::columns;
 use crate::view::counted;
 
@@ -38,15 +38,7 @@ impl Tally {
 
     /// One call of a run more.
     pub fn put_answer(&mut self, answer: Answer) {
-        let tag = match answer {
-            Answer::Arrived(_) => ARRIVE,
-            Answer::Stitched(_) => STITCH,
-            Answer::Prefetched(_) => PREFETCH,
-            Answer::Turned(_) => TURN,
-            Answer::Credited(_) => CREDIT,
-            Answer::Mapped(_) => MAP,
-        };
-        self.put(tag, answer.refusal());
+        self.put(answer.tag(), answer.refusal());
         if answer == Answer::Turned(Ok(None)) {
             self.kinds[usize::from(TURN) - 1].idle += 1;
         }

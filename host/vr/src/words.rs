@@ -21,6 +21,8 @@ pub fn asks(rule: Rule) -> &'static str {
         Rule::F => "every field recorded for a node that isn't free is in range, its price that of queue, length and beat",
         Rule::G => "for each port and queue above 0, arrival credit and prices outstanding are together the setting credit",
         Rule::I => "every port's mark is 0, 7, 8 or 18",
+        // The papers have another to come.
+        _ => "a rule that this tool doesn't know",
     }
 }
 
@@ -51,6 +53,7 @@ fn item_words(image: &Image, lists: &Lists, rule: Rule, item: usize) -> Option<S
         Rule::F => record(image, lists, entry),
         Rule::G => paid(image, lists, item),
         Rule::I => mark(image, item),
+        _ => None,
     }
 }
 

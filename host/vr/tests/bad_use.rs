@@ -13,7 +13,6 @@ use std::process::Stdio;
 
 use common::{command, full, on, vr, Folder, Said};
 use images::{at, small, switch, SMALL};
-use ventorupo::Settings;
 
 const HINT: &str = " (`vr help` tells the commands)";
 
@@ -249,10 +248,7 @@ fn huge_files() {
 #[test]
 fn an_output_pipe_that_closes() {
     let folder = Folder::new("bad-pipe");
-    let settings = Settings {
-        nodes: 2048,
-        ..SMALL
-    };
+    let settings = SMALL.nodes(2048);
     let sound = switch(settings).into_memory();
     let mut broken = sound.clone();
     broken[at::LAST] = 200;

@@ -157,7 +157,14 @@ fn any_bytes_behind_good_settings() {
         Table::Next,
     ];
     let sizes = [1, 2, 16, 256, 2048].map(roomy);
-    let others = [largest(2), Settings::wide(5, 33, 16, 128, 3, 65_535)];
+    let others = [
+        largest(2),
+        Settings::wide(5, 33)
+            .nodes(16)
+            .beat(128)
+            .slots(3)
+            .credit(65_535),
+    ];
     for settings in sizes.into_iter().chain(others) {
         let state = busy_of(settings, 10, 1).into_memory();
         for _ in 0..40 {
@@ -202,7 +209,7 @@ fn any_bytes_at_all() {
 fn findings_that_are_not_there() {
     let sound = small();
     for memory in [&sound[..], &[], &sound[..6719], &[0; 8000]] {
-        for rule in Rule::ALL {
+        for &rule in Rule::ALL {
             for item in (0..300).chain([4096, 4097, 4198, 6145, 65_536, u64::MAX]) {
                 let view = View::new(memory, 0, Some(Finding { rule, item }));
                 let seen = !vr::explain(&view).text.contains(UNSEEN);

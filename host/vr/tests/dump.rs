@@ -133,7 +133,7 @@ fn places_are_the_audits() {
             let (settings, switch) = (roomy(nodes), busy(nodes, percent, seed));
             agrees_with_the_audit(&folder, switch.memory(), settings);
         }
-        let settings = Settings { nodes, ..SMALL };
+        let settings = SMALL.nodes(nodes);
         agrees_with_the_audit(&folder, switch(settings).memory(), settings);
     }
     agrees_with_the_audit(&folder, &small(), SMALL);
@@ -322,7 +322,11 @@ fn settings_out_of_their_rows() {
 #[test]
 fn an_edition_that_is_damaged_hides_nothing() {
     let folder = Folder::new("dump-edition");
-    let settings = Settings::wide(5, 17, 2, 128, 3, 65_535);
+    let settings = Settings::wide(5, 17)
+        .nodes(2)
+        .beat(128)
+        .slots(3)
+        .credit(65_535);
     let sound = busy_of(settings, 100, 3).into_memory();
     let shown = |edition: u8| {
         let mut memory = sound.clone();

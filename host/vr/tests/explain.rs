@@ -568,7 +568,8 @@ fn no_image_of_an_older_build() {
         assert!(said.starts_with("(a) ") && !said.contains("hint"), "{said}");
     }
     // 2 ports, 2 queues and 100 nodes take 7084 bytes.
-    let mut state = switch(Settings::wide(2, 2, 100, 64, 1, 16)).into_memory();
+    let mut state =
+        switch(Settings::wide(2, 2).nodes(100).beat(64).slots(1).credit(16)).into_memory();
     state.resize(1988 + 52 * 100, 0);
     let said = |state: &[u8]| on("explain", &folder.file("image", state)).out;
     assert_eq!(said(&state), "a sound state\n");

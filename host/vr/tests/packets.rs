@@ -85,7 +85,13 @@ fn a_small_image_exactly() {
 
 /// Traffic of a switch with so many nodes a port: about half of it has left.
 fn busy(nodes: u32) -> Kept {
-    let mut kept = Kept::new(Settings::ten_bytes(nodes, 128, 3, 65_535));
+    let mut kept = Kept::new(
+        Settings::ten_bytes()
+            .nodes(nodes)
+            .beat(128)
+            .slots(3)
+            .credit(65_535),
+    );
     let mut random = Random::new(nodes.into());
     for queue in 1..24 {
         kept.switch.map(queue % 4, queue % 3).unwrap();

@@ -267,7 +267,7 @@ fn a_wide_image() {
                   dropped: outward credit 9 (of 1 queue)\n\
                   dropped: the mark of port 4, halted by 8 (header's source isn't the arriving port)\n";
     assert!(said.out.starts_with(wanted), "{}", said.out);
-    let mut switch = switch(Settings::wide(5, 3, 1, 64, 1, 16));
+    let mut switch = switch(Settings::wide(5, 3).nodes(1).beat(64).slots(1).credit(16));
     for (id, port) in [(2, 3), (7, 4), (4095, 1)] {
         switch.map(id, port).unwrap();
     }
@@ -280,7 +280,7 @@ fn bytes_past_the_state_go_along() {
     let folder = Folder::new("repair-past");
     for (i, settings) in in_every_shape(16).into_iter().enumerate() {
         let nodes = if i % 2 == 0 { 16 } else { 256 };
-        let settings = Settings { nodes, ..settings };
+        let settings = settings.nodes(nodes);
         let state = busy_of(settings, 10, 9).into_memory();
         past_the_state(&folder, &format!("new{i}"), &state);
     }

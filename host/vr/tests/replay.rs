@@ -129,7 +129,11 @@ fn shown_and_written() {
     assert_eq!(format!("a sound state\n{rest}"), dump + &written);
     assert_eq!(on("explain", &new).out, "a sound state\n");
     // The state's bytes alone, as single calls leave them.
-    let mut switch = Switch::setup([0; 6668], Settings::ten_bytes(1, 64, 1, 16)).unwrap();
+    let mut switch = Switch::setup(
+        [0; 6668],
+        Settings::ten_bytes().nodes(1).beat(64).slots(1).credit(16),
+    )
+    .unwrap();
     switch
         .arrive(0, &[0, 0, 0x30, 0, 0, 0, 0, 0, 0, 0x72])
         .unwrap();
@@ -156,7 +160,17 @@ const LENGTHS: [usize; 7] = [7, 11, 1, 2, 1, 4, 2];
 
 /// The most memory that a setup in its rows can need.
 fn zeros() -> Vec<u8> {
-    vec![0; size(&Settings::ten_bytes(2048, 64, 1, 0)).unwrap()]
+    vec![
+        0;
+        size(
+            &Settings::ten_bytes()
+                .nodes(2048)
+                .beat(64)
+                .slots(1)
+                .credit(0)
+        )
+        .unwrap()
+    ]
 }
 
 /// The bytes of an arrival's value in a memory, beside those that it may have in any.
@@ -211,7 +225,13 @@ impl OneByOne {
         let two = |at: usize| one(at) << 8 | one(at + 1);
         let switch = &mut self.switch;
         match tag {
-            1 => switch.setup_again(Settings::ten_bytes(two(0), two(2), one(4), two(5)))?,
+            1 => switch.setup_again(
+                Settings::ten_bytes()
+                    .nodes(two(0))
+                    .beat(two(2))
+                    .slots(one(4))
+                    .credit(two(5)),
+            )?,
             2 => drop(switch.arrive(one(0), &value[1..])?),
             3 => drop(switch.stitch(one(0))?),
             4 => drop(switch.prefetch(one(0), one(1))?),
@@ -420,7 +440,7 @@ refused 6, HeaderSize (header not of its edition's size): 1 call
 fn a_wide_image_exactly() {
     let folder = Folder::new("replay-wide");
     let (image, new) = (folder.file("image", &wide()), folder.path("new"));
-    let settings = Settings::wide(5, 3, 1, 64, 1, 16);
+    let settings = Settings::wide(5, 3).nodes(1).beat(64).slots(1).credit(16);
     let header = Header {
         source: 4,
         length: 13,
@@ -602,7 +622,7 @@ fn setups_and_the_memory() {
     // A smaller state, and behind it what was there.
     let mut memory = small();
     Switch::over(&mut memory[..])
-        .setup_again(Settings::ten_bytes(1, 64, 1, 16))
+        .setup_again(Settings::ten_bytes().nodes(1).beat(64).slots(1).credit(16))
         .unwrap();
     assert_eq!(fs::read(&new).unwrap(), memory);
 }
@@ -668,7 +688,7 @@ fn an_image_that_is_no_state() {
 fn long_streams() {
     let folder = Folder::new("replay-long");
     let mut random = Random::new(3);
-    let settings = Settings::ten_bytes(2, 64, 1, 16);
+    let settings = Settings::ten_bytes().nodes(2).beat(64).slots(1).credit(16);
     let mut bytes = setup(2);
     // More than three pieces, each of which ends somewhere else in a field.
     bytes.extend(some_fields(&mut random, settings, 150_000));

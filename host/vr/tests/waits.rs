@@ -114,7 +114,7 @@ fn nothing_counted() {
     let said = on("waits", &folder.file("image", &small()));
     let wanted = "a sound state\n\nports 0 to 3: no packets counted\n";
     assert_eq!((said.status, said.out.as_str()), (Some(0), wanted));
-    let state = switch(Settings::wide(2, 2, 1, 64, 1, 16)).into_memory();
+    let state = switch(Settings::wide(2, 2).nodes(1).beat(64).slots(1).credit(16)).into_memory();
     let said = on("waits", &folder.file("two", &state));
     assert_eq!(
         said.out,

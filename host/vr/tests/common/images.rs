@@ -26,23 +26,27 @@ pub mod at {
     pub const SIZE: usize = 6720;
 }
 
-pub const SMALL: Settings = Settings::ten_bytes(2, 64, 1, 16);
+pub const SMALL: Settings = Settings::ten_bytes().nodes(2).beat(64).slots(1).credit(16);
 
 /// Settings of four ports and 24 queues with ten-byte headers, so many nodes a
 /// port, more than one slot and all the credit.
 pub const fn roomy(nodes: u32) -> Settings {
-    Settings::ten_bytes(nodes, 128, 3, 65_535)
+    Settings::ten_bytes()
+        .nodes(nodes)
+        .beat(128)
+        .slots(3)
+        .credit(65_535)
 }
 
 /// The same of every shape.
 // Not every test needs it.
 #[allow(dead_code)]
 pub fn in_every_shape(nodes: u32) -> [Settings; SHAPES.len()] {
-    SHAPES.map(|shape| Settings {
-        edition: shape.edition,
-        ports: shape.ports,
-        queues: shape.queues,
-        ..roomy(nodes)
+    SHAPES.map(|shape| {
+        roomy(nodes)
+            .edition(shape.edition)
+            .ports(shape.ports)
+            .queues(shape.queues)
     })
 }
 
@@ -50,7 +54,11 @@ pub fn in_every_shape(nodes: u32) -> [Settings; SHAPES.len()] {
 // Not every test needs it.
 #[allow(dead_code)]
 pub const fn largest(nodes: u32) -> Settings {
-    Settings::wide(32, 64, nodes, 128, 3, 65_535)
+    Settings::wide(32, 64)
+        .nodes(nodes)
+        .beat(128)
+        .slots(3)
+        .credit(65_535)
 }
 
 pub fn switch(settings: Settings) -> Switch<Vec<u8>> {
@@ -142,7 +150,7 @@ pub fn changed(changes: &[Change]) -> Vec<u8> {
 // Not every test needs it.
 #[allow(dead_code)]
 pub fn wide() -> Vec<u8> {
-    let settings = Settings::wide(5, 3, 1, 64, 1, 16);
+    let settings = Settings::wide(5, 3).nodes(1).beat(64).slots(1).credit(16);
     let mut switch = switch(settings);
     switch.map(2, 3).unwrap();
     switch.map(7, 4).unwrap();
