@@ -32,12 +32,10 @@ pub struct Simulate {
     pub svg: Option<PathBuf>,
 }
 
-/// Its status is 1 if the night beside it was answered otherwise.
 pub fn simulate(asked: &Simulate) -> Result<Answer, Trouble> {
     asked.svg.as_deref().map_or(Ok(()), files::vacant)?;
     let night = proved(&asked.plan).map_err(refused)?;
-    let text = if asked.json { json(&night) } else { text(&night) };
-    let mut answer = Answer::new(text, night.beside.differs.is_some().into());
+    let mut answer = told(&night, asked.json);
     if let Some(new) = &asked.svg {
         files::write_new(new, picture(&night).as_bytes())?;
         // A pipe carries the night alone.
@@ -45,6 +43,15 @@ pub fn simulate(asked: &Simulate) -> Result<Answer, Trouble> {
         answer.written = Some(new.clone());
     }
     Ok(answer)
+}
+
+/// The status is 1 if the night beside it was answered otherwise.
+pub fn told(night: &Night, as_json: bool) -> Answer {
+    let text = match as_json {
+        true => json(night),
+        false => text(night),
+    };
+    Answer::new(text, night.beside.differs.is_some().into())
 }
 
 /// The night of a plan on the proved library.

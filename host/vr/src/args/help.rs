@@ -103,16 +103,16 @@ shown and written.
 ";
 
 const NIGHTS: &str = "\
-PORT is the port whose stage box lies, 1 if none is named, from one TICK to another; a TICK is 1 to the ticks
-of the night, 120 if not named (10 to 1000). At first it floods its port with sound headers beyond its credit
-and says lengths, queues and reserved bits that cannot be; after a third of its time wrong checksums and
-other ports' sources too, which halt its port. An operator clears the port once while it lies and once
-afterwards, or once in the TICK behind --clear. The other boxes are honest. Without --ports and --queues it
-is a switch of 4 ports and 24 queues with ten-byte headers, else one with wide headers of 2 to 32 ports and 2
-to 64 queues; 32 nodes a port. What the boxes send follows from the seed, 1 if none is named; every number
-that is shown is an answer of the proved library, or a count of its answers: free nodes are counted in an
-audit after each tick's arrivals. The same night is driven once more without the headers that were refused
-at PORT, and all other answers are compared; if one differs, the status is 1.
+PORT is the port whose stage box lies, 1 if none is named, from one TICK to another; a TICK is 1 to the
+ticks of the night, 120 if not named (10 to 999). At first it floods its port with sound headers beyond
+its credit and says lengths, queues and reserved bits that cannot be; after a third of its time wrong
+checksums and other ports' sources too, which halt its port. An operator clears the port once while it
+lies and once afterwards, or once in the TICK behind --clear. The other boxes are honest. Without --ports
+and --queues it is a switch of 4 ports and 24 queues with ten-byte headers, else one with wide headers of
+2 to 32 ports and 2 to 64 queues; 32 nodes a port. What the boxes send follows from the seed, 1 if none is
+named; every number that is shown is an answer of the proved library, or a count of its answers: free
+nodes are counted in an audit after each tick's arrivals. The same night is driven once more without the
+headers that were refused at PORT, and all other answers are compared; if one differs, the status is 1.
 ";
 
 const NEW: &str = "\
@@ -135,9 +135,9 @@ A number N is decimal or, behind 0x, hexadecimal; --name=N is --name N.
 ";
 
 const STATUS: &str = "\
-Exit status: 0 a sound state, repaired, replayed to the end, made or shown; 1 a broken state, a bad field,
-or refused; 2 it could not be done (a wrong command, a file that cannot be read or written), with the reason
-on standard error.
+Exit status: 0 a sound state, repaired, replayed to the end, simulated, made or shown; 1 a broken state, a
+bad field, refused, or nights that differ; 2 it could not be done (a wrong command, a file that cannot be
+read or written), with the reason on standard error.
 ";
 
 impl Topic {

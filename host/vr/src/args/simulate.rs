@@ -20,10 +20,10 @@ const NUMBERS: [(&str, u32, u32); 9] = [
     ("--nodes", 1, 2048),
     ("--liar", 0, 31),
     ("--seed", 0, u32::MAX),
-    ("--ticks", 10, 1000),
-    ("--from", 1, 1000),
-    ("--to", 1, 1000),
-    ("--clear", 1, 1000),
+    ("--ticks", 10, 999),
+    ("--from", 1, 999),
+    ("--to", 1, 999),
+    ("--clear", 1, 999),
 ];
 
 /// The words behind `simulate`.
@@ -93,8 +93,13 @@ impl Words {
 
     /// Ten bytes if nothing else is said; wide where counts are named.
     fn form(&self) -> Form {
-        let [ports, queues] = ["--ports", "--queues"].map(|option| self.numbers.get(option).copied());
-        let Form { ports: four, queues: most, .. } = Form::TEN_BYTES;
+        let [ports, queues] =
+            ["--ports", "--queues"].map(|option| self.numbers.get(option).copied());
+        let Form {
+            ports: four,
+            queues: most,
+            ..
+        } = Form::TEN_BYTES;
         match (ports, queues) {
             (None, None) => Form::TEN_BYTES,
             _ => Form::wide(ports.unwrap_or(four), queues.unwrap_or(most)),
@@ -107,5 +112,92 @@ fn within(option: &str, number: u32, least: u32, most: u32) -> Result<u32, Troub
     if (least..=most).contains(&number) {
         return Ok(number);
     }
-    Err(bad(format!("{option} is {least} to {most} here, not {number}")))
+    Err(bad(format!(
+        "{option} is {least} to {most} here, not {number}"
+    )))
+}
+
+#[cfg(test)]
+mod tests {
+    use super::*;
+
+    fn told(line: &str) -> Result<Simulate, String> {
+        let words = line.split_whitespace().map(OsString::from).collect();
+        match command(words) {
+            Ok(Command::Simulate(asked)) => Ok(asked),
+            Ok(other) => panic!("{other:?}"),
+            Err(trouble) => Err(trouble.to_string()),
+        }
+    }
+
+    fn plain() -> Simulate {
+        Simulate {
+            plan: Plan {
+                form: Form::TEN_BYTES,
+                nodes: 32,
+                liar: 1,
+                seed: 1,
+                ticks: 120,
+                from: 30,
+                to: 75,
+                clears: vec![61, 88],
+            },
+            json: false,
+            svg: None,
+        }
+    }
+
+    #[test]
+    fn nights_are_read() {
+        assert_eq!(told(""), Ok(plain()));
+        let wide = |ports, queues| Plan {
+            form: Form::wide(ports, queues),
+            ..plain().plan
+        };
+        for (line, plan) in [
+            ("--ports 4", wide(4, 24)),
+            ("--queues=0x18", wide(4, 24)),
+            ("--ports 32 --queues 64", wide(32, 64)),
+            ("--queues 2 --ports 2", wide(2, 2)),
+            (
+                "--nodes 2048 --liar 3 --seed 0xFFFFFFFF --to 40 --clear 120",
+                Plan {
+                    nodes: 2048,
+                    liar: 3,
+                    seed: u32::MAX,
+                    to: 40,
+                    clears: vec![120],
+                    ..plain().plan
+                },
+            ),
+            // The lies last as long, if the night does.
+            (
+                "--from 20",
+                Plan {
+                    from: 20,
+                    to: 65,
+                    clears: vec![51, 78],
+                    ..plain().plan
+                },
+            ),
+            (
+                "--ticks 40 --from 40",
+                Plan {
+                    ticks: 40,
+                    from: 40,
+                    to: 40,
+                    clears: vec![],
+                    ..plain().plan
+                },
+            ),
+        ] {
+            assert_eq!(told(line).map(|asked| asked.plan), Ok(plan), "{line}");
+        }
+        let written = Simulate {
+            json: true,
+            svg: Some("./-n".into()),
+            ..plain()
+        };
+        assert_eq!(told("--json --svg ./-n"), Ok(written));
+    }
 }

@@ -142,7 +142,11 @@ impl Boxes<'_> {
     /// A header that lies; not in all ways where none is to halt its port.
     fn told(&mut self, tick: u32, halting: bool) -> Result<Sending, Refusal> {
         let harmless = self.lies.len() - 2;
-        let lies = if halting { &self.lies[..] } else { &self.lies[..harmless] };
+        let lies = if halting {
+            &self.lies[..]
+        } else {
+            &self.lies[..harmless]
+        };
         let lie = self.random.pick(lies);
         let header = self.audio_header(self.plan.liar, tick);
         let mut sending = self.sound(&header)?;
@@ -158,7 +162,9 @@ impl Boxes<'_> {
         match lie {
             Lie::Checksum => {}
             Lie::Source => said[1] = (self.plan.liar + self.random.among(1, ports - 1)) % ports,
-            Lie::Length => said[fields::LENGTH] = self.random.among(0, fields::least(self.plan.form) - 1),
+            Lie::Length => {
+                said[fields::LENGTH] = self.random.among(0, fields::least(self.plan.form) - 1)
+            }
             Lie::Queue => {
                 let last = fields::largest(widths[fields::QUEUE]);
                 said[fields::QUEUE] = self.random.among(queues, last);
@@ -186,7 +192,9 @@ impl Boxes<'_> {
 /// Fields one behind the other, and their checksum in place of the last.
 fn packed(widths: &[u32], said: &[u32]) -> Vec<u8> {
     let fields = widths.iter().zip(said);
-    let number = fields.fold(0u128, |all, (width, field)| all << width | u128::from(*field));
+    let number = fields.fold(0u128, |all, (width, field)| {
+        all << width | u128::from(*field)
+    });
     let size = widths.iter().sum::<u32>() as usize / 8;
     let mut bytes = number.to_be_bytes()[16 - size..].to_vec();
     bytes[size - 1] = fields::checksum(&bytes[..size - 1]);

@@ -6,15 +6,20 @@ use super::plan::Plan;
 pub fn json(night: &Night) -> String {
     let mut members = asked(&night.plan);
     members.extend(over_time(&night.ticks));
-    let ports = (0..).zip(&night.ports).map(|(number, port)| total(number, port));
+    let ports = (0..)
+        .zip(&night.ports)
+        .map(|(number, port)| total(number, port));
     members.push(("totals", lines(ports)));
-    members.push(("halts", row(night.halts.iter().map(|halt| {
-        object(&[
-            ("by", halt.mark.to_string()),
-            ("from", halt.from.to_string()),
-            ("to", halt.to.to_string()),
-        ])
-    }))));
+    members.push((
+        "halts",
+        row(night.halts.iter().map(|halt| {
+            object(&[
+                ("by", halt.mark.to_string()),
+                ("from", halt.from.to_string()),
+                ("to", halt.to.to_string()),
+            ])
+        })),
+    ));
     members.push(("beside", beside(night)));
     let member = |(name, value): &(&str, String)| format!("  \"{name}\": {value}");
     let members: Vec<String> = members.iter().map(member).collect();
@@ -40,7 +45,11 @@ fn asked(plan: &Plan) -> Vec<(&'static str, String)> {
 /// An element for each tick; of pools and marks one for each port in it.
 fn over_time(ticks: &[Tick]) -> Vec<(&'static str, String)> {
     let of_ports = |of: fn(&Tick) -> &Vec<u32>| {
-        lines(ticks.iter().map(|tick| row(of(tick).iter().map(u32::to_string))))
+        lines(
+            ticks
+                .iter()
+                .map(|tick| row(of(tick).iter().map(u32::to_string))),
+        )
     };
     let number = |of: fn(&Tick) -> u64| row(ticks.iter().map(|tick| of(tick).to_string()));
     vec![

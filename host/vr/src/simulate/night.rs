@@ -30,7 +30,11 @@ pub struct Both {
 
 impl Both {
     fn count(&mut self, clock: bool) {
-        *if clock { &mut self.clock } else { &mut self.above } += 1;
+        *if clock {
+            &mut self.clock
+        } else {
+            &mut self.above
+        } += 1;
     }
 
     pub fn sum(self) -> u64 {
@@ -194,7 +198,7 @@ impl<D: Desk> Course<'_, D> {
         self.watch(tick)?;
         self.manage(tick)?;
         self.turns(tick)?;
-        self.audit(tick)
+        self.audit(tick).map(drop)
     }
 
     /// What left two ticks ago has been played: its receivers hand out credit again.
@@ -221,8 +225,9 @@ impl<D: Desk> Course<'_, D> {
         let liar = self.plan.liar;
         let kept = |(sending, told): &(&Sending, &Told)| sending.port != liar || told.is_ok();
         let others = sent.iter().zip(&told).filter(kept);
-        let (calls, wanted): (Vec<Call>, Vec<Told>) =
-            others.map(|(sending, told)| (arrive(sending), *told)).unzip();
+        let (calls, wanted): (Vec<Call>, Vec<Told>) = others
+            .map(|(sending, told)| (arrive(sending), *told))
+            .unzip();
         self.night.beside.left_out += (sent.len() - calls.len()) as u64;
         let same = self.beside.run(&calls)? == wanted;
         self.compare(tick, "arrive", calls.len(), same);
@@ -246,7 +251,11 @@ impl<D: Desk> Course<'_, D> {
                 *port.refused.entry(number).or_insert(0) += 1;
                 port.clocks_refused += u64::from(sending.clock);
                 let liars = sending.port == self.plan.liar;
-                *if liars { &mut tick.refused } else { &mut tick.refused_elsewhere } += 1;
+                *if liars {
+                    &mut tick.refused
+                } else {
+                    &mut tick.refused_elsewhere
+                } += 1;
             }
         }
     }
@@ -254,7 +263,7 @@ impl<D: Desk> Course<'_, D> {
     /// Pools and marks after the arrivals. Of the liar's mark alone the night beside
     /// may tell another.
     fn watch(&mut self, tick: u32) -> Result<(), u32> {
-        let free = free(&self.desk.audit()?, self.night.ports.len());
+        let free = free(&self.audit(tick)?, self.night.ports.len());
         for (port, free) in self.night.ports.iter_mut().zip(&free) {
             if *free < port.lowest {
                 port.lowest = *free;
@@ -331,7 +340,11 @@ impl<D: Desk> Course<'_, D> {
         let port = &mut self.night.ports[owed.port as usize];
         port.left.count(clock);
         let longest = &mut port.longest;
-        let longest = if clock { &mut longest.clock } else { &mut longest.above };
+        let longest = if clock {
+            &mut longest.clock
+        } else {
+            &mut longest.above
+        };
         *longest = (*longest).max(wait.into());
         let tick = self.night.ticks.last_mut().expect("a tick has begun");
         tick.left.count(clock);
@@ -343,12 +356,13 @@ impl<D: Desk> Course<'_, D> {
         }
     }
 
-    /// Every node stands in the same place on both desks.
-    fn audit(&mut self, tick: u32) -> Result<(), u32> {
-        let same = self.desk.audit()? == self.beside.audit()?;
+    /// Every node's place, which is to be the same on both desks.
+    fn audit(&mut self, tick: u32) -> Result<Vec<u8>, u32> {
+        let places = self.desk.audit()?;
+        let same = places == self.beside.audit()?;
         self.night.beside.audits += 1;
         self.compare(tick, "audit", 0, same);
-        Ok(())
+        Ok(places)
     }
 
     /// Calls for both desks.
@@ -369,7 +383,7 @@ impl<D: Desk> Course<'_, D> {
 
     /// What stands at the end.
     fn end(mut self) -> Result<Night, u32> {
-        let free = free(&self.desk.audit()?, self.night.ports.len());
+        let free = free(&self.audit(self.plan.ticks)?, self.night.ports.len());
         for (number, free) in (0..).zip(free) {
             let buckets = self.buckets(number)?;
             let port = &mut self.night.ports[number as usize];

@@ -2,7 +2,7 @@
 //! and no file of others is asked for.
 
 use super::night::{Night, Tick};
-use super::text::{heading, statements};
+use super::text::{heading, span, statements};
 use crate::svg::{broken, escaped};
 
 /// The picture's width, in pixels as all that follows.
@@ -15,6 +15,8 @@ const END: u32 = 780;
 const POOLS: u32 = 220;
 const DEPARTURES: u32 = 110;
 const REFUSALS: u32 = 80;
+/// What a halt's ground leaves of the lies' above it.
+const STRIP: u32 = 8;
 /// From one line of text to the next, and its characters at most.
 const LINE: u32 = 20;
 const CHARACTERS: usize = 105;
@@ -24,7 +26,7 @@ const COLORS: [&str; 7] = [
 ];
 /// The liar, the others where they are many, and the grounds behind lies and halts.
 const LIAR: &str = "#c8281e";
-const LYING: &str = "#fff2cc";
+const LYING: &str = "#ffe08a";
 const HALTED: &str = "#f6cfcb";
 /// What left in queue 0, and above it.
 const CLOCK: &str = "#1d4e89";
@@ -51,7 +53,10 @@ pub fn picture(night: &Night) -> String {
 }
 
 fn title(night: &Night) -> String {
-    format!("a night when the stage box at port {} lied", night.plan.liar)
+    format!(
+        "a night when the stage box at port {} lied",
+        night.plan.liar
+    )
 }
 
 /// What is drawn so far, and the line below which it stands.
@@ -111,16 +116,24 @@ impl Page<'_> {
         if self.few() {
             signs.extend(others.map(|port| (self.color(port), format!("port {port}"))));
         } else {
-            signs.push((self.color(liar + 1), format!("{} other ports", others.count())));
+            signs.push((
+                self.color(liar + 1),
+                format!("{} other ports", others.count()),
+            ));
         }
         let mut left = LEFT;
         for (color, said) in signs {
+            let right = left + 36 + 7 * said.len() as u32;
+            if right > WIDTH {
+                self.below += LINE;
+            }
+            let start = if right > WIDTH { LEFT } else { left };
             let top = self.below - 11;
             self.inner += &format!(
-                "  <rect x=\"{left}\" y=\"{top}\" width=\"14\" height=\"12\" fill=\"{color}\" stroke=\"{GRID}\"/>\n"
+                "  <rect x=\"{start}\" y=\"{top}\" width=\"14\" height=\"12\" fill=\"{color}\" stroke=\"{GRID}\"/>\n"
             );
-            self.text(left + 20, "", &said);
-            left += 36 + 7 * said.len() as u32;
+            self.text(start + 20, "", &said);
+            left = start + right - left;
         }
     }
 
@@ -134,7 +147,11 @@ impl Page<'_> {
         if port == liar {
             return LIAR;
         }
-        let among = if self.few() { port - u32::from(port > liar) } else { 0 };
+        let among = if self.few() {
+            port - u32::from(port > liar)
+        } else {
+            0
+        };
         COLORS[among as usize % COLORS.len()]
     }
 
@@ -160,7 +177,11 @@ impl Page<'_> {
             let free = tick.free[port as usize];
             // In the middle of its tick.
             let across = (self.across(i) + self.across(i + 1)) / 2;
-            format!("{},{}", tenths(across), tenths(panel.height_of(free.into())))
+            format!(
+                "{},{}",
+                tenths(across),
+                tenths(panel.height_of(free.into()))
+            )
         };
         let points: Vec<String> = (0..).zip(&self.night.ticks).map(point).collect();
         points.join(" ")
@@ -192,20 +213,31 @@ impl Page<'_> {
         let top = self.below + 8;
         let panel = Panel { top, height, most };
         let plan = &self.night.plan;
-        let mut grounds = vec![(LYING, plan.from, plan.to, "lies".to_string())];
-        let halts = self.night.halts.iter();
-        grounds.extend(halts.map(|halt| (HALTED, halt.from, halt.to, format!("halted by {}", halt.mark))));
-        for (color, from, to, what) in grounds {
-            let (left, right) = (self.across(from - 1), self.across(to));
-            let (left, width) = (tenths(left), tenths(right - left));
-            self.inner += &format!(
-                "  <rect x=\"{left}\" y=\"{top}\" width=\"{width}\" height=\"{height}\" fill=\"{color}\">\
-                 <title>{what}, ticks {from} to {to}</title></rect>\n"
-            );
+        self.ground(panel, LYING, (plan.from, plan.to), "lies");
+        for halt in &self.night.halts {
+            let what = format!("halted by {}", halt.mark);
+            // Below a strip of the lies, which are to be seen behind it.
+            let inner = Panel {
+                top: top + STRIP,
+                height: height - STRIP,
+                most,
+            };
+            self.ground(inner, HALTED, (halt.from, halt.to), &what);
         }
         self.below = top + height;
         self.scale(panel);
         panel
+    }
+
+    /// What happened in these ticks, behind a panel.
+    fn ground(&mut self, panel: Panel, color: &str, (from, to): (u32, u32), what: &str) {
+        let (left, right) = (self.across(from - 1), self.across(to));
+        let [left, width] = [left, right - left].map(tenths);
+        let (Panel { top, height, .. }, span) = (panel, span(from, to));
+        self.inner += &format!(
+            "  <rect x=\"{left}\" y=\"{top}\" width=\"{width}\" height=\"{height}\" fill=\"{color}\">\
+             <title>{what}, {span}</title></rect>\n"
+        );
     }
 
     /// Lines at nothing, the half, and the whole.
@@ -216,8 +248,9 @@ impl Page<'_> {
             let at = panel.height_of(number);
             let (line, text) = (tenths(at), tenths(at + 40));
             self.inner += &format!(
-                "  <line x1=\"{START}\" y1=\"{line}\" x2=\"{END}\" y2=\"{line}\" stroke=\"{GRID}\"/>\n\
+                "  <rect x=\"{START}\" y=\"{line}\" width=\"{}\" height=\"1\" fill=\"{GRID}\"/>\n\
                  \x20 <text x=\"{}\" y=\"{text}\" text-anchor=\"end\" font-size=\"11\">{number}</text>\n",
+                END - START,
                 START - 6
             );
         }
@@ -254,7 +287,11 @@ impl Page<'_> {
             );
         }
         self.below += LINE - 4;
-        self.text((START + END) / 2, "text-anchor=\"middle\" font-size=\"11\"", "ticks");
+        self.text(
+            (START + END) / 2,
+            "text-anchor=\"middle\" font-size=\"11\"",
+            "ticks",
+        );
     }
 
     /// Where a tick ends, in tenths of a pixel.

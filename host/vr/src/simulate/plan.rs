@@ -57,7 +57,10 @@ impl Plan {
         Plan {
             from,
             to,
-            clears: clears.into_iter().filter(|&tick| tick <= self.ticks).collect(),
+            clears: clears
+                .into_iter()
+                .filter(|&tick| tick <= self.ticks)
+                .collect(),
             ..self
         }
     }

@@ -47,28 +47,34 @@ pub fn heading(plan: &Plan) -> Vec<String> {
         TEN_BYTES => "ten-byte",
         _ => "wide",
     };
-    let nodes = counted(plan.nodes.into(), "node");
+    let Plan { liar, from, to, .. } = plan;
     vec![
         format!(
-            "a night of {} ticks, seed {}: {} ports, {} queues, {nodes} a port, {headers} headers",
-            plan.ticks, plan.seed, form.ports, form.queues
+            "a night of {} ticks, seed {}; ports {}, queues {}, nodes {}, {headers} headers",
+            plan.ticks, plan.seed, form.ports, form.queues, plan.nodes
         ),
         format!(
-            "the stage box at port {} lies in ticks {} to {}; {}",
-            plan.liar,
-            plan.from,
-            plan.to,
+            "the box at port {liar} (!) lies in {}; {}",
+            span(*from, *to),
             cleared(&plan.clears)
         ),
     ]
 }
 
+/// Ticks from one to another.
+pub fn span(from: u32, to: u32) -> String {
+    match from == to {
+        true => format!("tick {from}"),
+        false => format!("ticks {from} to {to}"),
+    }
+}
+
 fn cleared(ticks: &[u32]) -> String {
     let ticks: Vec<String> = ticks.iter().map(u32::to_string).collect();
     match ticks.len() {
-        0 => "nobody clears its port".into(),
-        1 => format!("its port is cleared in tick {}", ticks[0]),
-        _ => format!("its port is cleared in ticks {}", ticks.join(" and ")),
+        0 => "the port is never cleared".into(),
+        1 => format!("the port is cleared in tick {}", ticks[0]),
+        _ => format!("the port is cleared in {}", ticks.join(" and ")),
     }
 }
 
@@ -108,9 +114,9 @@ fn ticks(night: &Night) -> String {
     let pools = pools(plan);
     let column = POOLS / pools.len();
     let mut text = format!(
-        "{:>POOLS$}  {:^6} {:^13} {:>11}\n",
-        format!("fewest free nodes of {}, in these ticks", plan.nodes),
-        format!("port {}", plan.liar),
+        "{:>POOLS$} {:>6} {:>13} {:>11}\n",
+        format!("fewest free nodes of {} in these ticks", plan.nodes),
+        "!",
         "headers",
         "left"
     );
@@ -119,9 +125,15 @@ fn ticks(night: &Night) -> String {
     for pool in &pools {
         text += &format!("{:>column$}", pool.title);
     }
-    text += &format!("  {:>6} {:>5} {:>7} {:>5} {:>5}\n", "halted", "in", "refused", "q 0", "above");
+    text += &format!(
+        " {:>6} {:>5} {:>7} {:>5} {:>5}\n",
+        "halted", "in", "refused", "q 0", "above"
+    );
     let each = (plan.ticks + ROWS - 1) / ROWS;
-    for (first, some) in (1..).step_by(each as usize).zip(night.ticks.chunks(each as usize)) {
+    for (first, some) in (1..)
+        .step_by(each as usize)
+        .zip(night.ticks.chunks(each as usize))
+    {
         text += &row(night, &pools, first, some);
     }
     text
@@ -130,9 +142,17 @@ fn ticks(night: &Night) -> String {
 fn row(night: &Night, pools: &[Pool], first: u32, ticks: &[Tick]) -> String {
     let column = POOLS / pools.len();
     let last = first + ticks.len() as u32 - 1;
-    let mut text = format!("{:>7}", format!("{first}-{last}"));
+    let mut text = match first == last {
+        true => format!("{first:>7}"),
+        false => format!("{:>7}", format!("{first}-{last}")),
+    };
     for pool in pools {
-        let free = |tick: &Tick| pool.ports.iter().filter_map(|&port| tick.free.get(port).copied()).min();
+        let free = |tick: &Tick| {
+            pool.ports
+                .iter()
+                .filter_map(|&port| tick.free.get(port).copied())
+                .min()
+        };
         let fewest = ticks.iter().filter_map(free).min().unwrap_or(0);
         let digits = night.plan.nodes.to_string().len();
         let width = column - digits - 3;
@@ -141,7 +161,7 @@ fn row(night: &Night, pools: &[Pool], first: u32, ticks: &[Tick]) -> String {
     }
     let sum = |of: fn(&Tick) -> u64| ticks.iter().map(of).sum::<u64>();
     text + &format!(
-        "  {:>6} {:>5} {:>7} {:>5} {:>5}\n",
+        " {:>6} {:>5} {:>7} {:>5} {:>5}\n",
         marks(ticks, night.plan.liar),
         sum(|tick| tick.taken.sum()),
         sum(|tick| tick.refused + tick.refused_elsewhere),
@@ -178,7 +198,19 @@ fn ports(night: &Night) -> String {
     );
     text += &format!(
         "{:>4} {:>5} {:>5} {:>6} {:>9} {:>5} {:>5}  {:>5} {:>4} {:>4} {:>4} {:>4} {:>4}\n",
-        "port", "q 0", "above", "", "free, at", "q 0", "above", "0", "1", "2-3", "4-7", "8-15", "16-"
+        "port",
+        "q 0",
+        "above",
+        "",
+        "free, at",
+        "q 0",
+        "above",
+        "0",
+        "1",
+        "2-3",
+        "4-7",
+        "8-15",
+        "16-"
     );
     for (number, port) in night.ports.iter().enumerate() {
         text += &format!("{}\n", port_row(number, port).trim_end());
@@ -213,17 +245,33 @@ fn refusals(night: &Night) -> String {
         numbers.entry(*number).or_default()[usize::from(at != liar)] += count;
     }
     let line = |(number, [its, others]): (&u32, &[u64; 2])| {
-        let meaning = Refusal::from_number(*number).map_or_else(String::new, |refusal| refusal.to_string());
-        format!("{number:>4}  {meaning:58} {its:>6} {others:>6}\n")
+        let meaning =
+            Refusal::from_number(*number).map_or_else(String::new, |refusal| refusal.to_string());
+        format!("{number:>4}  {meaning:59} {its:>7} {others:>6}\n")
     };
     let rows: String = numbers.iter().map(line).collect();
-    let title = format!("{:64} {:>6} {:>6}\n", "refused arrivals", format!("port {liar}"), "others");
-    if rows.is_empty() { rows } else { title + &rows }
+    let title = format!(
+        "{:65} {:>7} {:>6}\n",
+        "refused arrivals",
+        format!("port {liar}"),
+        "others"
+    );
+    if rows.is_empty() {
+        rows
+    } else {
+        title + &rows
+    }
 }
 
 /// What the numbers say, in words.
 pub fn statements(night: &Night) -> Vec<String> {
-    [pools_held(night), clocks(night), halts(night), beside(night)].to_vec()
+    [
+        pools_held(night),
+        clocks(night),
+        halts(night),
+        beside(night),
+    ]
+    .to_vec()
 }
 
 /// Whether a pool ran dry at another port.
@@ -253,11 +301,18 @@ fn clocks(night: &Night) -> String {
     let longest = night.ports.iter().map(|port| port.longest.clock).max();
     let longest = counted(longest.unwrap_or(0), "tick");
     let refused = all(|port| port.clocks_refused);
-    let halted = night.ticks.iter().filter(|tick| tick.marks[liar as usize] != 0);
+    let halted = night
+        .ticks
+        .iter()
+        .filter(|tick| tick.marks[liar as usize] != 0);
     let halted = halted.map(|tick| tick.liars_clocks).sum::<u64>();
+    let halted = match halted {
+        0 => String::new(),
+        _ => format!(", {halted} of them at port {liar} while it was halted"),
+    };
     let went = match refused {
-        0 => format!("queue 0 went on: every port's {each} clock packets were taken in, {halted} of them at port {liar} while it was halted"),
-        _ => format!("queue 0: {taken} clock packets were taken in and {refused} refused; at port {liar}, while it was halted, {halted} were taken in"),
+        0 => format!("queue 0 went on: every port's {each} clock packets were taken in{halted}"),
+        _ => format!("queue 0: {refused} clock packets were refused and {taken} taken in{halted}"),
     };
     format!("{went}; {left} of {taken} left, and none of these waited longer than {longest}")
 }
@@ -267,15 +322,21 @@ fn halts(night: &Night) -> String {
     let liar = night.plan.liar;
     let told = |halt: &Halted| {
         let Halted { mark, from, to } = halt;
-        format!("by {mark} in ticks {from} to {to}")
+        format!("by {mark} in {}", span(*from, *to))
     };
     let halts: Vec<String> = night.halts.iter().map(told).collect();
     let others = |tick: &Tick| {
         let marks = tick.marks.iter().zip(0..);
-        marks.filter(|&(mark, port)| *mark != 0 && port != liar).count()
+        marks
+            .filter(|&(mark, port)| *mark != 0 && port != liar)
+            .count()
     };
     let others = night.ticks.iter().map(others).sum::<usize>();
-    let others = if others == 0 { "no other port ever was" } else { "other ports were too" };
+    let others = if others == 0 {
+        "no other port ever was"
+    } else {
+        "other ports were too"
+    };
     match halts.len() {
         0 => format!("port {liar} was not halted, and {others}"),
         _ => format!("port {liar} was halted {}; {others}", halts.join(", then ")),
@@ -292,8 +353,8 @@ fn beside(night: &Night) -> String {
     );
     match beside.differs {
         None => format!(
-            "{without}: all other {} were answered the same (but reports of port {liar}, not compared), and after every tick every node stood in the same place",
-            counted(beside.calls, "call")
+            "{without}: all {} other calls were answered the same (reports of port {liar} are not compared), and in {} audits every node stood in the same place",
+            beside.calls, beside.audits
         ),
         Some((tick, what)) => {
             format!("{without} was another: in tick {tick} {what} told otherwise; please report this")
