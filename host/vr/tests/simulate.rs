@@ -16,7 +16,7 @@ use traffic::SHAPES;
 use ventorupo::Form;
 use vr::simulate::desk::{Call, Desk, Left, Told, PLACE_BYTES};
 use vr::simulate::plan::{Plan, BEAT, CREDIT, SLOTS};
-use vr::simulate::{json, night, picture, proved, text, told, Both, Night, Tick};
+use vr::simulate::{json, night, picture, proved, text, told, Both, Night, Port, Tick};
 use xml::Element;
 
 const HINT: &str = " (`vr help` tells the commands)";
@@ -135,12 +135,12 @@ fn plans() -> Vec<Plan> {
     });
     let of_shape = |form: Form| {
         let large = form.ports * form.queues > 200;
-        let seeds = if large { 2 } else { 8 };
+        let seeds = if large { 2 } else { 6 };
         (0..seeds).map(move |seed| Plan {
             seed,
             nodes: [32, 5, 1, 64][seed as usize % 4],
             liar: seed % form.ports,
-            ..Plan::new(form, if large { 40 } else { 60 + 5 * seed })
+            ..Plan::new(form, if large { 20 } else { 60 + 5 * seed })
         })
     };
     shapes.flat_map(of_shape).collect()
@@ -158,8 +158,34 @@ fn nights_are_the_models() {
 /// Nothing is lost, and every number is told alike wherever it is told.
 fn adds_up(night: &Night) {
     let plan = &night.plan;
-    let (liar, nodes) = (plan.liar as usize, u64::from(plan.nodes));
+    let liar = plan.liar as usize;
     assert_eq!(night.ticks.len(), plan.ticks as usize);
+    ports_add_up(night);
+    let all = |of: fn(&Port) -> u64| night.ports.iter().map(of).sum::<u64>();
+    let over = |of: fn(&Tick) -> u64| night.ticks.iter().map(of).sum::<u64>();
+    assert_eq!(all(|port| port.home), all(|port| port.left.sum()));
+    assert_eq!(all(|port| port.left.clock), over(|tick| tick.left.clock));
+    assert_eq!(all(|port| port.left.above), over(|tick| tick.left.above));
+    assert_eq!(all(|port| port.taken.clock), over(|tick| tick.taken.clock));
+    assert_eq!(all(|port| port.taken.above), over(|tick| tick.taken.above));
+    let refused: u64 = night.ports[liar].refused.values().sum();
+    assert_eq!(refused, over(|tick| tick.refused));
+    assert_eq!(refused, night.beside.left_out);
+    let elsewhere = all(|port| port.refused.values().sum()) - refused;
+    assert_eq!(elsewhere, over(|tick| tick.refused_elsewhere));
+    assert_eq!(
+        over(|tick| tick.liars_clocks),
+        night.ports[liar].taken.clock
+    );
+    assert_eq!(night.beside.audits, u64::from(2 * plan.ticks + 1));
+    assert_eq!(night.beside.differs, None);
+    halts_are_the_marks(night);
+}
+
+/// Of each port.
+fn ports_add_up(night: &Night) {
+    let plan = &night.plan;
+    let nodes = u64::from(plan.nodes);
     for (number, port) in night.ports.iter().enumerate() {
         let inside = nodes - u64::from(port.free);
         assert_eq!(port.taken.sum(), port.home + inside, "port {number}");
@@ -180,25 +206,6 @@ fn adds_up(night: &Night) {
         // An honest box has one clock packet a tick.
         assert_eq!(port.taken.clock + port.clocks_refused, plan.ticks.into());
     }
-    let all = |of: fn(&vr::simulate::Port) -> u64| night.ports.iter().map(of).sum::<u64>();
-    let over = |of: fn(&Tick) -> u64| night.ticks.iter().map(of).sum::<u64>();
-    assert_eq!(all(|port| port.home), all(|port| port.left.sum()));
-    assert_eq!(all(|port| port.left.clock), over(|tick| tick.left.clock));
-    assert_eq!(all(|port| port.left.above), over(|tick| tick.left.above));
-    assert_eq!(all(|port| port.taken.clock), over(|tick| tick.taken.clock));
-    assert_eq!(all(|port| port.taken.above), over(|tick| tick.taken.above));
-    let refused: u64 = night.ports[liar].refused.values().sum();
-    assert_eq!(refused, over(|tick| tick.refused));
-    assert_eq!(refused, night.beside.left_out);
-    let elsewhere = all(|port| port.refused.values().sum()) - refused;
-    assert_eq!(elsewhere, over(|tick| tick.refused_elsewhere));
-    assert_eq!(
-        over(|tick| tick.liars_clocks),
-        night.ports[liar].taken.clock
-    );
-    assert_eq!(night.beside.audits, u64::from(2 * plan.ticks + 1));
-    assert_eq!(night.beside.differs, None);
-    halts_are_the_marks(night);
 }
 
 /// The halts tell of every tick what the liar's mark was; no other port has one.
@@ -225,7 +232,7 @@ fn halts_are_the_marks(night: &Night) {
 /// dry, no header of theirs is refused, and all clock packets go on.
 #[test]
 fn the_story() {
-    for seed in 0..100 {
+    for seed in 0..40 {
         let plan = Plan { seed, ..ten(120) };
         let night = proved(&plan).unwrap();
         adds_up(&night);
@@ -241,15 +248,21 @@ fn the_story() {
         assert_eq!(first.to, 60);
         assert!((61..66).contains(&second.from), "seed {seed}: {second:?}");
         assert_eq!((second.to, night.halts.len()), (87, 2));
-        for (number, port) in night.ports.iter().enumerate() {
-            let its = number == plan.liar as usize;
-            assert_eq!(port.taken.clock, 120, "seed {seed}, port {number}");
-            assert!(port.left.clock >= 119);
-            assert_eq!(port.refused.is_empty(), !its);
-            assert!(its || port.lowest >= 10, "seed {seed}, port {number}");
-        }
+        others_go_on(&night);
         // The flood is seen in its own pool.
         assert!(liar.lowest < 12, "seed {seed}: {}", liar.lowest);
+    }
+}
+
+/// No header of another port is refused, and no clock packet of any.
+fn others_go_on(night: &Night) {
+    let (liar, seed) = (night.plan.liar as usize, night.plan.seed);
+    for (number, port) in night.ports.iter().enumerate() {
+        let its = number == liar;
+        assert_eq!(port.taken.clock, 120, "seed {seed}, port {number}");
+        assert!(port.left.clock >= 119);
+        assert_eq!(port.refused.is_empty(), !its);
+        assert!(its || port.lowest >= 10, "seed {seed}, port {number}");
     }
 }
 
@@ -378,12 +391,9 @@ fn simulate(line: &str) -> Said {
     vr(&[&["simulate"], &words[..]].concat())
 }
 
-/// With UPDATE set, what is expected is written anew; it is to be looked at.
+/// As it stands in the folder of what is expected.
 fn expected(name: &str, said: &str) {
     let path = format!("{}/tests/expected/{name}", env!("CARGO_MANIFEST_DIR"));
-    if std::env::var_os("UPDATE").is_some() {
-        fs::write(&path, said).unwrap();
-    }
     assert_eq!(said, fs::read_to_string(&path).unwrap(), "{name}");
 }
 
@@ -445,49 +455,62 @@ fn json_tells_the_night() {
     for plan in plans().iter().step_by(5) {
         let night = proved(plan).unwrap();
         let said = Json::read(&json(&night));
-        let wide = |numbers: &[u32]| -> Vec<u64> { numbers.iter().map(|&n| n.into()).collect() };
-        for (i, tick) in night.ticks.iter().enumerate() {
-            assert_eq!(numbers(&said.of("free").elements()[i]), wide(&tick.free));
-            assert_eq!(numbers(&said.of("marks").elements()[i]), wide(&tick.marks));
-            let at = |name: &str| numbers(said.of(name))[i];
-            let Both { clock, above } = tick.taken;
-            assert_eq!((at("taken_queue_0"), at("taken_above")), (clock, above));
-            let Both { clock, above } = tick.left;
-            assert_eq!((at("left_queue_0"), at("left_above")), (clock, above));
-            let refused = (at("refused_liar"), at("refused_others"));
-            assert_eq!(refused, (tick.refused, tick.refused_elsewhere));
-            assert_eq!(at("taken_queue_0_liar"), tick.liars_clocks);
-        }
-        for (port, total) in night.ports.iter().zip(said.of("totals").elements()) {
-            let both = |name: &str| {
-                let [clock, above] = ["queue_0", "above"].map(|of| total.of(name).of(of).number());
-                Both { clock, above }
-            };
-            assert_eq!((both("taken"), both("left")), (port.taken, port.left));
-            assert_eq!(both("longest_wait"), port.longest);
-            assert_eq!(numbers(total.of("buckets")), wide(&port.buckets));
-            let one = |name: &str| total.of(name).number();
-            assert_eq!(
-                (one("own_left"), one("free")),
-                (port.home, port.free.into())
-            );
-            assert_eq!(one("fewest_free"), port.lowest.into());
-            assert_eq!(one("fewest_in_tick"), port.lowest_at.into());
-            assert_eq!(one("clocks_refused"), port.clocks_refused);
-            for (number, &count) in &port.refused {
-                assert_eq!(total.of("refused").of(&number.to_string()).number(), count);
-            }
-        }
-        assert_eq!(said.of("totals").elements().len(), night.ports.len());
-        assert_eq!(said.of("halts").elements().len(), night.halts.len());
-        let beside = said.of("beside");
-        assert_eq!(
-            beside.of("headers_left_out").number(),
-            night.beside.left_out
-        );
-        assert_eq!(beside.of("calls_compared").number(), night.beside.calls);
-        assert_eq!(beside.of("audits_compared").number(), night.beside.audits);
-        assert_eq!(beside.of("differs"), &Json::Null);
+        json_tells_the_ticks(&night, &said);
+        let totals = said.of("totals").elements();
+        assert_eq!(totals.len(), night.ports.len());
+        let ports = night.ports.iter().zip(totals);
+        ports.for_each(|(port, total)| json_tells_the_port(port, total));
+        let halts = said.of("halts").elements().iter();
+        let halts = halts.map(|halt| ["by", "from", "to"].map(|of| halt.of(of).number()));
+        let wanted = night.halts.iter();
+        let wanted = wanted.map(|halt| [halt.mark, halt.from, halt.to].map(u64::from));
+        assert!(halts.eq(wanted));
+        let beside = ["headers_left_out", "calls_compared", "audits_compared"];
+        let beside = beside.map(|name| said.of("beside").of(name).number());
+        let its = &night.beside;
+        assert_eq!(beside, [its.left_out, its.calls, its.audits]);
+        assert_eq!(said.of("beside").of("differs"), &Json::Null);
+    }
+}
+
+fn wide(numbers: &[u32]) -> Vec<u64> {
+    numbers.iter().map(|&number| number.into()).collect()
+}
+
+fn json_tells_the_ticks(night: &Night, said: &Json) {
+    for (i, tick) in night.ticks.iter().enumerate() {
+        assert_eq!(numbers(&said.of("free").elements()[i]), wide(&tick.free));
+        assert_eq!(numbers(&said.of("marks").elements()[i]), wide(&tick.marks));
+        let at = |name: &str| numbers(said.of(name))[i];
+        let Both { clock, above } = tick.taken;
+        assert_eq!((at("taken_queue_0"), at("taken_above")), (clock, above));
+        let Both { clock, above } = tick.left;
+        assert_eq!((at("left_queue_0"), at("left_above")), (clock, above));
+        let refused = (at("refused_liar"), at("refused_others"));
+        assert_eq!(refused, (tick.refused, tick.refused_elsewhere));
+        assert_eq!(at("taken_queue_0_liar"), tick.liars_clocks);
+    }
+}
+
+fn json_tells_the_port(port: &Port, total: &Json) {
+    let both = |name: &str| {
+        let [clock, above] = ["queue_0", "above"].map(|of| total.of(name).of(of).number());
+        Both { clock, above }
+    };
+    assert_eq!((both("taken"), both("left")), (port.taken, port.left));
+    assert_eq!(both("longest_wait"), port.longest);
+    assert_eq!(numbers(total.of("buckets")), wide(&port.buckets));
+    let one = |name: &str| total.of(name).number();
+    assert_eq!(
+        (one("own_left"), one("free")),
+        (port.home, port.free.into())
+    );
+    let fewest = ["fewest_free", "fewest_in_tick"].map(one);
+    assert_eq!(fewest, [port.lowest, port.lowest_at].map(u64::from));
+    assert_eq!(one("clocks_refused"), port.clocks_refused);
+    for (number, &count) in &port.refused {
+        let said = total.of("refused").of(&number.to_string());
+        assert_eq!(said.number(), count);
     }
 }
 
@@ -520,6 +543,27 @@ fn the_table_tells_the_night() {
             let long: u32 = cells[1 + 2 * port].chars().map(eighths).sum();
             assert_eq!(long, fewest * 40 / 32, "{row}");
         }
+    }
+}
+
+/// A port's row has its totals; waits from 16 ticks on are told together.
+#[test]
+fn a_ports_row_tells_its_night() {
+    let mut night = proved(&ten(120)).unwrap();
+    night.ports[3].buckets[5] = 1;
+    night.ports[3].buckets[32] = 2;
+    let said = text(&night);
+    for (number, port) in night.ports.iter().enumerate() {
+        let row = said.lines().nth(20 + number).unwrap();
+        let cells = row.split([' ', ',']).filter(|cell| !cell.is_empty());
+        let cells: Vec<u64> = cells.map(|cell| cell.parse().unwrap()).collect();
+        let refused: u64 = port.refused.values().sum();
+        let mut wanted = vec![number as u64, port.taken.clock, port.taken.above, refused];
+        wanted.extend([port.lowest, port.lowest_at].map(u64::from));
+        wanted.extend([port.left.clock, port.left.above]);
+        wanted.extend(port.buckets[..5].iter().map(|&count| u64::from(count)));
+        wanted.push(if number == 3 { 3 } else { 0 });
+        assert_eq!(cells, wanted, "{row}");
     }
 }
 
@@ -582,10 +626,13 @@ fn is_the_pool(night: &Night, port: usize, points: &str) {
     }
 }
 
+/// A number of a tick.
+type Of = fn(&Tick) -> u64;
+
 /// The three groups of bars: what left above queue 0, in it, and what was refused.
 fn bars_are_what_left(night: &Night, svg: &Element) {
     let groups: Vec<&Element> = svg.named("g").collect();
-    let of: [(fn(&Tick) -> u64, f64, fn(&Tick) -> u64); 3] = [
+    let of: [(Of, f64, Of); 3] = [
         (|tick| tick.left.above, 110.0, |tick| tick.left.sum()),
         (|tick| tick.left.clock, 110.0, |tick| tick.left.sum()),
         (|tick| tick.refused, 80.0, |tick| tick.refused),

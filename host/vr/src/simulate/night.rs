@@ -264,12 +264,7 @@ impl<D: Desk> Course<'_, D> {
     /// may tell another.
     fn watch(&mut self, tick: u32) -> Result<(), u32> {
         let free = free(&self.audit(tick)?, self.night.ports.len());
-        for (port, free) in self.night.ports.iter_mut().zip(&free) {
-            if *free < port.lowest {
-                port.lowest = *free;
-                port.lowest_at = tick;
-            }
-        }
+        self.fewest(tick, &free);
         let mut marks = Vec::new();
         for port in 0..self.plan.form.ports {
             let mark = self.desk.report(port)?;
@@ -284,6 +279,16 @@ impl<D: Desk> Course<'_, D> {
         now.free = free;
         now.marks = marks;
         Ok(())
+    }
+
+    /// The fewest free nodes so far.
+    fn fewest(&mut self, tick: u32, free: &[u32]) {
+        for (port, free) in self.night.ports.iter_mut().zip(free) {
+            if *free < port.lowest {
+                port.lowest = *free;
+                port.lowest_at = tick;
+            }
+        }
     }
 
     /// A halt goes on while the mark stays and nobody clears it.

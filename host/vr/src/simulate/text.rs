@@ -122,9 +122,8 @@ fn ticks(night: &Night) -> String {
     );
     text = format!("{:7}{text}", "");
     text += &format!("{:>7}", "ticks");
-    for pool in &pools {
-        text += &format!("{:>column$}", pool.title);
-    }
+    let titles = pools.iter().map(|pool| format!("{:>column$}", pool.title));
+    text += &titles.collect::<String>();
     text += &format!(
         " {:>6} {:>5} {:>7} {:>5} {:>5}\n",
         "halted", "in", "refused", "q 0", "above"
