@@ -13,7 +13,7 @@ use common::{full, vr, Folder, Said};
 use model::{Model, Reply, Shape};
 use reading::Json;
 use traffic::SHAPES;
-use ventorupo::Form;
+use ventorupo::{Form, TEN_BYTES};
 use vr::simulate::desk::{Call, Desk, Left, Told, PLACE_BYTES};
 use vr::simulate::plan::{Plan, BEAT, CREDIT, SLOTS};
 use vr::simulate::{json, night, picture, proved, text, told, Both, Night, Port, Tick};
@@ -128,10 +128,9 @@ fn ten(ticks: u32) -> Plan {
 
 /// Nights of every shape and many seeds, some of them with few nodes.
 fn plans() -> Vec<Plan> {
-    let shapes = SHAPES.iter().map(|shape| Form {
-        edition: shape.edition,
-        ports: shape.ports,
-        queues: shape.queues,
+    let shapes = SHAPES.iter().map(|shape| match shape.edition {
+        TEN_BYTES => Form::TEN_BYTES,
+        _ => Form::wide(shape.ports, shape.queues),
     });
     let of_shape = |form: Form| {
         let large = form.ports * form.queues > 200;

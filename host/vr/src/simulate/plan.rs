@@ -66,12 +66,8 @@ impl Plan {
     }
 
     pub fn settings(&self) -> Settings {
-        let Form {
-            edition,
-            ports,
-            queues,
-        } = self.form;
-        match edition {
+        let (ports, queues) = (self.form.ports, self.form.queues);
+        match self.form.edition {
             TEN_BYTES => Settings::ten_bytes(self.nodes, BEAT, SLOTS, CREDIT),
             _ => Settings::wide(ports, queues, self.nodes, BEAT, SLOTS, CREDIT),
         }
