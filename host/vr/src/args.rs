@@ -3,6 +3,7 @@
 mod header;
 mod help;
 mod replay;
+mod simulate;
 
 use std::ffi::{OsStr, OsString};
 use std::path::PathBuf;
@@ -11,6 +12,7 @@ use ventorupo::{Form, Header};
 
 use crate::layout::MEMORIES;
 use crate::packets::Names;
+use crate::simulate::Simulate;
 use crate::trouble::Trouble;
 pub use help::Topic;
 
@@ -36,6 +38,7 @@ pub enum Command {
         svg: Option<PathBuf>,
     },
     Replay(Replay),
+    Simulate(Simulate),
     Make {
         form: Form,
         header: Header,
@@ -128,6 +131,7 @@ pub fn command(words: impl Iterator<Item = OsString>) -> Result<Command, Trouble
             Ok(Command::Waits { image, svg })
         }
         Some("replay") => replay::command(words),
+        Some("simulate") => simulate::command(words),
         Some("header") => header::command(words),
         _ => Err(bad(format!("{} is no command", quoted(&name)))),
     }
@@ -145,6 +149,7 @@ fn topic(name: &OsStr, words: &[OsString]) -> Option<Topic> {
         ("repair", _) => Some(Topic::Repair),
         ("waits", _) => Some(Topic::Waits),
         ("replay", _) => Some(Topic::Replay),
+        ("simulate", _) => Some(Topic::Simulate),
         ("header", Some("make")) => Some(Topic::Make),
         ("header", Some("show")) => Some(Topic::Show),
         ("header", _) => Some(Topic::Header),
@@ -346,6 +351,8 @@ mod tests {
             ("waits i --svg -h", Topic::Waits),
             ("replay --help", Topic::Replay),
             ("replay s --image i -h", Topic::Replay),
+            ("simulate --help", Topic::Simulate),
+            ("simulate --svg -h", Topic::Simulate),
             ("header --help", Topic::Header),
             ("header mak --help", Topic::Header),
             ("header make -h", Topic::Make),

@@ -1,5 +1,5 @@
 //! `vr`, the night crew's tool over images of a switch's state, over streams of calls
-//! and over headers. What an image, a field or a header is worth is said by the proved
+//! and over headers, and a night to look at. What an image, a field or a header is worth is said by the proved
 //! library; what an image holds, in words, tables, bars and JSON, and why a field is
 //! bad or a header is none, by readers of this crate's own, written from docs/LAYOUT.md
 //! and include/ventorupo.h.
@@ -20,6 +20,7 @@ mod mend;
 pub mod packets;
 mod progress;
 mod replay;
+pub mod simulate;
 mod stream;
 pub mod svg;
 pub mod table;
@@ -84,6 +85,7 @@ pub fn answer(words: impl Iterator<Item = OsString>) -> Result<Answer, Trouble> 
         Command::Repair { image, new } => repair(&image, &new),
         Command::Waits { image, svg } => waits(&image, svg.as_deref()),
         Command::Replay(asked) => replay::replay(&asked),
+        Command::Simulate(asked) => simulate::simulate(&asked),
         Command::Make { form, header, new } => header::make(form, &header, new.as_deref()),
         Command::Show { form, given, json } => header::show(form, given, json),
     }

@@ -53,7 +53,7 @@ impl Page {
     /// Lines of text behind a gap, the long ones broken.
     fn paragraph(&mut self, lines: &[String]) {
         self.below += LINE / 2;
-        for line in lines.iter().flat_map(|line| broken(line)) {
+        for line in lines.iter().flat_map(|line| broken(line, CHARACTERS)) {
             self.below += LINE;
             self.text(LEFT, "", &line);
         }
@@ -117,12 +117,13 @@ impl Page {
 /// Of a text that ends where it is put.
 const END: &str = "text-anchor=\"end\"";
 
-/// A line in as many as it needs, broken between words.
-fn broken(line: &str) -> Vec<String> {
+/// A line in as many as it needs, broken between words, each of so many characters
+/// at most.
+pub(crate) fn broken(line: &str, most: usize) -> Vec<String> {
     let mut lines: Vec<String> = Vec::new();
     for word in line.split(' ') {
         match lines.last_mut() {
-            Some(last) if last.len() + word.len() < CHARACTERS => *last += &format!(" {word}"),
+            Some(last) if last.len() + word.len() < most => *last += &format!(" {word}"),
             _ => lines.push(word.into()),
         }
     }
@@ -130,7 +131,7 @@ fn broken(line: &str) -> Vec<String> {
 }
 
 /// A text with what XML asks for.
-fn escaped(text: &str) -> String {
+pub(crate) fn escaped(text: &str) -> String {
     let escape = |c: char| match c {
         '&' => "&amp;".into(),
         '<' => "&lt;".into(),
@@ -155,10 +156,10 @@ mod tests {
     #[test]
     fn long_lines_are_broken() {
         let words = "some words ".repeat(40);
-        let lines = broken(words.trim_end());
+        let lines = broken(words.trim_end(), CHARACTERS);
         assert!(lines.len() > 1);
         assert!(lines.iter().all(|line| line.len() <= CHARACTERS));
         assert_eq!(lines.join(" "), words.trim_end());
-        assert_eq!(broken("a sound state"), ["a sound state"]);
+        assert_eq!(broken("a sound state", CHARACTERS), ["a sound state"]);
     }
 }

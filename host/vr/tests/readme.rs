@@ -103,3 +103,8 @@ fn the_session_of_replays_is_as_written() {
 fn the_session_of_headers_is_as_written() {
     is_as_written(4, 7, &Folder::new("readme-headers"));
 }
+
+#[test]
+fn the_session_of_a_night_is_as_written() {
+    is_as_written(5, 2, &Folder::new("readme-night"));
+}

@@ -154,7 +154,7 @@ impl Words {
 }
 
 /// A number, decimal or, behind 0x, hexadecimal.
-fn number(word: &str) -> Option<u32> {
+pub(super) fn number(word: &str) -> Option<u32> {
     let (digits, radix) = match word.strip_prefix("0x") {
         Some(digits) => (digits, 16),
         None => (word, 10),
@@ -166,7 +166,7 @@ fn number(word: &str) -> Option<u32> {
 }
 
 /// An option and its value, which may be joined by `=`.
-fn parted(word: &OsString) -> (String, Option<OsString>) {
+pub(super) fn parted(word: &OsString) -> (String, Option<OsString>) {
     let word = word.to_string_lossy();
     match word.split_once('=') {
         Some((name, value)) if name.starts_with("--") => (name.into(), Some(value.into())),

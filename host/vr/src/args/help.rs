@@ -9,6 +9,7 @@ pub enum Topic {
     Repair,
     Waits,
     Replay,
+    Simulate,
     Header,
     Make,
     Show,
@@ -16,7 +17,7 @@ pub enum Topic {
 
 const TOP: &str = "\
 vr: images of a switch's state, explained, shown, drawn and repaired; streams of calls replayed; headers
-made and shown
+made and shown; a night when a stage box lied
 ";
 
 const EXPLAIN: &str = "    \
@@ -43,6 +44,13 @@ const REPLAY: &str = "    \
     vr replay STREAM [--image IMAGE] [--dump] [-o NEW]
                              carries out a stream of calls and says how many were done and refused; with
                              --dump, shows what stands where then; with -o, writes the image to NEW
+";
+
+const SIMULATE: &str = "    \
+    vr simulate [--ports N] [--queues N] [--nodes N] [--liar PORT] [--seed N] [--ticks N]
+                [--from TICK] [--to TICK] [--clear TICK] [--svg NEW] [--json]
+                             drives a switch through a night when a stage box lied, and shows its pools,
+                             halts, departures and waits; with --svg, writes a picture of it to NEW too
 ";
 
 const MAKE: &str = "    \
@@ -94,6 +102,19 @@ bad field (another tag, a wrong length, cut off) ends the replay; what was done 
 shown and written.
 ";
 
+const NIGHTS: &str = "\
+PORT is the port whose stage box lies, 1 if none is named, from one TICK to another; a TICK is 1 to the
+ticks of the night, 120 if not named (10 to 999). At first it floods its port with sound headers beyond
+its credit and says lengths, queues and reserved bits that cannot be; after a third of its time wrong
+checksums and other ports' sources too, which halt its port. An operator clears the port once while it
+lies and once afterwards, or once in the TICK behind --clear. The other boxes are honest. Without --ports
+and --queues it is a switch of 4 ports and 24 queues with ten-byte headers, else one with wide headers of
+2 to 32 ports and 2 to 64 queues; 32 nodes a port. What the boxes send follows from the seed, 1 if none is
+named; every number that is shown is an answer of the proved library, or a count of its answers: free
+nodes are counted in an audit after each tick's arrivals. The same night is driven once more without the
+headers that were refused at PORT, and all other answers are compared; if one differs, the status is 1.
+";
+
 const NEW: &str = "\
 NEW must not be there yet: vr overwrites nothing.
 ";
@@ -114,9 +135,9 @@ A number N is decimal or, behind 0x, hexadecimal; --name=N is --name N.
 ";
 
 const STATUS: &str = "\
-Exit status: 0 a sound state, repaired, replayed to the end, made or shown; 1 a broken state, a bad field,
-or refused; 2 it could not be done (a wrong command, a file that cannot be read or written), with the reason
-on standard error.
+Exit status: 0 a sound state, repaired, replayed to the end, simulated, made or shown; 1 a broken state, a
+bad field, refused, or nights that differ; 2 it could not be done (a wrong command, a file that cannot be
+read or written), with the reason on standard error.
 ";
 
 impl Topic {
@@ -136,9 +157,11 @@ impl Topic {
     fn parts(self) -> (&'static [&'static str], &'static [&'static str]) {
         match self {
             Topic::All => (
-                &[EXPLAIN, DUMP, REPAIR, WAITS, REPLAY, MAKE, SHOW, OTHERS],
                 &[
-                    IMAGES, MEMORIES, REPAIRS, DRAWN, STREAMS, NEW, HEADERS, FORMS, NUMBERS,
+                    EXPLAIN, DUMP, REPAIR, WAITS, REPLAY, SIMULATE, MAKE, SHOW, OTHERS,
+                ],
+                &[
+                    IMAGES, MEMORIES, REPAIRS, DRAWN, STREAMS, NIGHTS, NEW, HEADERS, FORMS, NUMBERS,
                 ],
             ),
             Topic::Explain => (&[EXPLAIN], &[IMAGES]),
@@ -146,6 +169,7 @@ impl Topic {
             Topic::Repair => (&[REPAIR], &[IMAGES, REPAIRS, NEW]),
             Topic::Waits => (&[WAITS], &[IMAGES, DRAWN, NEW]),
             Topic::Replay => (&[REPLAY], &[IMAGES, STREAMS, NEW]),
+            Topic::Simulate => (&[SIMULATE], &[NIGHTS, NUMBERS, NEW]),
             Topic::Header => (&[MAKE, SHOW], &[HEADERS, FORMS, NUMBERS, NEW]),
             Topic::Make => (&[MAKE], &[FORMS, NUMBERS, NEW]),
             Topic::Show => (&[SHOW], &[HEADERS, FORMS, NUMBERS]),
@@ -165,6 +189,7 @@ mod tests {
             (Topic::Repair, "vr repair"),
             (Topic::Waits, "vr waits"),
             (Topic::Replay, "vr replay"),
+            (Topic::Simulate, "vr simulate"),
             (Topic::Make, "vr header make"),
             (Topic::Show, "vr header show"),
         ];
@@ -189,13 +214,14 @@ mod tests {
             (Topic::Repair, &["IMAGE", "NEW"]),
             (Topic::Waits, &["IMAGE", "NEW"]),
             (Topic::Replay, &["IMAGE", "STREAM", "NEW"]),
+            (Topic::Simulate, &["PORT", "NEW"]),
             (Topic::Header, &["HEADER", "FORM", "NEW"]),
             (Topic::Make, &["FORM", "NEW"]),
             (Topic::Show, &["HEADER", "FORM"]),
         ];
         for (topic, names) in topics {
             let text = topic.text();
-            for name in ["IMAGE", "P0", "STREAM", "NEW", "HEADER", "FORM"] {
+            for name in ["IMAGE", "P0", "STREAM", "PORT", "NEW", "HEADER", "FORM"] {
                 let explained = text.contains(&format!("\n{name} "));
                 assert_eq!(explained, names.contains(&name), "{name}: {text}");
             }
