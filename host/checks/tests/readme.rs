@@ -248,8 +248,8 @@ fn folder(name: &str, fences: &[Fence]) -> PathBuf {
     let program = fences.iter().find(|fence| fence.kind == "c");
     let program = program.map_or("", |fence| &fence.text);
     fs::write(folder.join("example.c"), program).unwrap();
-    let settings = Settings::ten_bytes(1, 64, 1, 16);
-    let mut image = vec![0; ventorupo::size(&settings).unwrap()];
+    let settings = Settings::ten_bytes().nodes(1).slots(1).credit(16);
+    let mut image = vec![0; settings.size()];
     Switch::over(&mut image[..]).setup_again(settings).unwrap();
     // Behind the settings and the map: the queue that port 0 served last.
     image[16 + 4096] = 200;

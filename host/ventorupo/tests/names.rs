@@ -1,5 +1,5 @@
 //! A refusal has one number and one name: in the wrapper, the ledger, the C
-//! header and the README; and these speak of the same calls, structs and fields.
+//! header and the guide; and these speak of the same calls, structs and fields.
 
 use ventorupo::{Batch, Form, Refusal, Stop, SLOT_BYTES, TEN_BYTES, WIDE};
 
@@ -11,7 +11,7 @@ const HEADERS: &str = include_str!("../src/header.rs");
 const CAPI: &str = include_str!("../../../crates/capi/src/lib.rt");
 const CAPI_RUN: &str = include_str!("../../../crates/capi_run/src/lib.rt");
 const HEADER: &str = include_str!("../../../include/ventorupo.h");
-const README: &str = include_str!("../../../README.md");
+const GUIDE: &str = include_str!("../../../docs/GUIDE.md");
 const VERSION: &str = include_str!("../../../VERSION");
 
 #[test]
@@ -213,8 +213,8 @@ fn all_speak_of_the_same_calls() {
 }
 
 #[test]
-fn the_readme_has_the_same_names_meanings_and_calls() {
-    let rows = between(README, "| given by |\n|---|---|---|---|\n", "\n\n").lines();
+fn the_guide_has_the_same_names_meanings_and_calls() {
+    let rows = between(GUIDE, "| given by |\n|---|---|---|---|\n", "\n\n").lines();
     for (row, (refusal, given)) in rows.clone().zip(given_by()) {
         let (number, name) = (refusal.number(), name(&refusal));
         let start = format!("| {number} | {name} | {refusal} | ");

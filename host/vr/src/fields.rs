@@ -1,5 +1,5 @@
 //! A header's fields as this crate's own reader sees them, written from the
-//! first page of include/ventorupo.h alone. What a header is worth is said by
+//! bit table of include/ventorupo.h alone. What a header is worth is said by
 //! the proved library; this tells what is wrong with one.
 
 use ventorupo::Form;

@@ -134,7 +134,7 @@ fn states_have_these_sizes() {
     assert!(table.rows.len() >= 4);
     for row in table.rows {
         let (ports, queues) = row[0].split_once(", ").expect(row[0]);
-        let wide = |nodes| Settings::wide(number(ports), number(queues), nodes, 64, 1, 16);
+        let wide = |nodes| Settings::wide(number(ports), number(queues)).nodes(nodes);
         let sizes = [1, 256, 2048].map(|nodes| size(&wide(nodes)));
         let told = [1, 2, 3].map(|cell: usize| Some(number(row[cell]) as usize));
         assert_eq!(told, sizes, "{row:?}");

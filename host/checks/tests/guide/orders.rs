@@ -305,8 +305,11 @@ fn told<T>(answer: Result<T, ventorupo::Refusal>) -> u8 {
 
 /// A state of four ports and two nodes, or none.
 fn state(faults: &Faults) -> Switch<Vec<u8>> {
-    let settings = ventorupo::Settings::ten_bytes(2, 64, 1, 16);
-    let mut switch = Switch::over(vec![0; ventorupo::size(&settings).unwrap()]);
+    let settings = ventorupo::Settings::ten_bytes()
+        .nodes(2)
+        .slots(1)
+        .credit(16);
+    let mut switch = Switch::over(vec![0; settings.size()]);
     if !faults.has(3) {
         switch.setup_again(settings).unwrap();
     }

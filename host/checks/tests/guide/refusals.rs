@@ -1,15 +1,14 @@
-//! The table of refusals: the library's list, README's if it has one, and the calls
-//! that give each, as the orders have them.
+//! The table of refusals: the library's list, and the calls that give each, as the
+//! orders have them.
 
 use std::collections::BTreeSet;
 
 use ventorupo::Refusal;
 
 use crate::orders::orders;
-use crate::page::{table, tables, words};
+use crate::page::{table, words};
 
 const HEADS: [&str; 4] = ["no.", "name", "meaning", "given by"];
-const README: &str = include_str!("../../../../README.md");
 const HEADER: &str = include_str!("../../../../include/ventorupo.h");
 
 #[test]
@@ -25,17 +24,6 @@ fn the_refusals_are_the_librarys() {
         vec![refusal.number().to_string(), name, refusal.to_string()]
     });
     assert_eq!(told, ours.collect::<Vec<_>>());
-}
-
-/// Where both pages have the table, it is one.
-#[test]
-fn the_readmes_table_is_the_same() {
-    let words = words();
-    let rows = table(&words, &HEADS).rows;
-    let readmes = tables(README)
-        .into_iter()
-        .filter(|table| table.heads == HEADS);
-    readmes.for_each(|table| assert_eq!(table.rows, rows));
 }
 
 /// The calls of the C header that are handed a port.

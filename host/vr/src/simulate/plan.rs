@@ -1,6 +1,6 @@
 //! What a night is to be: the switch, the port whose box lies, and when.
 
-use ventorupo::{Form, Settings, TEN_BYTES};
+use ventorupo::{Form, Settings};
 
 /// Beat in bytes, prefetch slots of a queue, and arrival credit in beats.
 pub const BEAT: u32 = 64;
@@ -66,11 +66,8 @@ impl Plan {
     }
 
     pub fn settings(&self) -> Settings {
-        let (ports, queues) = (self.form.ports, self.form.queues);
-        match self.form.edition {
-            TEN_BYTES => Settings::ten_bytes(self.nodes, BEAT, SLOTS, CREDIT),
-            _ => Settings::wide(ports, queues, self.nodes, BEAT, SLOTS, CREDIT),
-        }
+        let nodes = Settings::of(self.form).nodes(self.nodes);
+        nodes.beat(BEAT).slots(SLOTS).credit(CREDIT)
     }
 
     /// Whether the box lies in this tick, and whether it lies by then in ways that
