@@ -167,6 +167,7 @@ fn adds_up(night: &Night) {
     assert_eq!(all(|port| port.left.above), over(|tick| tick.left.above));
     assert_eq!(all(|port| port.taken.clock), over(|tick| tick.taken.clock));
     assert_eq!(all(|port| port.taken.above), over(|tick| tick.taken.above));
+    longest_waits_agree(night);
     let refused: u64 = night.ports[liar].refused.values().sum();
     assert_eq!(refused, over(|tick| tick.refused));
     assert_eq!(refused, night.beside.left_out);
@@ -179,6 +180,17 @@ fn adds_up(night: &Night) {
     assert_eq!(night.beside.audits, u64::from(2 * plan.ticks + 1));
     assert_eq!(night.beside.differs, None);
     halts_are_the_marks(night);
+}
+
+/// The longest wait of the ticks is that of the ports.
+fn longest_waits_agree(night: &Night) {
+    let clock = |longest: Both| longest.clock;
+    let above = |longest: Both| longest.above;
+    for of in [clock, above] {
+        let ports = night.ports.iter().map(|port| of(port.longest)).max();
+        let ticks = night.ticks.iter().map(|tick| of(tick.longest)).max();
+        assert_eq!(ports, ticks);
+    }
 }
 
 /// Of each port.
@@ -485,6 +497,8 @@ fn json_tells_the_ticks(night: &Night, said: &Json) {
         assert_eq!((at("taken_queue_0"), at("taken_above")), (clock, above));
         let Both { clock, above } = tick.left;
         assert_eq!((at("left_queue_0"), at("left_above")), (clock, above));
+        let waited = ["longest_wait_queue_0", "longest_wait_above"].map(at);
+        assert_eq!(waited, [tick.longest.clock, tick.longest.above]);
         let refused = (at("refused_liar"), at("refused_others"));
         assert_eq!(refused, (tick.refused, tick.refused_elsewhere));
         assert_eq!(at("taken_queue_0_liar"), tick.liars_clocks);
@@ -522,25 +536,28 @@ fn the_table_tells_the_night() {
     for (row, ticks) in rows.iter().zip(night.ticks.chunks(10)) {
         let cells: Vec<&str> = row.split_whitespace().collect();
         let read = |cell: &str| cell.parse::<u64>().unwrap();
-        let last: Vec<u64> = cells[cells.len() - 4..]
+        let last: Vec<u64> = cells[cells.len() - 6..]
             .iter()
             .map(|cell| read(cell))
             .collect();
         let sum = |of: fn(&Tick) -> u64| ticks.iter().map(of).sum::<u64>();
+        let most = |of: fn(&Tick) -> u64| ticks.iter().map(of).max().unwrap();
         let wanted = [
             sum(|tick| tick.taken.sum()),
             sum(|tick| tick.refused + tick.refused_elsewhere),
             sum(|tick| tick.left.clock),
             sum(|tick| tick.left.above),
+            most(|tick| tick.longest.clock),
+            most(|tick| tick.longest.clock.max(tick.longest.above)),
         ];
         assert_eq!(last, wanted, "{row}");
         for port in 0..4 {
             let fewest = ticks.iter().map(|tick| tick.free[port]).min().unwrap();
             assert_eq!(read(cells[2 + 2 * port]), fewest.into(), "{row}");
-            // Five columns for 32 nodes, to an eighth.
+            // Three columns for 32 nodes, to an eighth.
             let eighths = |c: char| 8 - (c as u32 - '█' as u32);
             let long: u32 = cells[1 + 2 * port].chars().map(eighths).sum();
-            assert_eq!(long, fewest * 40 / 32, "{row}");
+            assert_eq!(long, fewest * 24 / 32, "{row}");
         }
     }
 }
@@ -628,12 +645,16 @@ fn is_the_pool(night: &Night, port: usize, points: &str) {
 /// A number of a tick.
 type Of = fn(&Tick) -> u64;
 
-/// The three groups of bars: what left above queue 0, in it, and what was refused.
+/// The groups of bars: what left above queue 0 and in it, how long it waited, and what
+/// was refused.
 fn bars_are_what_left(night: &Night, svg: &Element) {
     let groups: Vec<&Element> = svg.named("g").collect();
-    let of: [(Of, f64, Of); 3] = [
+    let waited: Of = |tick| tick.longest.clock.max(tick.longest.above);
+    let of: [(Of, f64, Of); 5] = [
         (|tick| tick.left.above, 110.0, |tick| tick.left.sum()),
         (|tick| tick.left.clock, 110.0, |tick| tick.left.sum()),
+        (|tick| tick.longest.above, 80.0, waited),
+        (|tick| tick.longest.clock, 80.0, waited),
         (|tick| tick.refused, 80.0, |tick| tick.refused),
     ];
     assert_eq!(groups.len(), of.len());

@@ -62,6 +62,8 @@ fn over_time(ticks: &[Tick]) -> Vec<(&'static str, String)> {
         ("refused_others", number(|tick| tick.refused_elsewhere)),
         ("left_queue_0", number(|tick| tick.left.clock)),
         ("left_above", number(|tick| tick.left.above)),
+        ("longest_wait_queue_0", number(|tick| tick.longest.clock)),
+        ("longest_wait_above", number(|tick| tick.longest.above)),
     ]
 }
 

@@ -37,6 +37,20 @@ impl Both {
         } += 1;
     }
 
+    /// The longer of a wait and what stands here.
+    fn lengthen(&mut self, clock: bool, wait: u32) {
+        let longest = if clock {
+            &mut self.clock
+        } else {
+            &mut self.above
+        };
+        *longest = (*longest).max(wait.into());
+    }
+
+    pub fn most(self) -> u64 {
+        self.clock.max(self.above)
+    }
+
     pub fn sum(self) -> u64 {
         self.clock + self.above
     }
@@ -57,8 +71,9 @@ pub struct Tick {
     pub taken: Both,
     pub refused: u64,
     pub refused_elsewhere: u64,
-    /// Packets sent by all ports' timed turns.
+    /// Packets sent by all ports' timed turns, and how long they waited at most.
     pub left: Both,
+    pub longest: Both,
 }
 
 /// What a port's night was.
@@ -344,15 +359,10 @@ impl<D: Desk> Course<'_, D> {
         let clock = owed.queue == 0;
         let port = &mut self.night.ports[owed.port as usize];
         port.left.count(clock);
-        let longest = &mut port.longest;
-        let longest = if clock {
-            &mut longest.clock
-        } else {
-            &mut longest.above
-        };
-        *longest = (*longest).max(wait.into());
+        port.longest.lengthen(clock, wait);
         let tick = self.night.ticks.last_mut().expect("a tick has begun");
         tick.left.count(clock);
+        tick.longest.lengthen(clock, wait);
         let owner = usize::from(EntryId(entry).port());
         self.night.ports[owner].home += 1;
         if !clock {

@@ -11,9 +11,10 @@ const WIDTH: u32 = 800;
 const LEFT: u32 = 20;
 const START: u32 = 60;
 const END: u32 = 780;
-/// The panels' heights: pools, what left, what was refused.
+/// The panels' heights: pools, what left, how long it waited, what was refused.
 const POOLS: u32 = 220;
 const DEPARTURES: u32 = 110;
+const WAITS: u32 = 80;
 const REFUSALS: u32 = 80;
 /// What a halt's ground leaves of the lies' above it.
 const STRIP: u32 = 8;
@@ -47,6 +48,7 @@ pub fn picture(night: &Night) -> String {
     page.legend();
     page.pools();
     page.departures();
+    page.waits();
     page.refusals();
     page.paragraph(&statements(night));
     page.whole()
@@ -194,6 +196,20 @@ impl Page<'_> {
         let panel = self.panel(said, DEPARTURES, most.unwrap_or(0));
         self.bars(panel, ABOVE, |tick| (tick.left.clock, tick.left.sum()));
         self.bars(panel, CLOCK, |tick| (0, tick.left.clock));
+    }
+
+    /// The longest wait of what left in each tick; queue 0 in front.
+    fn waits(&mut self) {
+        let most = self
+            .night
+            .ticks
+            .iter()
+            .map(|tick| tick.longest.most())
+            .max();
+        let said = "longest wait of what left in each tick, in ticks: queue 0 (dark), the queues above it (light)";
+        let panel = self.panel(said, WAITS, most.unwrap_or(0));
+        self.bars(panel, ABOVE, |tick| (0, tick.longest.above));
+        self.bars(panel, CLOCK, |tick| (0, tick.longest.clock));
     }
 
     fn refusals(&mut self) {

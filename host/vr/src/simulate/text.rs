@@ -14,7 +14,7 @@ const WIDTH: usize = 80;
 /// Rows of the table of ticks, at most.
 const ROWS: u32 = 12;
 /// Columns for the pools, all together; and how many of them there are at most.
-const POOLS: usize = 40;
+const POOLS: usize = 32;
 const MOST_POOLS: u32 = 4;
 /// The parts of a column that a bar can end within, from one eighth on.
 const EIGHTHS: [char; 7] = ['▏', '▎', '▍', '▌', '▋', '▊', '▉'];
@@ -114,19 +114,20 @@ fn ticks(night: &Night) -> String {
     let pools = pools(plan);
     let column = POOLS / pools.len();
     let mut text = format!(
-        "{:>POOLS$} {:>6} {:>13} {:>11}\n",
-        format!("fewest free nodes of {} in these ticks", plan.nodes),
+        "{:>POOLS$} {:>6} {:>13} {:>11} {:>7}\n",
+        format!("fewest free nodes of {}", plan.nodes),
         "!",
         "headers",
-        "left"
+        "left",
+        "waited"
     );
     text = format!("{:7}{text}", "");
     text += &format!("{:>7}", "ticks");
     let titles = pools.iter().map(|pool| format!("{:>column$}", pool.title));
     text += &titles.collect::<String>();
     text += &format!(
-        " {:>6} {:>5} {:>7} {:>5} {:>5}\n",
-        "halted", "in", "refused", "q 0", "above"
+        " {:>6} {:>5} {:>7} {:>5} {:>5} {:>3} {:>3}\n",
+        "halted", "in", "refused", "q 0", "above", "q 0", "any"
     );
     let each = (plan.ticks + ROWS - 1) / ROWS;
     for (first, some) in (1..)
@@ -159,13 +160,16 @@ fn row(night: &Night, pools: &[Pool], first: u32, ticks: &[Tick]) -> String {
         text += &format!("  {bar:width$} {fewest:>digits$}");
     }
     let sum = |of: fn(&Tick) -> u64| ticks.iter().map(of).sum::<u64>();
+    let most = |of: fn(&Tick) -> u64| ticks.iter().map(of).max().unwrap_or(0);
     text + &format!(
-        " {:>6} {:>5} {:>7} {:>5} {:>5}\n",
+        " {:>6} {:>5} {:>7} {:>5} {:>5} {:>3} {:>3}\n",
         marks(ticks, night.plan.liar),
         sum(|tick| tick.taken.sum()),
         sum(|tick| tick.refused + tick.refused_elsewhere),
         sum(|tick| tick.left.clock),
-        sum(|tick| tick.left.above)
+        sum(|tick| tick.left.above),
+        most(|tick| tick.longest.clock),
+        most(|tick| tick.longest.most())
     )
 }
 
