@@ -14,7 +14,7 @@ static uint8_t mem[VR_SIZE(PORTS, QUEUES, NODES)]; /* the whole switch */
 static void arrive(uint32_t source, uint32_t queue)
 {
     struct vr_header says = {.destination = 0, .source = source, .queue = queue, .length = 100};
-    uint8_t header[12];
+    uint8_t header[VR_HEADER_BYTES];
     uint32_t size, answer;
     uint16_t entry;
     if (vr_write_header(VR_WIDE, PORTS, QUEUES, &says, header, &size) != VR_DONE) return;

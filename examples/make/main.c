@@ -20,7 +20,7 @@ static int done(const char *call, uint32_t answer)
 int main(void)
 {
     static const struct vr_header says = {.destination = 5, .source = 1, .queue = 0, .length = 100};
-    uint8_t header[12], turns[4 * PORTS];
+    uint8_t header[VR_HEADER_BYTES], turns[VR_TURNED_BYTES * PORTS];
     uint32_t size;
     uint16_t entry;
     if (!done("setup", vr_setup(mem, sizeof mem, &settings))) return 1;
@@ -30,8 +30,8 @@ int main(void)
     printf("entry %u has arrived at port %u\n", (unsigned)entry, (unsigned)says.source);
     if (!done("round", vr_round(mem, sizeof mem, turns, sizeof turns))) return 1;
     for (unsigned port = 0; port < PORTS; port++) {
-        const uint8_t *turn = turns + 4 * port; /* refusal number, 1 if idle, entry id (2) */
-        if (!turn[1]) printf("entry %u has left port %u\n", turn[2] * 256u + turn[3], port);
+        struct vr_turned turn = vr_turned_of(turns + VR_TURNED_BYTES * port);
+        if (!turn.idle) printf("entry %u has left port %u\n", (unsigned)turn.entry, port);
     }
     return 0;
 }
