@@ -5,8 +5,8 @@
  * the queue's turn and its credit allows (turn). Then the node is free again, at the port where it came from. A round makes one step
  * everywhere.
  *
- * Here stand, in this order: a program to start from; the calls by task; the refusals; what holds of every call; what the archive needs; then
- * the calls one by one. */
+ * Here stand, in this order: a program to start from; the calls by task; the refusals; what holds of every call; what the archive needs;
+ * then the calls one by one. */
 #ifndef VENTORUPO_H
 #define VENTORUPO_H
 
@@ -60,7 +60,7 @@ int main(void)
 entry 2048 arrives at port 1
 entry 2048 leaves port 6
 the same header at port 2 is refused 8: header's source isn't the arriving port
-a round is refused 3: memory is no switch state; for repair, breaks rule (a)
+a round is refused 3: memory is no switch state
 it breaks rule (a), item 0: the settings are in their rows and the memory is long enough
 */
 #endif
@@ -113,7 +113,7 @@ enum vr_answer {
     VR_DONE = 0,             /* all but size, find: done */
     VR_SHORT_MEMORY = 1,     /* setup: memory shorter than its settings need */
     VR_BAD_SETTING = 2,      /* setup, read_header, write_header: a setting not in its row */
-    VR_NO_STATE = 3,         /* all but setup, find, read_header, write_header: memory is no switch state; for repair, breaks rule (a) */
+    VR_NO_STATE = 3,         /* all but setup, find, read_header, write_header: memory is no switch state */
     VR_NO_PORT = 4,          /* all with a port: port above the last */
     VR_NO_QUEUE = 5,         /* prefetch, credit, bucket, show: queue above the last; for credit also 0; for bucket, bucket above 32 */
     VR_HEADER_SIZE = 6,      /* arrive, read_header: header not of its edition's size */
@@ -140,10 +140,10 @@ enum vr_answer {
  * Every call but vr_size and vr_find answers VR_DONE, which is 0, or a refusal's number; a refused call changes no byte that was lent, the
  * room for its answer included, but that an arrival refused 7 or 8 sets its port's mark, one byte of the state, if the port has none.
  * Nothing has to be checked beforehand: any memory and any numbers are taken. Where a call is refused 3, vr_find tells why, and vr_repair
- * makes a state again of every memory that keeps rule (a), whose packets are lost then.
+ * makes a state again of every memory that keeps rule (a), whose packets are lost then; where (a) is broken it is refused 3 itself.
  *
- * Each call that works on a state tests first that the memory is one, which takes the longer the more nodes there are. Many calls pay for one
- * test in a round (vr_round), the next step of every port, and in a run (vr_run), arrivals, stitches, prefetches, turns, credits and map
+ * Each call that works on a state tests first that the memory is one, which takes the longer the more nodes there are. Many calls pay for
+ * one test in a round (vr_round), the next step of every port, and in a run (vr_run), arrivals, stitches, prefetches, turns, credits and map
  * entries in any order, written into one buffer.
  *
  * Setup tests 2, then 1; vr_read_header 2, 6, 7, 20, 9, 19; vr_write_header 2, then 21. The others test 3 first, then in the order of
@@ -173,11 +173,13 @@ enum vr_answer {
  * So calls on memories that have nothing in common may run at once.
  *
  * A call takes up to 26,046 bytes of stack, a finding up to 33,486, whatever the settings (measured on x86-64 by tools/stack.c, not proved;
- * on aarch64 both were less): the test for a state keeps a bit for each of up to 65,536 nodes there, and a sum for each port and queue but 0.
+ * on aarch64 both were less): the test for a state keeps a bit for each of up to 65,536 nodes there, and a sum for each port and queue but
+ * 0.
  *
- * On a board without a C library: link libventorupo.a with a memset and a memcpy of your own, behind the objects that use it, with -nostdlib;
- * examples/board is such a program. The code uses vector registers (SSE2 on x86-64, NEON on aarch64) and loads and stores that are not
- * aligned: the startup code switches the former on and allows the latter, and an interrupt handler that calls it saves the vector registers. */
+ * On a board without a C library: link libventorupo.a with a memset and a memcpy of your own, behind the objects that use it, with
+ * -nostdlib; examples/board is such a program. The code uses vector registers (SSE2 on x86-64, NEON on aarch64) and loads and stores that
+ * are not aligned: the startup code switches the former on and allows the latter, and an interrupt handler that calls it saves the vector
+ * registers. */
 
 /* The header's editions. */
 enum vr_edition {
@@ -219,11 +221,15 @@ uint64_t vr_size(const struct vr_settings *settings);
     ((ports) < 2 || (ports) > 32 || (queues) < 2 || (queues) > 64 || (nodes) < 1 || (nodes) > 2048 \
          ? 0ul : 4112ul + (ports) * (146ul + (queues) * 20ul + (nodes) * 13ul))
 
-/* Writes the starting ledger for these settings, also over an older one. Bytes past vr_size(settings) are never changed, by this call or
- * another. */
+/* Writes the starting ledger for these settings, also over an older one: all nodes are free, arrival credit is the setting credit at every
+ * port and queue above 0, outward credit 0, every destination id is mapped to port 0, the last queue counts as the one served last, no port
+ * is halted and nothing is counted. So give map entries and outward credit next. Bytes past vr_size(settings) are never changed, by this
+ * call or another. The settings stand in the first 16 bytes of a state, two bytes each: ports, queues, nodes, beat, slots, credit, edition,
+ * packets; docs/LAYOUT.md has the rest. */
 uint32_t vr_setup(uint8_t *mem, size_t len, const struct vr_settings *settings);
 
-/* Sets the port of one destination id, 0 to 4,095. */
+/* Sets the port of one destination id, 0 to 4,095. An id that was never set goes to port 0. A header's destination is as wide as ports - 1
+ * needs, so with 8 ports ids 0 to 7 are met; the others are there and never asked for. The map is read when a packet is stitched. */
 uint32_t vr_map(uint8_t *mem, size_t len, uint32_t id, uint32_t port);
 
 /* Headers ------------------------------------------------------------------------------------------------------------------------------ */
@@ -234,8 +240,8 @@ struct vr_header {
     uint32_t source;      /* the port where the packet arrives */
     uint32_t queue;
     uint32_t length;      /* header, data and footer, in bytes: from the header's size plus 2 to 8,191 */
-    uint32_t poisoned;    /* 1 for a poisoned packet, else 0 */
-    uint32_t timestamp;
+    uint32_t poisoned;    /* 1 for a poisoned packet, else 0; handed on with the packet, which is treated as any other */
+    uint32_t timestamp;   /* of a clock of yours; handed on, and vr_timed_turn counts from it */
     uint32_t credit;      /* on offer (not used yet) */
     uint32_t transaction; /* the transaction id */
 };
@@ -285,8 +291,10 @@ uint32_t vr_read_header(uint32_t edition, uint32_t ports, uint32_t queues, const
 
 /* Take in, move on --------------------------------------------------------------------------------------------------------------------- */
 
-/* Takes the front of the port's free list, records the header and appends the node to ingress. Writes the entry id. Refused 7 or 8, it
- * halts the port: its mark becomes that number if it was 0, and no other byte changes (see vr_report). Refused 24 where packets are kept. */
+/* Takes the front of the port's free list, records the header and appends the node to ingress. Writes the entry id. For a queue above 0 the
+ * port's arrival credit for the queue falls by the packet's price, and rises by it again when the packet leaves; refused 10 where it is less
+ * than the price, or the port is halted (vr_report tells which). Refused 7 or 8, it halts the port: its mark becomes that number if it was
+ * 0, and no other byte changes (see vr_report). Refused 24 where packets are kept. */
 uint32_t vr_arrive(uint8_t *mem, size_t len, uint32_t port, const uint8_t *header, size_t header_len, uint16_t *entry);
 
 /* Takes the oldest ingress node to the egress list of the port that the map names now. Writes ten bytes, big-endian:
@@ -302,12 +310,16 @@ uint32_t vr_prefetch(uint8_t *mem, size_t len, uint32_t port, uint32_t queue, ui
 
 /* Send --------------------------------------------------------------------------------------------------------------------------------- */
 
-/* Adds the amount to the queue's outward credit. */
+/* Adds the amount, in beats, to the queue's outward credit at this port, from which the prices of what leaves are taken. It is 0 after
+ * setup, and no queue above 0 sends without it. Queue 0 is free and has none. */
 uint32_t vr_credit(uint8_t *mem, size_t len, uint32_t port, uint32_t queue, uint32_t amount);
 
-/* Lets one packet leave the port, or none if nothing is ready. Writes sixteen bytes, big-endian: kind (1: 0 idle, 1 inside, 2 outside),
- * queue (1), entry id (2), length (2), destination id (2), timestamp (4), poisoned (1), transaction id (1), price (2); vr_sent_of reads
- * them. An idle turn writes the kind alone; the other 15 bytes stay. */
+/* Lets one packet leave the port, or none if nothing is ready. A queue is ready if a packet is in its slots and, above queue 0, its outward
+ * credit is at least the price of the oldest of them. The turn goes to the lowest ready queue above the one that was served last or, if
+ * there is none, to the lowest of all: every queue in its turn, queue 0 like any other. Its oldest packet leaves; the price is taken from
+ * the outward credit and goes back to the arrival credit of the port where the packet came in, and so does the node. Writes sixteen bytes,
+ * big-endian: kind (1: 0 idle, 1 inside, 2 outside), queue (1), entry id (2), length (2), destination id (2), timestamp (4), poisoned (1),
+ * transaction id (1), price (2); vr_sent_of reads them. An idle turn writes the kind alone; the other 15 bytes stay. */
 uint32_t vr_turn(uint8_t *mem, size_t len, uint32_t port, uint8_t sent[VR_SENT_BYTES]);
 
 /* What kind of turn it was. */
@@ -321,11 +333,11 @@ struct vr_sent {
     uint32_t kind, queue, entry, length, destination, timestamp, poisoned, transaction, price; /* kind: enum vr_sent_kind */
 };
 
-/* A turn that is given the time, on the clock of the headers' timestamps: vr_turn, and if a packet leaves, its wait is counted in the buckets
- * of the port whose turn it is. The wait is now less the timestamp on 32 bits, so a clock that has passed its end still gives it. A wait of 0
- * counts in bucket 0, any other in the bucket of its highest set bit, counted from 1: of 1 in bucket 1, of 2 and 3 in bucket 2, of 2^31 and
- * more in bucket 32. A bucket at 4,294,967,295 stays there. An idle turn counts nothing, nor does vr_turn or a round. Writes and answers as
- * vr_turn does. */
+/* A turn that is given the time, on the clock of the headers' timestamps: vr_turn, and if a packet leaves, its wait is counted in the
+ * buckets of the port whose turn it is. The wait is now less the timestamp on 32 bits, so a clock that has passed its end still gives it. A
+ * wait of 0 counts in bucket 0, any other in the bucket of its highest set bit, counted from 1: of 1 in bucket 1, of 2 and 3 in bucket 2, of
+ * 2^31 and more in bucket 32. A bucket at 4,294,967,295 stays there. An idle turn counts nothing, nor does vr_turn or a round. Writes and
+ * answers as vr_turn does. */
 uint32_t vr_timed_turn(uint8_t *mem, size_t len, uint32_t port, uint32_t now, uint8_t sent[VR_SENT_BYTES]);
 
 /* Many at once ------------------------------------------------------------------------------------------------------------------------- */
@@ -336,7 +348,8 @@ uint32_t vr_timed_turn(uint8_t *mem, size_t len, uint32_t port, uint32_t now, ui
  * Writes four bytes for each port's turn, port by port: refusal number (1), 1 if idle (1), entry id (2, big-endian) or 0; vr_turned_of reads
  * them. So 32 ports have 128, and these are always enough; what is lent past the last port's stays. Refused 3, then 27 if less is lent; then
  * neither the memory nor the room changes. So look at the answer first: in a room that was lent as zeros a refused round reads as turns that
- * sent node 0, whose bytes are 0 0 0 0. */
+ * sent node 0, whose bytes are 0 0 0 0. A round tells no queue and no wait of what leaves: who counts by queue remembers it by the entry id,
+ * or makes vr_turn's calls; who counts waits makes vr_timed_turn's. */
 uint32_t vr_round(uint8_t *mem, size_t len, uint8_t *turns, size_t turns_len);
 
 /* A turn of a round, or what a field of a run was answered. */
@@ -353,20 +366,29 @@ struct vr_turned {
  *     tag 6  credit    port (1), queue (1), amount (2)
  *     tag 7  map       id (1), port (1)
  *
- * So a turn of port 3 is 5, 0, 1, 3. Memory and answers are as of the same calls one by one, but the memory is tested once. These are the
- * bench program's fields, so a header of ten bytes is a good field on a wide switch too, where it is refused 6, and where packets are kept,
- * where it is refused 24.
+ * (enum vr_tag). So a turn of port 3 is 5, 0, 1, 3. Destination ids above 255 are mapped by vr_map alone, and timed turns have no field.
+ * Memory and answers are as of the same calls one by one, but the memory is tested once. These are the bench program's fields, so a header
+ * of ten bytes is a good field on a wide switch too, where it is refused 6, and where packets are kept, where it is refused 24.
  * Writes four bytes for each field's answer, one behind the other: refusal number (1), 1 if idle (1), entry id (2, big-endian) or 0. The
  * entry id is that of arrive, prefetch and turn, and of stitch the one in its record; credit and map have none. A field that is refused
  * leaves what its call leaves when it is refused, and the run goes on with the next.
  * The run stops where the fields end (VR_ENDED); at a bad field, which is one of another tag or length or one that is cut off
- * (VR_BAD_FIELD); or at a good field where less than four bytes of room are left (VR_NO_ROOM). A bad field is bad also where no room is left.
- * A setup has no place in a run: tag 1 is bad, whatever its length. Writes to `count` how many fields were done, refused ones among them, and
- * the enum vr_stop to `why`; the field at which it stopped is not done and not counted, so a run may go on from there. The room past the last
- * answer stays. As many bytes of room as of fields are always enough.
+ * (VR_BAD_FIELD); or at a good field where less than four bytes of room are left (VR_NO_ROOM). A bad field is bad also where no room is left. A setup has no place in a run: tag 1 is bad, whatever its length. Writes to
+ * `count` how many fields were done, refused ones among them, and the enum vr_stop to `why`; the field at which it stopped is not done and
+ * not counted, so a run may go on from there. The room past the last answer stays. As many bytes of room as of fields are always enough.
  * Refused 3 alone; then nothing is written, count and why neither. So look at the answer first. */
 uint32_t vr_run(uint8_t *mem, size_t len, const uint8_t *fields, size_t fields_len, uint8_t *answers, size_t answers_len, uint64_t *count,
                 uint32_t *why);
+
+/* The tags of a run's fields. */
+enum vr_tag {
+    VR_TAG_ARRIVE = 2,
+    VR_TAG_STITCH = 3,
+    VR_TAG_PREFETCH = 4,
+    VR_TAG_TURN = 5,
+    VR_TAG_CREDIT = 6,
+    VR_TAG_MAP = 7
+};
 
 /* Why a run stopped. */
 enum vr_stop {
@@ -393,16 +415,16 @@ enum vr_stop {
 enum { VR_SLOT_BYTES = 8192 };
 
 /* A whole packet arrives, whose first ten bytes are its header, on a state that keeps packets. Does to the state what vr_arrive does with
- * that header where none are kept, and copies the packet to the start of its node's slot in `packets`, the packet memory of the port where it
- * arrives: byte `entry % 2048 * VR_SLOT_BYTES`. The rest of that slot and all other slots stay. The packet's bytes are header, data and
+ * that header where none are kept, and copies the packet to the start of its node's slot in `packets`, the packet memory of the port where
+ * it arrives: byte `entry % 2048 * VR_SLOT_BYTES`. The rest of that slot and all other slots stay. The packet's bytes are header, data and
  * footer, as many as the header's length field says, else it is refused 16; packets_len is nodes * VR_SLOT_BYTES, else 17. */
 uint32_t vr_arrive_packet(uint8_t *mem, size_t len, uint8_t *packets, size_t packets_len, uint32_t port, const uint8_t *packet,
                           size_t packet_len, uint16_t *entry);
 
-/* Shows the oldest packet in the queue's prefetch slots, the one that the port sends next of that queue: it is `length` bytes, as many as its
- * header says, of the packet memory of port `owner`, from byte `at` on. p0 to p3 are the packet memories of ports 0 to 3; refused 17 unless
- * each of them has nodes * VR_SLOT_BYTES. Refused 12 where the slots are empty, also if egress has packets. Changes nothing, and a refusal
- * leaves owner, at and length as they were. */
+/* Shows the oldest packet in the queue's prefetch slots, the one that the port sends next of that queue: it is `length` bytes, as many as
+ * its header says, of the packet memory of port `owner`, from byte `at` on. p0 to p3 are the packet memories of ports 0 to 3; refused 17
+ * unless each of them has nodes * VR_SLOT_BYTES. Refused 12 where the slots are empty, also if egress has packets. Changes nothing, and a
+ * refusal leaves owner, at and length as they were. */
 uint32_t vr_show(const uint8_t *mem, size_t len, const uint8_t *p0, size_t len0, const uint8_t *p1, size_t len1, const uint8_t *p2,
                  size_t len2, const uint8_t *p3, size_t len3, uint32_t port, uint32_t queue, uint32_t *owner, uint64_t *at,
                  uint32_t *length);
@@ -441,11 +463,11 @@ uint32_t vr_bucket(const uint8_t *mem, size_t len, uint32_t port, uint32_t bucke
 
 /* A port that lies is halted: the first arrival there that is refused 7 or 8 marks the port with that number, whatever source the header
  * names, and later ones leave the mark. While the port has a mark, headers and packets that arrive there for a queue above 0 and are right
- * are refused 10, whatever price and credit are; queue 0 goes on, and so do credits, stitches, prefetches and turns. vr_report reads a
- * mark; vr_clear lifts it, and so do vr_setup and vr_repair. */
+ * are refused 10, whatever price and credit are (so a 10 has two meanings, which vr_report tells apart); queue 0 goes on, and so do credits,
+ * stitches, prefetches and turns. vr_report reads a mark; vr_clear lifts it, and so do vr_setup and vr_repair. */
 
-/* Writes the port's mark: 0 if it isn't halted, else the first refusal that halted it since setup, repair or clear: VR_CHECKSUM or VR_SOURCE,
- * or 18, which no call gives yet. Refused 3, then 4. */
+/* Writes the port's mark: 0 if it isn't halted, else the first refusal that halted it since setup, repair or clear: VR_CHECKSUM or
+ * VR_SOURCE, or 18, which no call gives yet. Refused 3, then 4. */
 uint32_t vr_report(const uint8_t *mem, size_t len, uint32_t port, uint32_t *mark);
 
 /* Lifts the port's mark, so that it takes in queues above 0 again; of a port that has none it is done too. Refused 3, then 4. */
@@ -455,9 +477,10 @@ uint32_t vr_clear(uint8_t *mem, size_t len, uint32_t port);
 
 /* What is wrong with a memory, whatever it holds; never refused. Writes the first rule of soundness that it breaks, 1 to 7 for (a) to (g)
  * and 9 for (i) (rule 8, (h), is one to come), and the first item that shows it, in the order of docs/FINDINGS.md; 0 and 0 where it is a
- * switch state. So rule 2, item 1 is port 1's last served queue out of range, and rule 9, item 1 port 1's mark, if it is none of 0, 7, 8
- * and 18. For P ports, Q queues, N nodes a port and L lists, P * (2 * Q + 2), which port by port are the free one, ingress, egress by queue
- * and prefetch by queue:
+ * switch state. That says that every call goes on with it, not that no byte was changed: any number is an outward credit or a bucket.
+ * The tool (vr explain) says items in words. So rule 2, item 1 is port 1's last served queue out of range, and rule 9, item 1 port 1's mark, if it is
+ * none of 0, 7, 8 and 18. For P ports, Q queues, N nodes a port and L lists, P * (2 * Q + 2), which port by port are the free one, ingress,
+ * egress by queue and prefetch by queue:
  *
  *     rule   what it asks, and its items
  *     1 (a)  the settings are in their rows and the memory is long enough
@@ -479,9 +502,10 @@ uint32_t vr_clear(uint8_t *mem, size_t len, uint32_t port);
 void vr_find(const uint8_t *mem, size_t len, uint32_t *rule, uint64_t *item);
 
 /* Writes the starting ledger for the settings that the memory has, and keeps its map, but for entries above the last port, which become 0:
- * also over a sound ledger, whose packets, marks and buckets are lost. Refused 3 exactly where rule (a) is broken: a setting not in its row, or
- * memory too short for its settings. Not for an image of before the wide headers: set that up afresh, since its older tables could pass for
- * a map. One of before the marks or the buckets is no state either; in a memory long enough a repair keeps its settings and map. */
+ * also over a sound ledger. Packets, outward credits, marks and buckets are lost. Refused 3 exactly where rule (a) is broken: a setting not
+ * in its row, or memory too short for its settings. Not for an image of before the wide headers: set that up afresh, since its older tables
+ * could pass for a map. One of before the marks or the buckets is no state either; in a memory long enough a repair keeps its settings and
+ * map. */
 uint32_t vr_repair(uint8_t *mem, size_t len);
 
 #if defined(__cplusplus) || (defined(__STDC_VERSION__) && __STDC_VERSION__ >= 199901L)
@@ -495,7 +519,7 @@ static inline const char *vr_text(uint32_t answer)
     case VR_DONE: return "done";
     case VR_SHORT_MEMORY: return "memory shorter than its settings need";
     case VR_BAD_SETTING: return "a setting not in its row";
-    case VR_NO_STATE: return "memory is no switch state; for repair, breaks rule (a)";
+    case VR_NO_STATE: return "memory is no switch state";
     case VR_NO_PORT: return "port above the last";
     case VR_NO_QUEUE: return "queue above the last; for credit also 0; for bucket, bucket above 32";
     case VR_HEADER_SIZE: return "header not of its edition's size";

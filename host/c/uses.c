@@ -34,6 +34,7 @@ int main(void)
     if (vr_arrive(mem, sizeof mem, 0, header, size, &entry) != VR_DONE) return 1;
     printf("kinds: %d %d %d, %d %d %d %d, %d %d %d, %d\n", VR_IDLE, VR_INSIDE, VR_OUTSIDE, VR_FREE, VR_INGRESS, VR_EGRESS, VR_PREFETCH,
            VR_ENDED, VR_BAD_FIELD, VR_NO_ROOM, VR_SLOT_BYTES);
+    printf("tags: %d %d %d %d %d %d\n", VR_TAG_ARRIVE, VR_TAG_STITCH, VR_TAG_PREFETCH, VR_TAG_TURN, VR_TAG_CREDIT, VR_TAG_MAP);
     readers();
     return 0;
 }

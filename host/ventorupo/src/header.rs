@@ -35,7 +35,8 @@ pub struct Header {
     pub poisoned: u32,
     /// On the clock of the timed turns.
     pub timestamp: u32,
-    /// Credits on offer: up to 255 in ten bytes, up to 65,535 in a wide header.
+    /// Credits on offer, which are not used yet: up to 255 in ten bytes, up to 65,535 in
+    /// a wide header.
     pub credit: u32,
     /// The transaction id: up to 255.
     pub transaction: u32,

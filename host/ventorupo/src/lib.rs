@@ -36,6 +36,24 @@
 //! }
 //! ```
 //!
+//! # The rules, in short
+//!
+//! - After setup all nodes are free, every destination id is mapped to port 0, and no
+//!   queue above 0 may send: give map entries ([`Switch::map`]) and outward credit
+//!   ([`Switch::credit`]).
+//! - An arrival takes a free node of its port ([`Switch::arrive`]). In a queue above 0 it
+//!   costs its length in beats, rounded up, of the port's arrival credit, which comes
+//!   back when the packet leaves.
+//! - [`Switch::stitch`] takes a port's oldest to the port that the map names now,
+//!   [`Switch::prefetch`] a queue's oldest into its slots.
+//! - [`Switch::turn`] sends one packet: of the lowest ready queue above the one served
+//!   last, else of the lowest of all. Queue 0, for clocks, is free, and takes its turn
+//!   like any other.
+//! - A header with a wrong checksum or another port's source halts the port where it
+//!   arrives ([`Halt`]), until [`Switch::clear`].
+//!
+//! # Many calls
+//!
 //! Each call tests that the memory is a state. Many calls pay for one test in a
 //! round ([`Switch::round`]), and in a run: a [`Batch`] of calls, answered in their
 //! order ([`Switch::run`]). Bytes that are to be read alone are a [`View`].
@@ -60,7 +78,7 @@
 //! # Examples
 //!
 //! `examples/` has a program for each task: `port_manager`, `audit`, `replay` and
-//! `whole_packets`.
+//! `whole_packets`; and `outsider`, a rack as a newcomer wrote it.
 
 #![no_std]
 #![deny(unsafe_code)]

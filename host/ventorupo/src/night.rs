@@ -5,7 +5,7 @@ use core::fmt;
 
 use crate::{calls, done, Refusal};
 
-/// A rule of soundness. docs/FINDINGS.md says what each item is.
+/// A rule that every switch state keeps. [`Finding::item`] says what its items are.
 ///
 /// ```
 /// use ventorupo::{find, Rule};
@@ -85,6 +85,33 @@ impl Rule {
     pub const fn letter(self) -> char {
         (b'a' + (self as u8 - Rule::A as u8)) as char
     }
+
+    /// What the rule asks, in words; its `Display` says the same.
+    ///
+    /// ```
+    /// use ventorupo::Rule;
+    ///
+    /// assert_eq!(Rule::I.asks(), "every port's mark is 0, 7, 8 or 18");
+    /// assert_eq!(Rule::I.to_string(), Rule::I.asks());
+    /// ```
+    pub const fn asks(self) -> &'static str {
+        match self {
+            Rule::A => "the settings are in their rows and the memory is long enough",
+            Rule::B => "last served queues, map entries and credits are in range and no prefetch list exceeds its slots",
+            Rule::C => "every node of every port stands once in one list",
+            Rule::D => "free and ingress lists hold only their own port's nodes",
+            Rule::E => "a node in an egress or prefetch list has that list's queue",
+            Rule::F => "every field recorded for a node that isn't free is in range, its price that of queue, length and beat",
+            Rule::G => "for each port and queue above 0, arrival credit and prices outstanding are together the setting credit",
+            Rule::I => "every port's mark is 0, 7, 8 or 18",
+        }
+    }
+}
+
+impl fmt::Display for Rule {
+    fn fmt(&self, f: &mut fmt::Formatter<'_>) -> fmt::Result {
+        f.write_str(self.asks())
+    }
 }
 
 /// The first rule that an image breaks, and the first item that shows it.
@@ -99,7 +126,19 @@ impl Rule {
 pub struct Finding {
     /// The first that is broken, in the order of [`Rule::ALL`].
     pub rule: Rule,
-    /// What it counts is the rule's matter: docs/FINDINGS.md.
+    /// What shows it. For P ports, Q queues, N nodes a port and L lists, P × (2 × Q + 2),
+    /// which port by port are the free one, ingress, egress by queue and prefetch by queue:
+    ///
+    /// | rule | item |
+    /// |---|---|
+    /// | (a) | 0 to 7: ports, queues, nodes, beat, slots, credit, edition, packets; 8: the memory is too short |
+    /// | (b) | below P: a port's last served queue; P + d: the map's entry of id d; P + 4096 + p × Q + q: the prefetch list of port p, queue q |
+    /// | (c) | below L: a list that doesn't hold together; L + p × N + i: node i of port p, which stands in none |
+    /// | (d), (e), (f) | the entry id |
+    /// | (g) | p × (Q − 1) + q − 1: that of port p, queue q |
+    /// | (i) | the port |
+    ///
+    /// The tool `vr` says it in words.
     pub item: u64,
 }
 
@@ -159,8 +198,8 @@ pub fn audit(memory: &[u8], room: &mut [u8]) -> Result<(), Refusal> {
 }
 
 /// Writes the starting ledger for the settings that an image has, with its map;
-/// entries above the last port become 0. Packets and marks are lost, also of a
-/// sound image; bytes past the state's size stay. Refused 3 where rule (a) is broken:
+/// entries above the last port become 0. Packets, outward credits, marks and buckets
+/// are lost, also of a sound image; bytes past the state's size stay. Refused 3 where rule (a) is broken:
 /// settings out of their rows, or memory too short for them.
 ///
 /// ```

@@ -16,7 +16,7 @@ macro_rules! refusals {
         /// let refusal = Switch::over([0; 100]).turn(0).unwrap_err();
         /// assert_eq!(refusal, Refusal::NoState);
         /// assert_eq!(refusal.number(), 3);
-        /// assert_eq!(refusal.to_string(), "memory is no switch state; for repair, breaks rule (a)");
+        /// assert_eq!(refusal.to_string(), "memory is no switch state");
         /// ```
         // The papers have more to come: 18, 22, 23, 25, 26.
         #[derive(Debug, Clone, Copy, PartialEq, Eq, Hash, PartialOrd, Ord)]
@@ -49,7 +49,7 @@ macro_rules! refusals {
 refusals! {
     ShortMemory = 1, "setup", "memory shorter than its settings need";
     BadSetting = 2, "setup, read_header, write_header", "a setting not in its row";
-    NoState = 3, "all but setup, find, read_header, write_header", "memory is no switch state; for repair, breaks rule (a)";
+    NoState = 3, "all but setup, find, read_header, write_header", "memory is no switch state";
     NoPort = 4, "all with a port", "port above the last";
     NoQueue = 5, "prefetch, credit, bucket, show", "queue above the last; for credit also 0; for bucket, bucket above 32";
     HeaderSize = 6, "arrive, read_header", "header not of its edition's size";

@@ -29,7 +29,9 @@ pub struct Switch<M> {
 }
 
 impl<M: AsRef<[u8]> + AsMut<[u8]>> Switch<M> {
-    /// Write the starting ledger. A refusal (1 or 2) hands the memory back.
+    /// Writes the starting ledger: all nodes free, arrival credit as the settings have
+    /// it, outward credit 0, every destination id mapped to port 0, no port halted,
+    /// nothing counted. A refusal (1 or 2) hands the memory back.
     ///
     /// ```
     /// use std::error::Error;
@@ -157,7 +159,8 @@ impl<M: AsRef<[u8]> + AsMut<[u8]>> Switch<M> {
         Ok(EntryId(entry))
     }
 
-    /// Adds to the outward credit of a port's queue.
+    /// Adds beats to the outward credit of a port's queue, which is 0 after setup and
+    /// from which the prices of what leaves are taken. Queue 0 is free and has none.
     ///
     /// ```
     /// use ventorupo::{Refusal, Settings, Switch};
@@ -171,7 +174,10 @@ impl<M: AsRef<[u8]> + AsMut<[u8]>> Switch<M> {
         done(calls::credit(self.memory.as_mut(), port, queue, amount))
     }
 
-    /// Maps a destination id, 0 to 4,095, to a port.
+    /// Maps a destination id, 0 to 4,095, to a port; one that was never mapped goes to
+    /// port 0. A header's destination is as wide as the port count less one needs, so
+    /// with eight ports ids 0 to 7 are met, and the others never asked for. The map is
+    /// read when a packet is stitched.
     ///
     /// ```
     /// use ventorupo::{Refusal, Settings, Switch};
@@ -185,7 +191,11 @@ impl<M: AsRef<[u8]> + AsMut<[u8]>> Switch<M> {
         done(calls::map(self.memory.as_mut(), id, port))
     }
 
-    /// The next ready queue's oldest packet leaves, if a queue is ready.
+    /// One packet leaves the port, if a queue is ready: if a packet is in its slots and,
+    /// above queue 0, its outward credit is at least the price of the oldest. The turn
+    /// goes to the lowest ready queue above the one served last or, if there is none, to
+    /// the lowest of all; queue 0 takes its turn like any other. Price and node go back
+    /// to the port where the packet came in.
     ///
     /// ```
     /// use ventorupo::{Header, Settings, Switch, Turn};

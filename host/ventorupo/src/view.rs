@@ -24,10 +24,11 @@ use crate::{
 /// let view = View::over(&image);
 /// assert_eq!(view.settings()?, settings);
 /// assert_eq!(view.ready(7)?.count, 0);
-/// // A byte is missing.
-/// let cut = View::over(&image[1..]);
+/// // The last byte is missing: rule (a), item 8.
+/// let cut = View::over(&image[..image.len() - 1]);
 /// assert_eq!(cut.ready(7), Err(Refusal::NoState));
-/// assert_eq!(cut.find().unwrap().rule, Rule::A);
+/// let found = cut.find().unwrap();
+/// assert_eq!((found.rule, found.item), (Rule::A, 8));
 /// # Ok::<(), Refusal>(())
 /// ```
 #[derive(Debug, Clone, Copy)]

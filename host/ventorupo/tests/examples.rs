@@ -37,5 +37,12 @@ fn the_examples_say_what_is_expected() {
         names.push(name.to_string_lossy().into_owned());
     }
     names.sort();
-    assert_eq!(names, ["audit", "port_manager", "replay", "whole_packets"]);
+    let all = [
+        "audit",
+        "outsider",
+        "port_manager",
+        "replay",
+        "whole_packets",
+    ];
+    assert_eq!(names, all);
 }

@@ -1,7 +1,7 @@
 //! A refusal has one number and one name: in the wrapper, the ledger, the C
 //! header and the guide; and these speak of the same calls, structs and fields.
 
-use ventorupo::{Batch, Form, Refusal, Stop, SLOT_BYTES, TEN_BYTES, WIDE};
+use ventorupo::{Batch, Form, Refusal, Rule, Stop, SLOT_BYTES, TEN_BYTES, WIDE};
 
 const LEDGER: &str = include_str!("../../../crates/ledger/src/lib.rt");
 const CALLS: &str = include_str!("../src/calls.rs");
@@ -121,6 +121,19 @@ fn the_c_header_has_the_same_stops_and_meanings() {
     }
 }
 
+#[test]
+fn the_c_header_has_the_same_texts_of_rules() {
+    let text = between(HEADER, "*vr_rule_text(uint32_t rule)", "default:");
+    let cases = text.split("case ").skip(1).map(|case| {
+        let (number, rest) = case.split_once(": return \"").expect(case);
+        (number.parse().expect(case), between(rest, "", "\";"))
+    });
+    let rules = Rule::ALL.iter().map(|rule| (rule.number(), rule.asks()));
+    let state = (0, "a switch state: no rule is broken");
+    let wanted: Vec<(u32, &str)> = [state].into_iter().chain(rules).collect();
+    assert_eq!(cases.collect::<Vec<_>>(), wanted);
+}
+
 /// The fields that the C header has in its table: tag, name, and the bytes of the
 /// value, of a header the first number that is told.
 fn tabled() -> Vec<(u8, &'static str, usize)> {
@@ -151,6 +164,10 @@ fn the_c_header_has_the_batchs_fields() {
         fields.push((rest[0], name, length));
         rest = &rest[3 + length..];
     }
+    let tag = |&(tag, name, _): &(u8, &str, usize)| (tag.into(), name.to_uppercase());
+    let tags: Vec<(u32, String)> = fields.iter().map(tag).collect();
+    let lines = between(HEADER, "enum vr_tag {", "};");
+    assert_eq!(listed(lines, "VR_TAG_", " = "), tags);
     assert_eq!((tabled(), rest), (fields, &[][..]));
 }
 

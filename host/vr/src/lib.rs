@@ -104,7 +104,7 @@ fn view(start: &Start) -> View<'_> {
 pub fn explain(view: &View) -> Answer {
     let mut text = format!("{}\n", view.top());
     if let Some(finding) = view.finding {
-        let (letter, asks) = (finding.rule.letter(), words::asks(finding.rule));
+        let (letter, asks) = (finding.rule.letter(), finding.rule.asks());
         text += &format!("rule ({letter}): {asks}; item {}\n", finding.item);
     }
     text += &view.hint_line();

@@ -10,22 +10,6 @@ use crate::view::counted;
 
 use ventorupo::{Finding, Form, Halt, Rule};
 
-/// What a rule asks, as the scope paper says it.
-pub fn asks(rule: Rule) -> &'static str {
-    match rule {
-        Rule::A => "the settings are in their rows and the image is long enough",
-        Rule::B => "last served queues, map entries and credits are in range and no prefetch list exceeds its slots",
-        Rule::C => "every node of every port stands once in one list",
-        Rule::D => "free and ingress lists hold only their own port's nodes",
-        Rule::E => "a node in an egress or prefetch list has that list's queue",
-        Rule::F => "every field recorded for a node that isn't free is in range, its price that of queue, length and beat",
-        Rule::G => "for each port and queue above 0, arrival credit and prices outstanding are together the setting credit",
-        Rule::I => "every port's mark is 0, 7, 8 or 18",
-        // The papers have another to come.
-        _ => "a rule that this tool doesn't know",
-    }
-}
-
 /// What was found, in words.
 pub fn words(image: &Image, lists: &Lists, finding: Finding) -> String {
     let Finding { rule, item } = finding;

@@ -15,7 +15,7 @@ use vr::args::Topic;
 /// The rule's line of what is said.
 fn asks(letter: char) -> &'static str {
     match letter {
-        'a' => "the settings are in their rows and the image is long enough",
+        'a' => "the settings are in their rows and the memory is long enough",
         'b' => "last served queues, map entries and credits are in range and no prefetch list exceeds its slots",
         'c' => "every node of every port stands once in one list",
         'd' => "free and ingress lists hold only their own port's nodes",
