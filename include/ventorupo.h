@@ -10,7 +10,7 @@
 #ifndef VENTORUPO_H
 #define VENTORUPO_H
 
-#if 0 /* A program to start from, as start.c: cc start.c -Iinclude -Ltarget/staticlib -lventorupo -o start && ./start */
+#if 0 /* Start from here: cc start.c -Iinclude -Ltarget/staticlib -lventorupo -o start && ./start (a release has lib/x86_64-linux-gnu) */
 #include <stdio.h>
 #include "ventorupo.h"
 
@@ -113,7 +113,7 @@ enum vr_answer {
     VR_DONE = 0,             /* all but size, find: done */
     VR_SHORT_MEMORY = 1,     /* setup: memory shorter than its settings need */
     VR_BAD_SETTING = 2,      /* setup, read_header, write_header: a setting not in its row */
-    VR_NO_STATE = 3,         /* all but setup, find, read_header, write_header: memory is no switch state */
+    VR_NO_STATE = 3,         /* all but setup, find, read_header, write_header, size: memory is no switch state */
     VR_NO_PORT = 4,          /* all with a port: port above the last */
     VR_NO_QUEUE = 5,         /* prefetch, credit, bucket, show: queue above the last; for credit also 0; for bucket, bucket above 32 */
     VR_HEADER_SIZE = 6,      /* arrive, read_header: header not of its edition's size */
@@ -156,9 +156,9 @@ enum vr_answer {
  * A run itself is refused 3 alone; what its calls are refused stands in their answers.
  *
  * What C asks remains the caller's: each pointer is valid, and not null, for the length given (a room for its whole size); pointers to
- * uint16_t, uint32_t, uint64_t and the structs are aligned; the memories lent to one call do not overlap; and no two calls run at once on a
- * memory that one of them may change. And each port's packet memory is the same one at every call: that another port's is lent, or other
- * bytes of the same size, can't be noticed, and then a packet is stored and shown where it isn't looked for.
+ * uint16_t, uint32_t, uint64_t and the structs are aligned; a memory that a call may change overlaps no other that is lent to it; and no two
+ * calls run at once on a memory that one of them may change. And each port's packet memory is the same one at every call: that another
+ * port's is lent, or other bytes of the same size, can't be noticed, and then a packet is stored and shown where it isn't looked for.
  *
  * Numbers, and structs of numbers, are the machine's own; the rooms of bytes and the fields of a run are big-endian. So is a state, which
  * holds no pointers: it may be copied, moved and stored as bytes, and is the same on every machine.
@@ -221,7 +221,7 @@ uint64_t vr_size(const struct vr_settings *settings);
     ((ports) < 2 || (ports) > 32 || (queues) < 2 || (queues) > 64 || (nodes) < 1 || (nodes) > 2048 \
          ? 0ul : 4112ul + (ports) * (146ul + (queues) * 20ul + (nodes) * 13ul))
 
-/* Writes the starting ledger for these settings, also over an older one: all nodes are free, arrival credit is the setting credit at every
+/* Writes the starting state for these settings, also over an older one: all nodes are free, arrival credit is the setting credit at every
  * port and queue above 0, outward credit 0, every destination id is mapped to port 0, the last queue counts as the one served last, no port
  * is halted and nothing is counted. So give map entries and outward credit next. Bytes past vr_size(settings) are never changed, by this
  * call or another. The settings stand in the first 16 bytes of a state, two bytes each: ports, queues, nodes, beat, slots, credit, edition,
@@ -293,8 +293,8 @@ uint32_t vr_read_header(uint32_t edition, uint32_t ports, uint32_t queues, const
 
 /* Takes the front of the port's free list, records the header and appends the node to ingress. Writes the entry id. For a queue above 0 the
  * port's arrival credit for the queue falls by the packet's price, and rises by it again when the packet leaves; refused 10 where it is less
- * than the price, or the port is halted (vr_report tells which). Refused 7 or 8, it halts the port: its mark becomes that number if it was
- * 0, and no other byte changes (see vr_report). Refused 24 where packets are kept. */
+ * than the price, or the port is halted (vr_report tells whether it is; its credit may be short as well). Refused 7 or 8, it halts the port:
+ * its mark becomes that number if it was 0, and no other byte changes (see vr_report). Refused 24 where packets are kept. */
 uint32_t vr_arrive(uint8_t *mem, size_t len, uint32_t port, const uint8_t *header, size_t header_len, uint16_t *entry);
 
 /* Takes the oldest ingress node to the egress list of the port that the map names now. Writes ten bytes, big-endian:
@@ -317,9 +317,10 @@ uint32_t vr_credit(uint8_t *mem, size_t len, uint32_t port, uint32_t queue, uint
 /* Lets one packet leave the port, or none if nothing is ready. A queue is ready if a packet is in its slots and, above queue 0, its outward
  * credit is at least the price of the oldest of them. The turn goes to the lowest ready queue above the one that was served last or, if
  * there is none, to the lowest of all: every queue in its turn, queue 0 like any other. Its oldest packet leaves; the price is taken from
- * the outward credit and goes back to the arrival credit of the port where the packet came in, and so does the node. Writes sixteen bytes,
- * big-endian: kind (1: 0 idle, 1 inside, 2 outside), queue (1), entry id (2), length (2), destination id (2), timestamp (4), poisoned (1),
- * transaction id (1), price (2); vr_sent_of reads them. An idle turn writes the kind alone; the other 15 bytes stay. */
+ * the outward credit and goes back to the arrival credit of the port where the packet came in; the node goes to the end of that port's free
+ * list. Writes sixteen bytes, big-endian: kind (1: 0 idle, 1 inside, 2 outside), queue (1), entry id (2), length (2), destination id (2),
+ * timestamp (4), poisoned (1), transaction id (1), price (2); vr_sent_of reads them. An idle turn writes the kind alone; the other 15 bytes
+ * stay. */
 uint32_t vr_turn(uint8_t *mem, size_t len, uint32_t port, uint8_t sent[VR_SENT_BYTES]);
 
 /* What kind of turn it was. */
@@ -373,10 +374,11 @@ struct vr_turned {
  * entry id is that of arrive, prefetch and turn, and of stitch the one in its record; credit and map have none. A field that is refused
  * leaves what its call leaves when it is refused, and the run goes on with the next.
  * The run stops where the fields end (VR_ENDED); at a bad field, which is one of another tag or length or one that is cut off
- * (VR_BAD_FIELD); or at a good field where less than four bytes of room are left (VR_NO_ROOM). A bad field is bad also where no room is left. A setup has no place in a run: tag 1 is bad, whatever its length. Writes to
- * `count` how many fields were done, refused ones among them, and the enum vr_stop to `why`; the field at which it stopped is not done and
- * not counted, so a run may go on from there. The room past the last answer stays. As many bytes of room as of fields are always enough.
- * Refused 3 alone; then nothing is written, count and why neither. So look at the answer first. */
+ * (VR_BAD_FIELD); or at a good field where less than four bytes of room are left (VR_NO_ROOM). A bad field is bad also where no room is
+ * left. A setup has no place in a run: tag 1 is bad, whatever its length. Writes to `count` how many fields were done, refused ones among
+ * them, and the enum vr_stop to `why`; the field at which it stopped is not done and not counted, so a run may go on from there. The room
+ * past the last answer stays. As many bytes of room as of fields are always enough. Refused 3 alone; then nothing is written, count and why
+ * neither. So look at the answer first. */
 uint32_t vr_run(uint8_t *mem, size_t len, const uint8_t *fields, size_t fields_len, uint8_t *answers, size_t answers_len, uint64_t *count,
                 uint32_t *why);
 
@@ -463,8 +465,8 @@ uint32_t vr_bucket(const uint8_t *mem, size_t len, uint32_t port, uint32_t bucke
 
 /* A port that lies is halted: the first arrival there that is refused 7 or 8 marks the port with that number, whatever source the header
  * names, and later ones leave the mark. While the port has a mark, headers and packets that arrive there for a queue above 0 and are right
- * are refused 10, whatever price and credit are (so a 10 has two meanings, which vr_report tells apart); queue 0 goes on, and so do credits,
- * stitches, prefetches and turns. vr_report reads a mark; vr_clear lifts it, and so do vr_setup and vr_repair. */
+ * are refused 10, whatever price and credit are (so a 10 has two meanings; vr_report tells whether the port is halted); queue 0 goes on, and
+ * so do credits, stitches, prefetches and turns. vr_report reads a mark; vr_clear lifts it, and so do vr_setup and vr_repair. */
 
 /* Writes the port's mark: 0 if it isn't halted, else the first refusal that halted it since setup, repair or clear: VR_CHECKSUM or
  * VR_SOURCE, or 18, which no call gives yet. Refused 3, then 4. */
@@ -478,9 +480,9 @@ uint32_t vr_clear(uint8_t *mem, size_t len, uint32_t port);
 /* What is wrong with a memory, whatever it holds; never refused. Writes the first rule of soundness that it breaks, 1 to 7 for (a) to (g)
  * and 9 for (i) (rule 8, (h), is one to come), and the first item that shows it, in the order of docs/FINDINGS.md; 0 and 0 where it is a
  * switch state. That says that every call goes on with it, not that no byte was changed: any number is an outward credit or a bucket.
- * The tool (vr explain) says items in words. So rule 2, item 1 is port 1's last served queue out of range, and rule 9, item 1 port 1's mark, if it is
- * none of 0, 7, 8 and 18. For P ports, Q queues, N nodes a port and L lists, P * (2 * Q + 2), which port by port are the free one, ingress,
- * egress by queue and prefetch by queue:
+ * The tool (vr explain) says items in words. So rule 2, item 1 is port 1's last served queue out of range, and rule 9, item 1 port 1's mark,
+ * if it is none of 0, 7, 8 and 18. For P ports, Q queues, N nodes a port and L lists, P * (2 * Q + 2), which port by port are the free one,
+ * ingress, egress by queue and prefetch by queue:
  *
  *     rule   what it asks, and its items
  *     1 (a)  the settings are in their rows and the memory is long enough
@@ -501,11 +503,11 @@ uint32_t vr_clear(uint8_t *mem, size_t len, uint32_t port);
  *            the port */
 void vr_find(const uint8_t *mem, size_t len, uint32_t *rule, uint64_t *item);
 
-/* Writes the starting ledger for the settings that the memory has, and keeps its map, but for entries above the last port, which become 0:
- * also over a sound ledger. Packets, outward credits, marks and buckets are lost. Refused 3 exactly where rule (a) is broken: a setting not
- * in its row, or memory too short for its settings. Not for an image of before the wide headers: set that up afresh, since its older tables
- * could pass for a map. One of before the marks or the buckets is no state either; in a memory long enough a repair keeps its settings and
- * map. */
+/* Writes the starting state for the settings that the memory has, and keeps its map, but for entries above the last port, which become 0:
+ * also over a sound state. Packets, outward credits, marks and buckets are lost. Refused 3 exactly where rule (a) is broken: a setting not
+ * in its row, or memory too short for its settings. Not for an image of before version 0.15 (the wide headers): set that up afresh, since
+ * its older tables could pass for a map. One of 0.15 or 0.16 (before the buckets) is no state either; in a memory long enough a repair keeps
+ * its settings and map. */
 uint32_t vr_repair(uint8_t *mem, size_t len);
 
 #if defined(__cplusplus) || (defined(__STDC_VERSION__) && __STDC_VERSION__ >= 199901L)

@@ -42,13 +42,13 @@
 //!   queue above 0 may send: give map entries ([`Switch::map`]) and outward credit
 //!   ([`Switch::credit`]).
 //! - An arrival takes a free node of its port ([`Switch::arrive`]). In a queue above 0 it
-//!   costs its length in beats, rounded up, of the port's arrival credit, which comes
-//!   back when the packet leaves.
+//!   costs its length in beats, rounded up, of the port's arrival credit for that queue,
+//!   which comes back when the packet leaves.
 //! - [`Switch::stitch`] takes a port's oldest to the port that the map names now,
 //!   [`Switch::prefetch`] a queue's oldest into its slots.
 //! - [`Switch::turn`] sends one packet: of the lowest ready queue above the one served
-//!   last, else of the lowest of all. Queue 0, for clocks, is free, and takes its turn
-//!   like any other.
+//!   last, else of the lowest of all. Queue 0 is free, and takes its turn like any
+//!   other.
 //! - A header with a wrong checksum or another port's source halts the port where it
 //!   arrives ([`Halt`]), until [`Switch::clear`].
 //!
@@ -56,7 +56,7 @@
 //!
 //! Each call tests that the memory is a state. Many calls pay for one test in a
 //! round ([`Switch::round`]), and in a run: a [`Batch`] of calls, answered in their
-//! order ([`Switch::run`]). Bytes that are to be read alone are a [`View`].
+//! order ([`Switch::run`]). Bytes that are only to be read are a [`View`].
 //!
 //! Switches of four ports and 24 queues may have the older headers of ten bytes
 //! ([`Settings::ten_bytes`]); all else is the same. Such a switch may keep whole

@@ -49,7 +49,7 @@ macro_rules! refusals {
 refusals! {
     ShortMemory = 1, "setup", "memory shorter than its settings need";
     BadSetting = 2, "setup, read_header, write_header", "a setting not in its row";
-    NoState = 3, "all but setup, find, read_header, write_header", "memory is no switch state";
+    NoState = 3, "all but setup, find, read_header, write_header, size", "memory is no switch state";
     NoPort = 4, "all with a port", "port above the last";
     NoQueue = 5, "prefetch, credit, bucket, show", "queue above the last; for credit also 0; for bucket, bucket above 32";
     HeaderSize = 6, "arrive, read_header", "header not of its edition's size";

@@ -72,7 +72,7 @@ pub struct Settings {
     pub beat: u32,
     /// D, prefetch slots per queue: 1 to 8.
     pub slots: u32,
-    /// K, arrival credit per port and queue, in beats: 0 to 65,535.
+    /// K, arrival credit per port and queue above 0, in beats: 0 to 65,535.
     pub credit: u32,
     /// 4 in the edition of ten bytes, else 2 to 32.
     pub ports: u32,
@@ -86,7 +86,8 @@ pub struct Settings {
 
 impl Settings {
     /// Of this form, with the defaults: 256 nodes a port, a beat of 64 bytes, eight
-    /// slots, an arrival credit of 5,000 beats for each queue, and no packets kept.
+    /// slots, an arrival credit of 5,000 beats for each port and queue above 0, and no
+    /// packets kept.
     ///
     /// ```
     /// use ventorupo::{Form, Settings};
@@ -142,7 +143,7 @@ impl Settings {
     }
 
     /// With a beat of so many bytes: 64, 128, 256 or 512. A packet's price is its
-    /// length in beats, rounded up.
+    /// length in beats, rounded up; in queue 0 it is 0.
     ///
     /// ```
     /// assert_eq!(ventorupo::Settings::ten_bytes().beat(512).beat, 512);

@@ -59,9 +59,8 @@ impl<M: AsRef<[u8]> + AsMut<[u8]>> Switch<M> {
         }
     }
 
-    /// Memory that may hold a state. If it holds none, every call but a setup
-    /// and, where the settings are right, a repair is refused 3; [`Switch::find`]
-    /// tells why.
+    /// Memory that may hold a state. If it holds none, every call but a setup and,
+    /// where rule (a) is kept, a repair is refused 3; [`Switch::find`] tells why.
     ///
     /// ```
     /// use ventorupo::{Refusal, Settings, Switch};
@@ -342,7 +341,7 @@ impl<M: AsRef<[u8]> + AsMut<[u8]>> Switch<M> {
 
 /// What is asked of a state: the view's calls.
 impl<M: AsRef<[u8]>> Switch<M> {
-    /// The same state, to be read alone.
+    /// The same state, only to be read.
     ///
     /// ```
     /// use ventorupo::{Settings, Switch};

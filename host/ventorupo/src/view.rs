@@ -11,7 +11,7 @@ use crate::{
     Settings, BUCKETS,
 };
 
-/// Bytes that are read alone and may hold a state: an image from a file, say, or the
+/// Bytes that are only read and may hold a state: an image from a file, say, or the
 /// memory of a switch that another part of the program drives. If they hold none, every
 /// call but [`View::find`] and [`View::memory`] is refused 3.
 ///
