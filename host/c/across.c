@@ -15,7 +15,6 @@
 enum {
     GUARD = 32,        /* bytes around each memory and room that nobody may change */
     PAST = 5,          /* bytes lent past a state */
-    TABLES = 4112,     /* bytes of settings and map, at the start of a state */
     MOST_NODES = 40,
     MOST_STATE = 70000,
     MOST_FIELDS = 24,  /* of a run */
@@ -487,17 +486,51 @@ static void some_call(void)
 
 /* ---- damage ---- */
 
+/* Where a table starts, by docs/LAYOUT.md, so that small tables are met as often as large ones. */
+static uint32_t table(uint32_t which)
+{
+    const uint32_t p = now.ports, lists = p * (2 * now.queues + 2), nodes = p * now.nodes, credits = 2 * p * (now.queues - 1);
+    const uint32_t sizes[] = {16, 4096, p, p, credits, credits, 132 * p, 2 * lists, 2 * lists, 4 * lists,
+                              2 * nodes, 2 * nodes, 4 * nodes, nodes, nodes, nodes, nodes, nodes};
+    uint32_t at = 0;
+    for (uint32_t i = 0; i < which; i++) at += sizes[i];
+    return at;
+}
+
+enum { HEAD = 7, TAIL = 8, COUNT = 9, ALL = 18 };
+
 static void change_byte(void)
 {
-    uint32_t at = below(4) ? TABLES + below((uint32_t)len - TABLES) : below(TABLES);
+    uint32_t which = below(ALL), start = table(which), at = start + below(table(which + 1) - start);
     mem[at] = below(2) ? (uint8_t)draw() : (uint8_t)(mem[at] + 1);
+}
+
+static void swap(uint32_t at, uint32_t with, uint32_t n)
+{
+    for (uint32_t i = 0; i < n; i++) {
+        uint8_t byte = mem[at + i];
+        mem[at + i] = mem[with + i];
+        mem[with + i] = byte;
+    }
+}
+
+/* Two lists change places, with all their nodes: of two ports, or of two kinds or queues. */
+static void swap_lists(void)
+{
+    uint32_t of_port = 2 * now.queues + 2, port = below(now.ports), kind = below(4) ? below(2) : below(of_port);
+    uint32_t a = port * of_port + kind, other_port = below(now.ports), other_kind = below(2) ? kind : below(of_port);
+    uint32_t b = other_port * of_port + other_kind;
+    swap(table(HEAD) + 2 * a, table(HEAD) + 2 * b, 2);
+    swap(table(TAIL) + 2 * a, table(TAIL) + 2 * b, 2);
+    swap(table(COUNT) + 4 * a, table(COUNT) + 4 * b, 4);
 }
 
 /* Bytes of the state change; it is looked into and called; then it is put back or repaired. */
 static void damage(void)
 {
     memcpy(saved, mem, len);
-    for (uint32_t left = 1 + below(3); left; left--) change_byte();
+    if (below(4)) for (uint32_t left = 1 + below(2); left; left--) change_byte();
+    else swap_lists();
     find();
     audit();
     some_call();
