@@ -17,6 +17,8 @@
 //! queue 200).
 
 mod fences;
+#[path = "../../vr/tests/common/fits.rs"]
+mod fits;
 
 use std::os::unix::fs::symlink;
 use std::path::{Path, PathBuf};
@@ -24,6 +26,7 @@ use std::process::{Command, Output};
 use std::{env, fs};
 
 use fences::{parsed, Fence};
+use fits::fits;
 use ventorupo::{Settings, Switch};
 
 include!(concat!(env!("OUT_DIR"), "/snippets.rs"));
@@ -203,21 +206,6 @@ fn commands(session: &str) -> Vec<(String, String)> {
         (line.to_string(), format!("{said}{end}"))
     };
     parts.map(owned).collect()
-}
-
-/// Whether a text is as written, with any lines for each `...`.
-fn fits(text: &str, wanted: &str) -> bool {
-    let (start, rest) = match wanted.split_once("...\n") {
-        Some(parts) => parts,
-        None => return text == wanted,
-    };
-    let behind = match text.strip_prefix(start) {
-        Some(behind) => behind,
-        None => return false,
-    };
-    let ends = behind.match_indices('\n').map(|(end, _)| end + 1);
-    let mut lines = std::iter::once(0).chain(ends);
-    lines.any(|line| fits(&behind[line..], rest))
 }
 
 /// The tool, built if it isn't yet: a test has its own package's programs alone.

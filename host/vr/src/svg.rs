@@ -95,23 +95,32 @@ impl Page {
 
     /// A text at the present line, with attributes of its own or none.
     fn text(&mut self, left: u32, attributes: &str, text: &str) {
-        let (below, text) = (self.below, escaped(text));
-        let space = if attributes.is_empty() { "" } else { " " };
-        self.inner +=
-            &format!("  <text x=\"{left}\" y=\"{below}\"{space}{attributes}>{text}</text>\n");
+        self.inner += &text_at(left, self.below, attributes, text);
     }
 
     fn whole(self) -> String {
-        let (inner, height) = (self.inner, self.below + LINE);
-        format!(
-            "<svg xmlns=\"http://www.w3.org/2000/svg\" role=\"img\" width=\"{WIDTH}\" \
-             height=\"{height}\" viewBox=\"0 0 {WIDTH} {height}\" font-family=\"sans-serif\" \
-             font-size=\"13\" fill=\"{INK}\">\n\
-             \x20 <title>{TITLE}</title>\n\
-             \x20 <rect x=\"0\" y=\"0\" width=\"{WIDTH}\" height=\"{height}\" fill=\"{GROUND}\"/>\n\
-             {inner}</svg>\n"
-        )
+        whole(WIDTH, self.below + LINE, TITLE, &self.inner)
     }
+}
+
+/// A line of text, with attributes of its own or none.
+pub(crate) fn text_at(left: u32, below: u32, attributes: &str, text: &str) -> String {
+    let text = escaped(text);
+    let space = if attributes.is_empty() { "" } else { " " };
+    format!("  <text x=\"{left}\" y=\"{below}\"{space}{attributes}>{text}</text>\n")
+}
+
+/// A picture with a ground of its own, of what is drawn in it.
+pub(crate) fn whole(width: u32, height: u32, title: &str, inner: &str) -> String {
+    let title = escaped(title);
+    format!(
+        "<svg xmlns=\"http://www.w3.org/2000/svg\" role=\"img\" width=\"{width}\" \
+         height=\"{height}\" viewBox=\"0 0 {width} {height}\" font-family=\"sans-serif\" \
+         font-size=\"13\" fill=\"{INK}\">\n\
+         \x20 <title>{title}</title>\n\
+         \x20 <rect x=\"0\" y=\"0\" width=\"{width}\" height=\"{height}\" fill=\"{GROUND}\"/>\n\
+         {inner}</svg>\n"
+    )
 }
 
 /// Of a text that ends where it is put.

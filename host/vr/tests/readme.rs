@@ -1,6 +1,8 @@
 //! The sessions in the README, run.
 
 mod common;
+#[path = "common/fits.rs"]
+mod fits;
 #[path = "common/images.rs"]
 mod images;
 #[path = "common/packets.rs"]
@@ -11,6 +13,7 @@ mod streams;
 use std::process::Command;
 
 use common::{program, Folder, Said};
+use fits::fits;
 use images::{at, bucket, changed};
 use packets::kept;
 use streams::whole_case;
@@ -24,21 +27,6 @@ fn session(number: usize) -> Vec<(String, String)> {
     let parts = commands.map(|part| part.split_once('\n').unwrap());
     let owned = |(line, said): (&str, &str)| (line.to_string(), said.to_string());
     parts.map(owned).collect()
-}
-
-/// Whether a text is as written, with any lines for each `...`.
-fn fits(text: &str, wanted: &str) -> bool {
-    let (start, rest) = match wanted.split_once("...\n") {
-        Some(parts) => parts,
-        None => return text == wanted,
-    };
-    let behind = match text.strip_prefix(start) {
-        Some(behind) => behind,
-        None => return false,
-    };
-    let ends = behind.match_indices('\n').map(|(end, _)| end + 1);
-    let mut lines = std::iter::once(0).chain(ends);
-    lines.any(|line| fits(&behind[line..], rest))
 }
 
 /// A line as a shell has it, in which `vr` may stand behind a pipe too.

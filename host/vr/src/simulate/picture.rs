@@ -3,7 +3,7 @@
 
 use super::night::{Night, Tick};
 use super::text::{heading, span, statements};
-use crate::svg::{broken, escaped};
+use crate::svg::{broken, text_at, whole};
 
 /// The picture's width, in pixels as all that follows.
 const WIDTH: u32 = 800;
@@ -32,8 +32,6 @@ const HALTED: &str = "#f6cfcb";
 /// What left in queue 0, and above it.
 const CLOCK: &str = "#1d4e89";
 const ABOVE: &str = "#9dbfe3";
-const GROUND: &str = "#ffffff";
-const INK: &str = "#1a1a1a";
 const GRID: &str = "#cccccc";
 
 /// The whole picture.
@@ -318,22 +316,10 @@ impl Page<'_> {
 
     /// A text at the present line, with attributes of its own or none.
     fn text(&mut self, left: u32, attributes: &str, text: &str) {
-        let (below, text) = (self.below, escaped(text));
-        let space = if attributes.is_empty() { "" } else { " " };
-        self.inner +=
-            &format!("  <text x=\"{left}\" y=\"{below}\"{space}{attributes}>{text}</text>\n");
+        self.inner += &text_at(left, self.below, attributes, text);
     }
 
     fn whole(self) -> String {
-        let (inner, height) = (self.inner, self.below + LINE);
-        let title = escaped(&title(self.night));
-        format!(
-            "<svg xmlns=\"http://www.w3.org/2000/svg\" role=\"img\" width=\"{WIDTH}\" \
-             height=\"{height}\" viewBox=\"0 0 {WIDTH} {height}\" font-family=\"sans-serif\" \
-             font-size=\"13\" fill=\"{INK}\">\n\
-             \x20 <title>{title}</title>\n\
-             \x20 <rect x=\"0\" y=\"0\" width=\"{WIDTH}\" height=\"{height}\" fill=\"{GROUND}\"/>\n\
-             {inner}</svg>\n"
-        )
+        whole(WIDTH, self.below + LINE, &title(self.night), &self.inner)
     }
 }
