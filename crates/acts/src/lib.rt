@@ -1,6 +1,8 @@
 // The acts without the test, for benchmarks alone: on a memory that is known to be a switch state, each does what the public call does. And
 // the storing of a packet by itself.
 // A caller from C has to know it: these are no part of the public surface.
+#![tactic(auto)]
+
 ghost use Rattle.std.specs.Prelude.{◌≡◌, List, ℕ, ◌+◌, ◌≤◌, length};
 ghost use Rattle.ledger.specs.Settings.{slot_bytes};
 ghost use Rattle.ledger.specs.Buckets.{untimed};

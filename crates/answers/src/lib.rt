@@ -1,4 +1,6 @@
 // The four bytes that tell an answer in lent room: refusal number, 1 if idle, entry id (2) or 0.
+#![tactic(auto)]
+
 ghost use Rattle.std.specs.Prelude.{◌≡◌, ◌++◌, ◌+◌, ◌≤◌, length, take, drop};
 ghost use Rattle.ledger.specs.Answers.{number_of, plain_reply, entry_reply, stitch_reply, turn_reply};
 ghost use Rattle.ledger.specs.Calls.{refused, entry};

@@ -35,9 +35,9 @@ use Rattle.arrivals.specs.Admission.{CanTakeIn}
 
 -- ---- the packet
 
-pub queue_in_lem : (S : Settings) (x : ℕ) (f : Fields) → f.queue < S.queues → (recorded S x f).queue < S.queues
+pub queue_in_range : (S : Settings) (x : ℕ) (f : Fields) → f.queue < S.queues → (recorded S x f).queue < S.queues
 unfolding recorded
-queue_in_lem S x f h = h
+queue_in_range S x f h = h
 
 -- ---- the judge of fields
 
@@ -181,7 +181,7 @@ arrives s m w p h k e =
         laid = w.laid;
         tidy = state_tidy S m w.state;
         port = a.port;
-        queue = rw is (queue_in_lem S (head_of S m (free p)) (fields_of (form S) (bytes_in h)) a.header.queue);
+        queue = rw is (queue_in_range S (head_of S m (free p)) (fields_of (form S) (bytes_in h)) a.header.queue);
         some = counted_some S m (place# S (free p)) inside a.some;
         node = ap (λ (j : Packet). j.node) is;
         afford = rw is a.afford;

@@ -1,4 +1,6 @@
 // Arrive, of a header alone or of a whole packet, on a memory that is a switch state: judged first, then a free node takes the packet in.
+#![tactic(auto)]
+
 ghost use Rattle.std.specs.Prelude.{◌≡◌, List, ℕ};
 ghost use Rattle.crc.specs.Crc.{Steps};
 ghost use Rattle.ledger.specs.Header.{form};
@@ -20,7 +22,7 @@ use layout::Shape;
 use ledger::{Entry, EntryId, Load, Refusal, Sent, Verdict};
 
 // What the judge of an arrival says: the packet to record, or the refusal.
-#[derive(Drop)]
+#[derive(Clone, Copy)]
 pub enum Admitted {
     Good(Sent),
     No(Refusal),

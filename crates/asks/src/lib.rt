@@ -1,5 +1,7 @@
 // What the fields of a run ask, one after another (paper 02, Q-10): the bench's calls, of which setup is bad, and an arrival whose header has
 // the switch's own size.
+#![tactic(auto)]
+
 ghost use Rattle.std.specs.Prelude.{◌≡◌, List, ℕ, ◌+◌, ◌≤◌, length};
 ghost use Rattle.fields.specs.Orders.{header_in, call_in, Keeps};
 ghost use Rattle.memory.specs.Runs.{of_call, of_bench, is_own, whole_asked, asked_at};
@@ -8,7 +10,7 @@ ghost use Rattle.asks.specs.Asks.{ask_of, Within, Stands};
 use fields::{Field, Order, Read};
 
 // One call of a run. An arrival's header is the size bytes from at on.
-#[derive(Drop)]
+#[derive(Clone, Copy)]
 pub enum Task {
     Arrive { port: u32, at: usize, size: usize },
     Stitch { port: u32 },
@@ -19,7 +21,7 @@ pub enum Task {
 }
 
 // What is asked at a place: a call, with the place past its field; a field that is bad; or the fields have ended.
-#[derive(Drop)]
+#[derive(Clone, Copy)]
 pub enum Asked {
     Call { task: Task, next: usize },
     Bad,

@@ -1,5 +1,7 @@
 // The night crew's audit, on a memory that is a switch state: one walk of the lists, in which each node that is met writes its place at its
 // own eight bytes of a lent room.
+#![tactic(auto)]
+
 ghost use Rattle.std.specs.Prelude.{◌≡◌, List, ℕ, ◌+◌, ◌≤◌, length};
 ghost use Rattle.ledger.specs.Answers.{kind_of, plain_reply};
 ghost use Rattle.ledger.specs.Calls.{Reply};

@@ -1,4 +1,6 @@
 // The bench: reads tagged fields from standard input, carries each out on a memory of its own, and writes a line for each.
+#![tactic(auto)]
+
 mod lines;
 
 ghost use Rattle.std.specs.Prelude.{◌≡◌, ◌≤◌, take};
@@ -11,7 +13,7 @@ use input::Input;
 use orders::Said;
 
 // How a run stands: what is read of the input, how many bytes wait to be written, and whether the run goes on.
-#[derive(Drop)]
+#[derive(Clone, Copy)]
 struct Progress {
     input: Input,
     waiting: usize,

@@ -1,5 +1,7 @@
 // The C interface (include/ventorupo.h): each call answers 0 or the number of a refusal, and writes its answer into lent room. What it
 // answers and leaves, for any memory and any numbers, is read off the reply of M by the definitions of the crate rooms.
+#![tactic(auto)]
+
 ghost use Rattle.std.specs.Prelude.{◌≡◌, List, [], ◌∷◌, ℕ};
 ghost use Rattle.std.proofs.Math.ListN as ln;
 ghost use Rattle.ledger.specs.Header.{alone};

@@ -1,5 +1,7 @@
 // The run for C (include/ventorupo.h). It is a library by itself, which is put into the archive beside `capi`: here each act has one caller, so
 // the compiler makes one loop of the run and what it calls.
+#![tactic(auto)]
+
 ghost use Rattle.std.specs.Prelude.{◌≡◌, List, ℕ};
 ghost use Rattle.ledger.specs.Answers.{number_of};
 ghost use Rattle.memory.specs.Runs.{run_on};

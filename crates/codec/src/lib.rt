@@ -1,4 +1,6 @@
 // What a header says, as the reader hands it back and the writer is handed it.
+#![tactic(auto)]
+
 ghost use Rattle.std.specs.Prelude.{◌≡◌, ◌-◌, ◌*◌, ◌^◌, ◌<◌, ltb};
 ghost use Rattle.numbers.specs.Fields.{pack, fitting, Fit};
 ghost use Rattle.ledger.specs.Header.{widths};
@@ -15,7 +17,7 @@ use header::{HeaderFields, Judged};
 use ledger::{Plain, Refusal};
 
 // A label: numbers of any size.
-#[derive(Drop)]
+#[derive(Clone, Copy)]
 pub struct Label {
     pub destination: u32,
     pub source: u32,
@@ -28,14 +30,14 @@ pub struct Label {
 }
 
 // The reader's answer.
-#[derive(Drop)]
+#[derive(Clone, Copy)]
 pub enum HeaderRead {
     Label(Label),
     No(Refusal),
 }
 
 // The writer's answer: so many bytes of the twelve are the header, and zeros follow it; none where it is refused.
-#[derive(Drop)]
+#[derive(Clone, Copy)]
 pub struct Written {
     pub answer: Plain,
     pub size: u32,

@@ -1,4 +1,6 @@
 // Credit, on a memory that is a switch state: judged first, then a single number is written.
+#![tactic(auto)]
+
 ghost use Rattle.std.specs.Prelude.{◌≡◌, List, ℕ};
 ghost use Rattle.ledger.specs.Answers.{plain_reply};
 ghost use Rattle.ledger.specs.Calls.{Reply, credit};

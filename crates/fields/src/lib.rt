@@ -1,11 +1,13 @@
 // The tagged fields of a bench run, read from bytes: a tag, the length of its value, and the value; and the call that each tells.
+#![tactic(auto)]
+
 ghost use Rattle.std.specs.Prelude.{◌≡◌, ◌+◌, ◌≤◌, length};
 ghost use Rattle.numbers.specs.Bytes.{number};
 ghost use Rattle.fields.specs.Field.{field_at};
 ghost use Rattle.fields.specs.Calls.{setup_at, credit_at, size_of, call_of, whole_told, order_at};
 
 // What stands at a place of the bytes.
-#[derive(Drop)]
+#[derive(Clone, Copy)]
 pub enum Field {
     // A whole field: its value is the len bytes from start on, and next is past it.
     Whole {
@@ -21,7 +23,7 @@ pub enum Field {
 }
 
 // A call with its arguments. An arrival's header is the ten bytes from at on.
-#[derive(Drop)]
+#[derive(Clone, Copy)]
 pub enum Order {
     Setup {
         nodes: u32,
@@ -55,7 +57,7 @@ pub enum Order {
 }
 
 // What is read at a place: a call and the place past its field, a field that tells none, or the end.
-#[derive(Drop)]
+#[derive(Clone, Copy)]
 pub enum Read {
     Call { order: Order, next: usize },
     Bad,

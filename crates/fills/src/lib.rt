@@ -1,4 +1,6 @@
 // The bytes of a new state, written table by table.
+#![tactic(auto)]
+
 ghost use Rattle.std.specs.Prelude.{◌≡◌, ◌++◌, ◌-◌, ◌*◌, ◌^◌, ◌<◌, ◌≤◌, length, drop, replicate};
 ghost use Rattle.ledger.specs.Settings.{setting_count, row};
 ghost use Rattle.layout.specs.declared.Table.TheVariants.{Setting, Last, Count};
@@ -9,7 +11,7 @@ ghost use Rattle.fills.specs.Fills.{along, Room, Fillable, freed};
 use layout::{Shape, Table};
 
 // Numbers at even steps.
-#[derive(Drop)]
+#[derive(Clone, Copy)]
 struct Line {
     pub first: usize,
     pub step: usize,

@@ -66,8 +66,8 @@ module _ (m : List ℕ) where
   none_before : Before 1
   none_before q h = absurd (omega (arith, (numbered q).low))
 
-  one_more_lem : (r : Letter) → Before (letter# r) → Holds r m → Before (suc (letter# r))
-  one_more_lem r b h q l = go (ℕ_discrete (letter# q) (letter# r))
+  is_one_more : (r : Letter) → Before (letter# r) → Holds r m → Before (suc (letter# r))
+  is_one_more r b h q l = go (ℕ_discrete (letter# q) (letter# r))
     where
       go : Dec (letter# q ≡ letter# r) → Holds q m
       go (yes e) = subst (λ (s : Letter). Holds s m) (sym (letter_one q r e)) h
@@ -112,7 +112,7 @@ module _ (m : List ℕ) where
   -- a rule is broken where something is found, and the next are asked where nothing is
   ask : (r : Letter) (f : Finding) (rule : ℕ → Broken) (next : Broken) → ((i : ℕ) → Finds r i m → Means (rule i) m) → Before (letter# r)
       → (f ≡ whole → Holds r m) → ((i : ℕ) → f ≡ At i → FirstItem r m i) → (Before (suc (letter# r)) → Means next m) → Means (or_next f rule next) m
-  ask r whole rule next says b means item rest = rest (one_more_lem r b (means refl))
+  ask r whole rule next says b means item rest = rest (is_one_more r b (means refl))
   ask r (At i) rule next says b means item rest = says i (record { before = b; broken = item_shows m r i b (item i refl); first = item i refl })
 
   -- (h) is not asked yet
@@ -172,7 +172,7 @@ module _ (m : List ℕ) where
   finding_means = go (opens m) refl
     where
       go : (b : Bool) → opens m ≡ b → Means (cond b (open_broken (settings_in m) m) (A (out_at m))) m
-      go true e = from_b e (one_more_lem rule_a none_before e)
+      go true e = from_b e (is_one_more rule_a none_before e)
       go false e = a_first e
 
   -- ---- and the words leave no choice

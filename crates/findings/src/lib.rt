@@ -1,1 +1,3 @@
 // What a finding means: definitions and theorems, nothing runs.
+#![tactic(auto)]
+

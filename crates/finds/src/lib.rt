@@ -1,4 +1,6 @@
 // Where a node stands, on a memory that is a switch state: the lists are walked by their links until it is met.
+#![tactic(auto)]
+
 ghost use Rattle.std.specs.Prelude.{◌≡◌};
 ghost use Rattle.ledger.specs.Answers.{where_reply};
 ghost use Rattle.ledger.specs.Calls.{where_is};
@@ -14,14 +16,14 @@ use layout::{Shape, Table};
 use ledger::{EntryId, Refusal, Whereabouts};
 
 // What the walk of a list finds: the node's position, or that it isn't there.
-#[derive(Drop)]
+#[derive(Clone, Copy)]
 enum Step {
     At(u16),
     NotThere,
 }
 
 // What the search of all lists finds: the list's number, with the position in it.
-#[derive(Drop)]
+#[derive(Clone, Copy)]
 enum Spot {
     In(usize, u16),
     Nowhere,

@@ -53,7 +53,7 @@ tested_proper S m x e =
     record {
       len_low = leb_yes (least_length (form S)) k.len (and_left _ _ len);
       len_high = ltb_yes k.len (2 ^ 13) (and_left _ _ high);
-      queue_in_lem = ltb_yes k.queue S.queues (and_left _ _ queue);
+      queue_in_range = ltb_yes k.queue S.queues (and_left _ _ queue);
       dest_in = ltb_yes k.dest (2 ^ (form S).port_bits) (and_left _ _ dest);
       stamp_in = get_lt S m Stamp (slot S x);
       poisoned_in = ltb_yes k.poisoned 2 (and_right (ltb k.dest (2 ^ (form S).port_bits)) _ dest);
@@ -67,7 +67,7 @@ proper_tested S k p =
     rw (
       leb_is (least_length (form S)) k.len p.len_low,
       ltb_is k.len (2 ^ 13) p.len_high,
-      ltb_is k.queue S.queues p.queue_in_lem,
+      ltb_is k.queue S.queues p.queue_in_range,
       ltb_is k.dest (2 ^ (form S).port_bits) p.dest_in,
       ltb_is k.poisoned 2 p.poisoned_in,
       eqb_is k.price (price S.beat k.queue k.len) p.price_is,

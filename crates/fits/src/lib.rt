@@ -1,5 +1,7 @@
 // Rules (d), (e) and (f) of a switch state: what each asks of a node, whatever the lists are; and on memory whose lists hang together, the
 // first node that fails one of them.
+#![tactic(auto)]
+
 ghost use Rattle.std.specs.Prelude.{◌≡◌, ◌-◌, ◌^◌, ◌≤◌, ◌<◌, eqb};
 ghost use Rattle.ledger.specs.Header.{price as priceOf};
 ghost use Rattle.layout.specs.Tables.{lists, settings_of, Laid};
@@ -11,7 +13,7 @@ use layout::{Shape, Table};
 use ledger::{EntryId, Finding};
 
 // Which of the three rules is tested.
-#[derive(Drop)]
+#[derive(Clone, Copy)]
 pub enum NodeRule {
     OwnPort,
     OwnQueue,
@@ -80,7 +82,7 @@ fn fair(beat: u32, queue: u32, len: u32, price: u32) -> bool
 }
 
 // What the memory has of a node's record, by its element, of the fields that can be out of range.
-#[derive(Drop)]
+#[derive(Clone, Copy)]
 pub struct Note {
     pub len: u16,
     pub queue: u8,

@@ -1,11 +1,13 @@
 // The form of a header: how wide its fields are in a switch of an edition, so many ports and so many queues. Computed here and nowhere else.
+#![tactic(auto)]
+
 ghost use Rattle.std.specs.Prelude.{◌≡◌, ◌≤◌};
 ghost use Rattle.ledger.specs.Header.{width_of, form_of};
 ghost use Rattle.forms.specs.Formed.{Forms, offer_of};
 
 // The bits of a port and of a queue, the bytes of the credit on offer; the bytes of the front, the zeros to spare at its end, and the bytes
 // of the header.
-#[derive(Drop)]
+#[derive(Clone, Copy)]
 pub struct HeaderForm {
     pub port: u32,
     pub queue: u32,

@@ -1,4 +1,6 @@
 // The switch's geometry: which element of its tables a node, a list, a credit or a bucket has. It is said here and nowhere else.
+#![tactic(auto)]
+
 ghost use Rattle.std.specs.Prelude.{◌≡◌, ◌+◌, ◌-◌, ◌*◌};
 ghost use Rattle.ledger.specs.Settings.{row};
 ghost use Rattle.ledger.specs.Ledger.{is_node, free, ingress, egress, prefetched, place#, place_of, cell};

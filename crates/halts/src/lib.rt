@@ -1,5 +1,7 @@
 // Halt a port that lies (paper 02, Q-9): the mark that a refused arrival leaves at its port, whom a halt turns away, clear and report; and
 // rule (i), which marks a state may have.
+#![tactic(auto)]
+
 ghost use Rattle.std.specs.Prelude.{◌≡◌, List, ℕ, ◌<◌};
 ghost use Rattle.ledger.specs.Ledger.{mark_of};
 ghost use Rattle.ledger.specs.Halt.{halts, is_mark, marks, held_up};

@@ -1,5 +1,7 @@
 // A header of any form, alone or in front of a whole packet: its fields read from bytes, its own refusals, its price. The ten-byte header is
 // one of the forms.
+#![tactic(auto)]
+
 ghost use Rattle.std.specs.Prelude.{◌≡◌, List, ℕ, ◌+◌, ◌^◌, ◌<◌, ◌≤◌, length};
 ghost use Rattle.numbers.specs.Bytes.{number};
 ghost use Rattle.numbers.specs.Fields.{bits, unpack};
@@ -16,7 +18,7 @@ use forms::HeaderForm;
 use ledger::{Load, Refusal};
 
 // The fields of a header, the front's six and then a field for each run of whole bytes.
-#[derive(Drop)]
+#[derive(Clone, Copy)]
 pub struct HeaderFields {
     pub dest: u8,
     pub source: u8,
@@ -31,7 +33,7 @@ pub struct HeaderFields {
 }
 
 // The first six of them.
-#[derive(Drop)]
+#[derive(Clone, Copy)]
 struct Front {
     dest: u8,
     source: u8,
@@ -42,14 +44,14 @@ struct Front {
 }
 
 // What reading some bytes as a header finds.
-#[derive(Drop)]
+#[derive(Clone, Copy)]
 pub enum Parsed {
     Header(HeaderFields),
     WrongSize,
 }
 
 // A header that has none of its own faults, or the first that it has.
-#[derive(Drop)]
+#[derive(Clone, Copy)]
 pub enum Judged {
     Good(HeaderFields),
     No(Refusal),

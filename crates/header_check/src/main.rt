@@ -1,6 +1,8 @@
 // Judges ten-byte headers in a switch of 24 queues and prints a line for each: the refusal's number, or 0 and then destination, source,
 // queue, length, poisoned, timestamp and transaction. Then writes and reads headers of other forms: for each a line with the refusal's
 // number, or 0 and the header's bytes, and one with the refusal's number, or 0 and the label.
+#![tactic(auto)]
+
 use codec::{HeaderRead, Label};
 use header::{HeaderFields, Judged};
 use ledger::{Load, Plain};

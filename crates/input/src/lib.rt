@@ -1,4 +1,6 @@
 // Standard input by way of a buffer, in which a field of the right length always stands whole.
+#![tactic(auto)]
+
 ghost use Rattle.std.specs.Prelude.{◌≡◌, ◌-◌, ◌≤◌, length, take};
 ghost use Rattle.input.specs.Inputs.{unread, Kept};
 
@@ -6,7 +8,7 @@ ghost use Rattle.input.specs.Inputs.{unread, Kept};
 const LONGEST: usize = 14;
 
 // The bytes from place from up to place to of the buffer are read and not used yet; and whether the input ended.
-#[derive(Drop)]
+#[derive(Clone, Copy)]
 pub struct Input {
     pub from: usize,
     pub to: usize,

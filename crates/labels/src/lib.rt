@@ -1,5 +1,7 @@
 // What the reader's and the writer's answers leave in the rooms that a caller of C lends: struct vr_header, eight numbers, and the twelve bytes
 // of a header with their count.
+#![tactic(auto)]
+
 ghost use Rattle.std.specs.Prelude.{◌≡◌, List, ℕ, ◌≤◌, length};
 ghost use Rattle.ledger.specs.Answers.{number_of};
 ghost use Rattle.codec.specs.Label.{label_in};

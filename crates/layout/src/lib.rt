@@ -1,4 +1,6 @@
 // The state in lent bytes: a row of tables. A Shape holds what the settings fix, so that a call computes it once.
+#![tactic(auto)]
+
 ghost use Rattle.std.specs.Prelude.{◌≡◌, ◌+◌, ◌-◌, ◌*◌, ◌^◌};
 ghost use Rattle.ledger.specs.Settings.{row, size};
 ghost use Rattle.ledger.specs.Header.{form, least_length};
@@ -9,7 +11,7 @@ ghost use Rattle.layout.specs.Access.{Reads, Made};
 
 use settings::Settings;
 
-#[derive(Drop)]
+#[derive(Clone, Copy)]
 pub enum Table {
     Setting,
     Mapped,
@@ -33,7 +35,7 @@ pub enum Table {
 
 // The settings, and what follows from them: how many lists a port has, how many credit cells, lists and nodes there are, where three tables
 // start, the least length of a packet, and how many destinations a header can name.
-#[derive(Drop)]
+#[derive(Clone, Copy)]
 pub struct Shape {
     pub ports: usize,
     pub queues: usize,

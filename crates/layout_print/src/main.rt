@@ -1,4 +1,6 @@
 // Prints where each table starts and how many bytes a state takes, for seven node counts, one to a line.
+#![tactic(auto)]
+
 ghost use Rattle.std.specs.Prelude.{◌≤◌};
 ghost use Rattle.layout.specs.Tables.{Laid};
 

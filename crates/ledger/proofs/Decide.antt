@@ -110,14 +110,14 @@ module _ (S : Settings) where
       (λ t. record {
         len_low = t.0;
         len_high = t.1.0;
-        queue_in_lem = t.1.1.0;
+        queue_in_range = t.1.1.0;
         dest_in = t.1.1.1.0;
         stamp_in = t.1.1.1.1.0;
         poisoned_in = t.1.1.1.1.1.0;
         transaction_in = t.1.1.1.1.1.1.0;
         price_is = t.1.1.1.1.1.1.1;
       })
-      (λ r. (r.len_low, (r.len_high, (r.queue_in_lem, (r.dest_in, (r.stamp_in, (r.poisoned_in, (r.transaction_in, r.price_is))))))))
+      (λ r. (r.len_low, (r.len_high, (r.queue_in_range, (r.dest_in, (r.stamp_in, (r.poisoned_in, (r.transaction_in, r.price_is))))))))
       (and_dec (dec_le (least_length (form S)) k.len)
       (and_dec (dec_lt k.len (2 ^ 13))
       (and_dec (dec_lt k.queue S.queues)

@@ -280,7 +280,7 @@ module _ (S : Settings) (p : ℕ) (ys : List ℕ) (N : Ledger) (b : Behind p N (
       let k : Packet = arriving S N p h in
       let no' : ℕ → Reply × Ledger = λ n. (refused n, on_refusal S n (arrive p h) N) in
       let out : Reply × Ledger = result S N (arrive p h) in
-      let goes : held_up k.queue (mark_of N p) ≡ false = ⊎_elim (λ e. rw e a.goes_on) (λ e. rw e (not_held k.queue)) b.low in
+      let goes : held_up k.queue (mark_of N p) ≡ false = ⊎_elim (λ e. rw e a.is_going_on) (λ e. rw e (not_held k.queue)) b.low in
       let pays : ltb (arrival_of S N p k.queue) k.price ≡ false = ltb_not (arrival_of S N p k.queue) k.price a.afford in
       guard_after (sound_rules S p h) (last_rules S N p k) no' out (comes_clear S p h a.sound)
       ∙ cleared (last_rules S N p k) no' out (rw (goes, pays), (a.some, tt))

@@ -247,7 +247,7 @@ module _ (S : Settings) (roomy : Roomy S) (L : Ledger) (s : Orderly S L) where
     credited q v kq r (suc t) ht = ⊎_elim (λ h. inl (owing h)) (λ h. inr (clear h)) (owes_cases k r (suc t))
       where
         hq : q < S.queues
-        hq = omega (arith, good.queue_in_lem)
+        hq = omega (arith, good.queue_in_range)
 
         owing : (own ≡ r) × (k.queue ≡ suc t) × (owes r (suc t) k ≡ k.price)
             → (arrival_of S (put_credit arrival S own q v L) r (suc t) ≡ v) × (owes r (suc t) k ≡ k.price) × (arrival_of S L r (suc t) ≡ arrival_of S L own q)

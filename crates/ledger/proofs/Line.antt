@@ -81,7 +81,7 @@ pub stitch_in : (S : Settings) (ok : Roomy S) (L : Ledger) → Orderly S L → (
     → (k : Packet) → k ≡ first_of S L (ingress r) → PlaceIn S (egress (map_of L k.dest) k.queue)
 stitch_in S ok L s r hr e k first =
     let f = rw (← first) at (first_fits S ok L s (ingress r) (hr, some_queue S ok L s) e).2 in
-    (s.ranges.numbers_in mapped k.dest (dest_mapped S ok k.dest f.dest_in), f.queue_in_lem)
+    (s.ranges.numbers_in mapped k.dest (dest_mapped S ok k.dest f.dest_in), f.queue_in_range)
 
 module _ (S : Settings) (ok : Roomy S) (p q : ℕ) (hp : p < S.ports) (hq : q < S.queues) where
   -- the slots of our queue, and its egress list

@@ -97,9 +97,9 @@ module _ (S : Settings) (ok : Roomy S) (L : Ledger) (s : Orderly S L) (p : ℕ) 
   mine : ℕ → ℕ → Packet → ℕ
   mine n l k = bit (eqb (owner k.node) p && ltb (index k.node) n)
 
-  one_more_lem : (n : ℕ) → n < 2048 → (l : ℕ) (k : Packet) → mine (suc n) l k ≡ mine n l k + one (entry_id p n) l k
+  is_one_more : (n : ℕ) → n < 2048 → (l : ℕ) (k : Packet) → mine (suc n) l k ≡ mine n l k + one (entry_id p n) l k
   unfolding mine
-  one_more_lem n h l k = go (ℕ_discrete (owner k.node) p) (ℕ_discrete (index k.node) n) (dec_le (suc (index k.node)) n)
+  is_one_more n h l k = go (ℕ_discrete (owner k.node) p) (ℕ_discrete (index k.node) n) (dec_le (suc (index k.node)) n)
     where
       y : ℕ
       y = k.node
@@ -134,7 +134,7 @@ module _ (S : Settings) (ok : Roomy S) (L : Ledger) (s : Orderly S L) (p : ℕ) 
       node_is S (entry_id p n) (record { home = rw (row_div 2048 p n few) hp; low = rw (row_mod 2048 p n few) h }) in
       omega (
         arith,
-        weigh_cong (mine (suc n)) (λ l k. mine n l k + one (entry_id p n) l k) L.lists (every (one_more_lem n few)),
+        weigh_cong (mine (suc n)) (λ l k. mine n l k + one (entry_id p n) l k) L.lists (every (is_one_more n few)),
         weigh_plus (mine n) (one (entry_id p n)) L.lists,
         counted_up n (omega arith),
         s.once (entry_id p n),
@@ -216,7 +216,7 @@ module _ {X : Type 0} (call : X → Call → Reply × X) (shows : X → Desk) (l
       record {
         ledger = o.ledger;
         shown = o.shown;
-        in_order = o.in_order;
+        is_in_order = o.is_in_order;
         own = All-ids (λ y. owner y ≡ p) (list_at S o.ledger (free p)) (home_only S ok o.ledger t p hp);
         whole = rw (length-map (list_at S o.ledger (free p)) (λ (k : Packet). k.node)) (free_and_away S ok o.ledger t p hp);
       }

@@ -169,7 +169,7 @@ module _ (S : Settings) (ok : Roomy S) (L : Ledger) (s : Orderly S L) where
       (moved (ingress p) (egress to k.queue) v_in (
         s.ranges.numbers_in mapped k.dest
             (dest_mapped S ok k.dest f.2.dest_in),
-        f.2.queue_in_lem,
+        f.2.queue_in_range,
       ) c.1.0
       (λ i. let z : ◌≡◌ {A = ℕ} 0 1 = cc in omega arith) k refl)
   result_moved (prefetch p q) c =
@@ -246,7 +246,7 @@ module _ {X : Type 0} (call : X → Call → Reply × X) (shows : X → Desk) (l
       record {
         ledger = run S L (acts_in cs);
         shown = calls_show call shows long faithful S x L e cs f;
-        in_order = line_means (ids_at S L u) (ids_at S (run S L (acts_in cs)) u) (came_to u cs rs) (left_from u cs rs) (in_line u hu x L e s cs f);
+        is_in_order = line_means (ids_at S L u) (ids_at S (run S L (acts_in cs)) u) (came_to u cs rs) (left_from u cs rs) (in_line u hu x L e s cs f);
       }
 
 pub desk_keeps_order : (n : ℕ) (S : Settings) → Roomy S → (L : Ledger) → Orderly S L → (u : Place) → PlaceIn S u

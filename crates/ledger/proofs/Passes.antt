@@ -129,7 +129,7 @@ pub record Admits (S : Settings) (L : Ledger) (p : ℕ) (h : Load) : Type 0 wher
   pub sound : Comes S p h
   pub port : p < S.ports
   pub header : Passes (form S) S.queues p h
-  pub goes_on_lem : held_up (arriving S L p h).queue (mark_of L p) ≡ false
+  pub is_going_on : held_up (arriving S L p h).queue (mark_of L p) ≡ false
   pub afford : (arriving S L p h).price ≤ arrival_of S L p (arriving S L p h).queue
   pub some : is_empty (list_at S L (free p)) ≡ false
 
@@ -144,7 +144,7 @@ admits S L p h c =
       sound = first;
       port = first.port;
       header = first.header;
-      goes_on_lem = or_left held dear last.0;
+      is_going_on = or_left held dear last.0;
       afford = ltb_no (arrival_of S L p k.queue) k.price (or_right held dear last.0);
       some = last.1.0;
     }

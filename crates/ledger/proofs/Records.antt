@@ -216,7 +216,7 @@ module _ (S : Settings) (ok : Roomy S) (P : Packet → Type 0) (L : Ledger) (s :
         moved (ingress p) (egress (map_of L k.dest) k.queue) v_in (
           s.ranges.numbers_in mapped k.dest
               (dest_mapped S ok k.dest fits.2.dest_in),
-          fits.2.queue_in_lem,
+          fits.2.queue_in_range,
         ) k f
         (λ z. f k tt (first_holds (ingress p) v_in c.1.0 refl))
     result_holds (prefetch p q) c f g =

@@ -125,7 +125,7 @@ module _ (S : Settings) (roomy : Roomy S) where
       record {
         len_low = good.long;
         len_high = f.len;
-        queue_in_lem = good.queue;
+        queue_in_range = good.queue;
         dest_in = f.dest;
         stamp_in = f.stamp;
         poisoned_in = f.poisoned;
@@ -178,7 +178,7 @@ module _ (S : Settings) (roomy : Roomy S) where
         let v_in : PlaceIn S (ingress p) = (hp, some_queue S roomy L s) in
         let f = first_fits S roomy L s (ingress p) v_in e in
         keep_moved S roomy L s (ingress p) v_in e (egress (map_of L k.dest) k.queue)
-        (s.ranges.numbers_in mapped k.dest (dest_mapped S roomy k.dest f.2.dest_in), f.2.queue_in_lem) k refl
+        (s.ranges.numbers_in mapped k.dest (dest_mapped S roomy k.dest f.2.dest_in), f.2.queue_in_range) k refl
         (λ i. let z : ◌≡◌ {A = ℕ} 0 1 = cc in omega arith)
         (λ a b i. absurd (let z : ◌≡◌ {A = ℕ} 0 1 = cc in omega arith))
         (tt, refl, f.2)

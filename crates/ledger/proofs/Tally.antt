@@ -42,7 +42,7 @@ ticked_once S L long time p hp k =
       same_lists = unfold change in refl;
       same_numbers = λ c n. change_other buckets (λ xs. set xs i v) L c (λ e. n (sym e));
       other_buckets = λ j n. rw here (get_or-set_other (L.numbers buckets) i j v 0 n);
-      one_more = rw here (get_or-set_same (L.numbers buckets) i v 0 (omega (arith, long, bucket_lt S p b hp (bucket_in (wait_of time k.stamp)))));
+      is_one_more = rw here (get_or-set_same (L.numbers buckets) i v 0 (omega (arith, long, bucket_lt S p b hp (bucket_in (wait_of time k.stamp)))));
     }
 
 -- ---- sending is as before

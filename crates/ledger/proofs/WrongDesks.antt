@@ -89,19 +89,19 @@ module _ (S : Settings) (L : Ledger) (r : ℕ) (hr : r < S.ports) (ahead : List 
   nothing_changed [] D = refl
   nothing_changed (c ∷ cs) D = nothing_changed cs D
 
-  one_more_lem : (n : ℕ) → did (suc n) ≡ whole_round S ∷ did n
-  one_more_lem n =
+  is_one_more : (n : ℕ) → did (suc n) ≡ whole_round S ∷ did n
+  is_one_more n =
       let fits = ltb_not (4 * S.ports) (4 * S.ports) (omega arith) in
       rw (fits, nothing_changed (map act (round_acts S)) (has S L))
 
   all_rounds : (n : ℕ) → rounds_in (did n) ≡ n
   all_rounds zero = refl
-  all_rounds (suc n) = ap rounds_in (one_more_lem n) ∙ ap (λ (i : ℕ). 1 + i) (all_rounds n) ∙ omega arith
+  all_rounds (suc n) = ap rounds_in (is_one_more n) ∙ ap (λ (i : ℕ). 1 + i) (all_rounds n) ∙ omega arith
 
   all_acts : (n : ℕ) → SetupsRefused alike (has S L) (calls_of (did n))
   all_acts zero = tt
   all_acts (suc n) =
-      subst (λ (ds : List Carried). SetupsRefused alike (has S L) (calls_of ds)) (sym (one_more_lem n))
+      subst (λ (ds : List Carried). SetupsRefused alike (has S L) (calls_of ds)) (sym (is_one_more n))
       (no_setups alike (round_acts S) (calls_of (did n)) (has S L)
       (rw (nothing_changed (map act (round_acts S)) (has S L)) (all_acts n)))
 
@@ -158,7 +158,7 @@ oldest_free (has S L) = get_or (ids_at S L (free 0)) 0 0
 pub order_turned_round : (n : ℕ) → KeepsOrder (turns_round n) (λ D. D) two (start two) (free 0) (has two (start two)) (act (ready 0) ∷ []) → ⊥
 unfolding oldest_free start row place#
 order_turned_round n k =
-    let e : ◌≡◌ {A = ℕ} 1 0 = ap oldest_free k.shown ∙ ap (λ (xs : List ℕ). get_or xs 0 0) k.in_order.stays_behind in
+    let e : ◌≡◌ {A = ℕ} 1 0 = ap oldest_free k.shown ∙ ap (λ (xs : List ℕ). get_or xs 0 0) k.is_in_order.stays_behind in
     omega arith
 
 -- ---- what is recorded goes along: a desk that sends a packet which never came
@@ -175,7 +175,7 @@ leaks n D c = ((desk n D c).0, relisted (cond (is_refused (desk n D c).0) (pop 0
 pub pool_leaked : (n : ℕ) → PoolKept (leaks n) (λ D. D) two (start two) 0 (has two (start two)) (act (arrive 0 (alone [])) ∷ []) → ⊥
 unfolding oldest_free start row place# pop on_refusal marked_for halts marks width_of form_of front_bits front_bytes body_size header_size lib.Count.count_leading_zeros
 pool_leaked n k =
-    let e : ◌≡◌ {A = ℕ} 1 0 = ap oldest_free k.shown ∙ ap (λ (xs : List ℕ). get_or xs 0 0) k.in_order.stays_behind in
+    let e : ◌≡◌ {A = ℕ} 1 0 = ap oldest_free k.shown ∙ ap (λ (xs : List ℕ). get_or xs 0 0) k.is_in_order.stays_behind in
     omega arith
 
 -- and had port 0's refused arrival never been sent, it would have that node: more than its mark differs

@@ -50,7 +50,7 @@ pub record PoolKept {X : Type 0} (call : X → Call → Reply × X) (shows : X �
     (x : X) (cs : List Call) : Type 0 where
   pub ledger : Ledger
   pub shown : shows (after_calls call x cs) ≡ has S ledger
-  pub in_order_lem : FirstInFirstOut (ids_at S L (free p)) (came_to (free p) cs (answers_of call x cs)) (left_from (free p) cs (answers_of call x cs))
+  pub is_in_order : FirstInFirstOut (ids_at S L (free p)) (came_to (free p) cs (answers_of call x cs)) (left_from (free p) cs (answers_of call x cs))
       (ids_at S ledger (free p))
   pub own : All (λ y. owner y ≡ p) (ids_at S ledger (free p))
   pub whole : length (ids_at S ledger (free p)) + away_from S ledger p ≡ S.nodes

@@ -104,7 +104,7 @@ pub record KeepsOrder {X : Type 0} (call : X → Call → Reply × X) (shows : X
     (x : X) (cs : List Call) : Type 0 where
   pub ledger : Ledger
   pub shown : shows (after_calls call x cs) ≡ has S ledger
-  pub in_order_lem : FirstInFirstOut (ids_at S L u) (came_to u cs (answers_of call x cs)) (left_from u cs (answers_of call x cs)) (ids_at S ledger u)
+  pub is_in_order : FirstInFirstOut (ids_at S L u) (came_to u cs (answers_of call x cs)) (left_from u cs (answers_of call x cs)) (ids_at S ledger u)
 
 -- ---- what is recorded of a packet goes along with it
 

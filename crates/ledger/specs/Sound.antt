@@ -64,7 +64,7 @@ OwnQueue (prefetched p q) k = k.queue ≡ q
 pub record Proper (S : Settings) (k : Packet) : Type 0 where
   pub len_low : least_length (form S) ≤ k.len
   pub len_high : k.len < 2 ^ 13
-  pub queue_in_lem : k.queue < S.queues
+  pub queue_in_range : k.queue < S.queues
   pub dest_in : k.dest < 2 ^ (form S).port_bits
   pub stamp_in : k.stamp < 2 ^ 32
   pub poisoned_in : k.poisoned < 2

@@ -16,7 +16,7 @@ pub record CountedOnce (p b : ℕ) (L N : Ledger) : Type 0 where
   pub same_lists : N.lists ≡ L.lists
   pub same_numbers : (c : Column) → c ≢ buckets → N.numbers c ≡ L.numbers c
   pub other_buckets : (i : ℕ) → i ≢ bucket# p b → get_or (N.numbers buckets) i 0 ≡ get_or (L.numbers buckets) i 0
-  pub one_more_lem : bucket_at N p b ≡ one_more (bucket_at L p b)
+  pub is_one_more : bucket_at N p b ≡ one_more (bucket_at L p b)
 
 -- A timed turn of port p answers as the turn does. Where it sends packet k, it leaves what the turn leaves with k's wait counted; else what
 -- the turn leaves.

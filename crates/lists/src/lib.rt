@@ -1,4 +1,6 @@
 // The ends of the linked lists, in constant time: a first node taken off, a last one put on.
+#![tactic(auto)]
+
 ghost use Rattle.std.specs.Prelude.{◌≡◌};
 ghost use Rattle.layout.specs.declared.Table.TheVariants.{Head, Count};
 ghost use Rattle.layout.specs.Tables.{get, settings_of};

@@ -1,4 +1,6 @@
 // Map, on a memory that is a switch state: judged first, then one entry is written.
+#![tactic(auto)]
+
 ghost use Rattle.std.specs.Prelude.{◌≡◌, List, ℕ};
 ghost use Rattle.ledger.specs.Answers.{plain_reply};
 ghost use Rattle.ledger.specs.Calls.{Reply, map_to};

@@ -181,16 +181,16 @@ module _ (S : Settings) (m : List ℕ) (b x : ℕ) (R : Roomy S) (P : Tidy S m) 
         grow_apart Next (slot S t) some_spot Head b hb
         (λ p f. C.differ Next Head (omega arith) p) (λ p f. C.differ Tail Head (omega arith) p) (λ p f. C.differ Count Head (omega arith) p)
 
-    one_more_lem : nodes_of S m'' b ≡ chain S m'' (suc (suc (get S m Count b - 1))) (get S m Head b)
+    is_one_more : nodes_of S m'' b ≡ chain S m'' (suc (suc (get S m Count b - 1))) (get S m Head b)
     unfolding nodes_of
-    one_more_lem =
+    is_one_more =
         let e : get S m Count b + 1 ≡ suc (suc (get S m Count b - 1)) = omega arith in
         rw (grow_count Next (slot S t) some_spot, same_head, e)
 
     some_nodes : nodes_of S m'' b ≡ nodes_of S m b ++ (x ∷ [])
     some_nodes =
         rw (C.nodes_full S m b pos)
-        (one_more_lem
+        (is_one_more
         ∙ C.chain_grown S m m'' (get S m Count b - 1) (get S m Head b) t x links (rw (C.nodes_end S m P b hb pos) (grow_link Next (slot S t) some_spot)))
 
   -- ---- either

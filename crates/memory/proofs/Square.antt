@@ -179,12 +179,12 @@ module _ (S : Settings) (ok : Roomy S) (m : List ℕ) (s : StateOf S m) where
         (same₂ ∙ pop_paint S ok m tidy_of (place# S (free p)) (place#_lt S (free p) v_in) e)
 
     few : arrival_of S L p k.queue - k.price < 65536
-    few = omega (arith, credit_in S (L.numbers arrival) 65535 (o.ranges.numbers_in arrival) p k.queue hp good.queue_in_lem)
+    few = omega (arith, credit_in S (L.numbers arrival) 65535 (o.ranges.numbers_in arrival) p k.queue hp good.queue_in_range)
 
     arrive_paint : ledger_in S (arrive_mem S p k m) ≡ arrived S L p (arriving S L p h)
     unfolding arrive_mem arrived
     arrive_paint =
-        credit_paint S ok n₃ s₃.tidy arrival refl p hp k.queue (arrival_of S L p k.queue - k.price) good.queue_in_lem few
+        credit_paint S ok n₃ s₃.tidy arrival refl p hp k.queue (arrival_of S L p k.queue - k.price) good.queue_in_range few
         ∙ ap (put_credit arrival S p k.queue (arrival_of S L p k.queue - k.price)) lists₃
         ∙ ap (λ (j : Packet). arrived S L p j) (sym k_is)
 
@@ -193,7 +193,7 @@ module _ (S : Settings) (ok : Roomy S) (m : List ℕ) (s : StateOf S m) where
     arrive_kept =
         kept_then S m n₁ _ (pop_kept S ok m tidy_of (place# S (free p)) (place#_lt S (free p) v_in) e)
         (kept_then S n₁ n₂ _ s₂ (kept_then S n₂ n₃ _ s₃
-        (credit_kept S ok n₃ s₃.tidy arrival refl p hp k.queue (arrival_of S L p k.queue - k.price) good.queue_in_lem)))
+        (credit_kept S ok n₃ s₃.tidy arrival refl p hp k.queue (arrival_of S L p k.queue - k.price) good.queue_in_range)))
 
   -- ---- a turn that serves queue q
 
@@ -339,7 +339,7 @@ module _ (S : Settings) (ok : Roomy S) (m : List ℕ) (s : StateOf S m) where
       let f = first_fits S ok L o (ingress p) v_in c.1.0 in
       let w_in : (k : Packet) → first_of S L (ingress p) ≡ k → PlaceIn S (egress (map_of L k.dest) k.queue) =
       λ k i. subst (λ (k : Packet). PlaceIn S (egress (map_of L k.dest) k.queue)) i
-      (o.ranges.numbers_in mapped (first_of S L (ingress p)).dest (dest_mapped S ok (first_of S L (ingress p)).dest f.2.dest_in), f.2.queue_in_lem) in
+      (o.ranges.numbers_in mapped (first_of S L (ingress p)).dest (dest_mapped S ok (first_of S L (ingress p)).dest f.2.dest_in), f.2.queue_in_range) in
       let k_is = first_held (ingress p) v_in (omega arith) c.1.0 in
       subst (λ (k : Packet). Painted (move_mem S (ingress p) (egress (map_of L k.dest) k.queue) m) (result S L (stitch p)).1) k_is
       (record {

@@ -122,7 +122,7 @@ pub record Stitches (S : Settings) (m : List ℕ) (p : ℕ) (k : Packet) (to : �
   pub node : is_node S (head_of S m (ingress p)) ≡ true
   pub dest_in : k.dest < ids
   pub to_in : to < S.ports
-  pub queue_in_lem : k.queue < S.queues
+  pub queue_in_range : k.queue < S.queues
   pub outcome : acted S m (stitch p)
       ≡ (stitched (stitch_record k to), push_mem S (place# S (egress to k.queue)) (head_of S m (ingress p)) (pop_mem S (place# S (ingress p)) m))
 
@@ -145,6 +145,6 @@ stitched_on S m s p e k ik to it =
       node = head_is_node S m (state_tidy S m s) (place# S (ingress p)) (place#_lt S (ingress p) v_in) some;
       dest_in = mapped_in;
       to_in = rw it (s.sound.orderly.ranges.numbers_in mapped k.dest mapped_in);
-      queue_in_lem = f.2.queue_in_lem;
+      queue_in_range = f.2.queue_in_range;
       outcome = acted_good S m (stitch p) (sym e) ∙ rw (fk, ← ik, ← it);
     }

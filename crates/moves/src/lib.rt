@@ -1,4 +1,6 @@
 // Stitch and prefetch, on a memory that is a switch state: judged first, then the node moves from list to list.
+#![tactic(auto)]
+
 ghost use Rattle.std.specs.Prelude.{◌≡◌, List, ℕ};
 ghost use Rattle.ledger.specs.Answers.{sent_of, entry_reply, stitch_reply};
 ghost use Rattle.ledger.specs.Calls.{Reply, stitch, prefetch, stitch_record};

@@ -1,4 +1,6 @@
 // What the one walk asks of each node that it meets: that it is new, rule (d), (e) or (f) by its list's column, and its price for rule (g).
+#![tactic(auto)]
+
 ghost use Rattle.std.specs.Prelude.{◌≡◌, ◌||◌, eqb, ltb, leb};
 ghost use Rattle.ledger.specs.Ledger.{owner};
 ghost use Rattle.layout.specs.Tables.{settings_of};

@@ -72,10 +72,14 @@ fitting_means (w ∷ ws) (v ∷ vs) t =
 pub fit_fitting : (ws vs : List ℕ) → Fit ws vs → fitting ws vs ≡ true
 fit_fitting [] [] f = refl
 fit_fitting (w ∷ ws) (v ∷ vs) f = (and-eq-true_iff (ltb v (2 ^ w)) (fitting ws vs)).1 (lt-ltb v (2 ^ w) f.0, fit_fitting ws vs f.1)
+fit_fitting [] (v ∷ vs) f = elim f [ ]
+fit_fitting (w ∷ ws) [] f = elim f [ ]
 
 pub pack_lt : (ws vs : List ℕ) → Fit ws vs → pack ws vs < 2 ^ total ws
 pack_lt [] [] f = omega arith
 pack_lt (w ∷ ws) (v ∷ vs) f = rw pow-add (digits_lt f.0 (pack_lt ws vs f.1))
+pack_lt [] (v ∷ vs) f = elim f [ ]
+pack_lt (w ∷ ws) [] f = elim f [ ]
 
 -- the fields of a number, packed, are its low end
 pub pack_unpack : (ws : List ℕ) (n : ℕ) → pack ws (unpack ws n) ≡ n % 2 ^ total ws
@@ -97,6 +101,8 @@ unpack_join (w ∷ ws) (v ∷ vs) h f =
     (ap₂ (λ (x : ℕ) (xs : List ℕ). x ∷ xs)
     (bits_of_join (total ws) w h v r (pack_lt ws vs f.1) f.0)
     (unpack_join ws vs (h * 2 ^ w + v) f.1))
+unpack_join [] (v ∷ vs) h f = elim f [ ]
+unpack_join (w ∷ ws) [] h f = elim f [ ]
 
 pub unpack_pack : (ws vs : List ℕ) → Fit ws vs → unpack ws (pack ws vs) ≡ vs
 unpack_pack ws vs f =

@@ -74,6 +74,8 @@ shifted n v w t r = rw (pow-add 2 w t, add-mul, mul_assoc, add_assoc)
 pub joined_packs : (n : ℕ) (ws vs : List ℕ) → Fit ws vs → joined n ws vs ≡ n * 2 ^ total ws + pack ws vs
 joined_packs n [] [] f = omega arith
 joined_packs n (w ∷ ws) (v ∷ vs) f = joined_packs (n * 2 ^ w + v) ws vs f.1 ∙ shifted n v w (total ws) (pack ws vs)
+joined_packs n [] (v ∷ vs) f = elim f [ ]
+joined_packs n (w ∷ ws) [] f = elim f [ ]
 
 -- a field joined below a number of k bits
 join_lt : (k w x y : ℕ) → x < 2 ^ k → y < 2 ^ w → x * 2 ^ w + y < 2 ^ (k + w)
@@ -90,6 +92,8 @@ pack_parts [] vs [] ys f = omega arith
 pack_parts (w ∷ ws) vs (x ∷ xs) ys f =
     ap₂ (λ (t r : ℕ). x * 2 ^ t + r) (total_append ws vs) (pack_parts ws vs xs ys f.1)
     ∙ sym (shifted x (pack ws xs) (total ws) (total vs) (pack vs ys))
+pack_parts [] vs (x ∷ xs) ys f = elim f [ ]
+pack_parts (w ∷ ws) vs [] ys f = elim f [ ]
 
 -- the bytes of values of so many bytes each
 abbrev pub digits_of : List ℕ → List ℕ → List ℕ
@@ -110,6 +114,8 @@ unfolding digits
 digits_bytes [] [] f = refl
 digits_bytes (k ∷ ks) (x ∷ xs) f =
     digits_above_bytes k x ks xs f.1 ∙ ap (λ (l : List ℕ). digits k x ++ l) (digits_bytes ks xs f.1)
+digits_bytes [] (x ∷ xs) f = elim f [ ]
+digits_bytes (k ∷ ks) [] f = elim f [ ]
 
 -- ---- stores side by side
 

@@ -1,6 +1,8 @@
 // Rule (c) of a memory of any bytes: every node stands once in one list, and each list's tail is its last node. A walk marks each node that
 // it meets, in marks that the caller lends, and stops at the first id that is no node or is marked already; so it ends, whatever the counts say.
 // A byte has eight marks, so that those of the largest switch take little of the stack.
+#![tactic(auto)]
+
 ghost use Rattle.std.specs.Prelude.{◌≡◌, ◌*◌, ◌<◌, length};
 ghost use Rattle.layout.specs.Tables.{lists, settings_of};
 ghost use Rattle.once.specs.Bits.{mark_at, set_mark, marks_in};

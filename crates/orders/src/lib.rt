@@ -1,4 +1,6 @@
 // Each order of a field carried out on the memory, and what the line for it says.
+#![tactic(auto)]
+
 ghost use Rattle.std.specs.Prelude.{◌≡◌, List, ℕ, ◌+◌, ◌≤◌, length};
 ghost use Rattle.numbers.specs.Bytes.{number};
 ghost use Rattle.ledger.specs.Answers.{plain_reply, stitch_reply, entry_reply, turn_reply};
@@ -10,7 +12,7 @@ use fields::Order;
 use ledger::{Entry, Plain, Stitched, Turned};
 
 // What a line says after its number.
-#[derive(Drop)]
+#[derive(Clone, Copy)]
 pub enum Said {
     Done,
     Node(u16),

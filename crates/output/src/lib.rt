@@ -1,4 +1,6 @@
 // Standard output by way of a buffer. Each function takes and answers how many bytes wait in the buffer.
+#![tactic(auto)]
+
 ghost use Rattle.std.specs.Prelude.{◌≡◌, cond, [], ◌∷◌, ◌≤◌, ◌<◌, ltb, length, take};
 ghost use Rattle.output.specs.Buffer.{decimal, queued};
 

@@ -1,5 +1,7 @@
 // Packet memories (paper 02, Q-1): for each port N slots of 8,192 bytes, lent beside the state. A packet is copied into its node's slot, and
 // the part of a port's memory that has it is handed back. And whether a switch keeps packets, in memories of which size.
+#![tactic(auto)]
+
 ghost use Rattle.std.specs.Prelude.{◌≡◌, List, ◌++◌, ℕ, ◌+◌, ◌≤◌, length, drop};
 ghost use Rattle.ledger.specs.Settings.{slot_bytes, keeps_packets};
 ghost use Rattle.ledger.specs.Calls.{other_size};

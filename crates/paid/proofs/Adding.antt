@@ -78,7 +78,7 @@ module _ (S : Settings) (m : List ℕ) where
       count x e w =
           let k = packet_at S m x in
           let r = by_place S (λ v. WellRecorded S v k → Proper S k) (λ p w. w) (λ p q w. w) (λ p q w. w) l n (rw (item_used S m l x n) at w) in
-          record { node = e; queue_in_lem = r.queue_in_lem }
+          record { node = e; queue_in_range = r.queue_in_range }
 
   pub free_list : (sums : List ℕ) (l : ℕ) → l % row S ≡ 0 → add_list S m sums l ≡ sums
   unfolding add_list

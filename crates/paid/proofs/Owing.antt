@@ -64,13 +64,13 @@ module _ (S : Settings) (m : List ℕ) (p q : ℕ) (hp : p < S.ports) (some : 0 
       go : Dec (owner x ≡ p) → Dec (get S m Queue (slot S x) ≡ q)
           → credit_at S (add_node S m sums x) p q ≡ credit_at S sums p q + cond (eqb (owner x) p && eqb (get S m Queue (slot S x)) q) (get S m Price (slot S x)) 0
       go (yes a) (yes b) =
-          credit_at_lem S sums (owner x) (get S m Queue (slot S x)) _ e home c.queue_in_lem p q a b some
+          credit_at_lem S sums (owner x) (get S m Queue (slot S x)) _ e home c.queue_in_range p q a b some
           ∙ rw (eqb_is (owner x) p a, eqb_is (get S m Queue (slot S x)) q b, a, b)
       go (yes a) (no b) =
-          credit_other S sums (owner x) (get S m Queue (slot S x)) _ e home c.queue_in_lem p q hq (λ f g. b g)
+          credit_other S sums (owner x) (get S m Queue (slot S x)) _ e home c.queue_in_range p q hq (λ f g. b g)
           ∙ rw (eqb_is (owner x) p a, eqb_not (get S m Queue (slot S x)) q b) (omega arith)
       go (no a) d =
-          credit_other S sums (owner x) (get S m Queue (slot S x)) _ e home c.queue_in_lem p q hq (λ f g. a f)
+          credit_other S sums (owner x) (get S m Queue (slot S x)) _ e home c.queue_in_range p q hq (λ f g. a f)
           ∙ rw (eqb_not (owner x) p a) (omega arith)
 
   nodes_owe : (xs sums : List ℕ) → length sums ≡ cells S → All (Counted S m) xs

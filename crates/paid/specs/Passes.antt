@@ -34,7 +34,7 @@ pub record AddsPrice (s : Shape) (sums : List ℕ) (x queue price : ℕ) : Type 
 
 pub record Counted (S : Settings) (m : List ℕ) (x : ℕ) : Type 0 where
   pub node : is_node S x ≡ true
-  pub queue_in_lem : get S m Queue (slot S x) < S.queues
+  pub queue_in_range : get S m Queue (slot S x) < S.queues
 
 -- ---- the cells
 

@@ -1,5 +1,7 @@
 // Rule (g) of a switch state, on memory that keeps the rules before it: an arrival credit, with the prices of the nodes that it was
 // spent on, is K. The walk over the nodes is that of all rules (crate whole).
+#![tactic(auto)]
+
 ghost use Rattle.std.specs.Prelude.{◌≡◌};
 ghost use Rattle.layout.specs.Tables.{settings_of};
 ghost use Rattle.paid.specs.Paid.{add_price, settled_at, due_found};

@@ -1,4 +1,6 @@
 // The parts of a state that are neither lists nor records, read and written: credits, last served queues, marks, map entries, buckets.
+#![tactic(auto)]
+
 ghost use Rattle.std.specs.Prelude.{◌≡◌};
 ghost use Rattle.ledger.specs.Ledger.{credit_at, arrival_of, outward_of, last_of, map_of, mark_of, bucket_at};
 ghost use Rattle.ledger.specs.Buckets.{bucket#};

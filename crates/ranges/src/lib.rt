@@ -1,5 +1,7 @@
 // Rules (a) and (b) of a switch state, on any bytes: the settings are in their rows and the memory holds a state of them; last served queues, map
 // entries and prefetch lists are in range.
+#![tactic(auto)]
+
 ghost use Rattle.std.specs.Prelude.{◌≡◌, ◌*◌, ◌<◌, ◌≤◌, length, ltb};
 ghost use Rattle.ledger.specs.Settings.{ids};
 ghost use Rattle.settings.specs.Told.{told_settings};
@@ -16,7 +18,7 @@ use ledger::Finding;
 use settings::Settings;
 
 // What a memory is opened as: rule (a) holds, and the state has this shape; or it doesn't hold, and this item shows it.
-#[derive(Drop)]
+#[derive(Clone, Copy)]
 pub enum Opened {
     Fine(Shape),
     Wrong(usize),

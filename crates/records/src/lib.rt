@@ -1,4 +1,6 @@
 // What is recorded for nodes, read and written.
+#![tactic(auto)]
+
 ghost use Rattle.std.specs.Prelude.{◌≡◌};
 ghost use Rattle.ledger.specs.Answers.{sent_of};
 ghost use Rattle.layout.specs.declared.Table.TheVariants.{Length, Stamp, Queue, Dest, Poisoned, Transaction, Price};

@@ -1,4 +1,6 @@
 // Repair: over any memory whose settings are in their rows, and which is long enough, the bytes of a new state, with the map kept.
+#![tactic(auto)]
+
 ghost use Rattle.std.specs.Prelude.{◌≡◌, List, ℕ, get_or};
 ghost use Rattle.ledger.specs.Settings.{ids};
 ghost use Rattle.ledger.specs.Calls.{Reply};

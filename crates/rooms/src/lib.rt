@@ -1,5 +1,7 @@
 // What each answer leaves in the room that a caller of C lends for it: 0 and the answer's values, or the number of the refusal and the
 // room as it was.
+#![tactic(auto)]
+
 ghost use Rattle.std.specs.Prelude.{◌≡◌, ℕ};
 ghost use Rattle.ledger.specs.Answers.{number_of, kind_of, exit_of, sent_of, plain_reply, stitch_reply, entry_reply, turn_reply, ready_reply, where_reply};
 ghost use Rattle.ledger.specs.Answers.{report_reply, bucket_reply, show_reply};

@@ -1,5 +1,7 @@
 // The round, on a memory that is a switch state: one stitch at each port in order, then one prefetch for each port and queue, then one turn
 // at each port, told in lent room. A refusal inside changes nothing, and the round goes on.
+#![tactic(auto)]
+
 ghost use Rattle.std.specs.Prelude.{◌≡◌, List, [], ◌∷◌, ◌++◌, ℕ, ◌+◌, ◌*◌, ◌≤◌, ◌<◌, length, take, drop};
 ghost use Rattle.ledger.specs.Answers.{plain_reply};
 ghost use Rattle.ledger.specs.Buckets.{untimed};

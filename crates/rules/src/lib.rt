@@ -1,4 +1,6 @@
 // The test for a state as a C function, for checks and benchmarks alone: no part of the public surface.
+#![tactic(auto)]
+
 ghost use Rattle.std.specs.Prelude.{◌≡◌};
 ghost use Rattle.sound.specs.Sound.{tested_in};
 ghost use Rattle.rules.specs.Numbers.{test_number};

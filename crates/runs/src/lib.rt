@@ -1,5 +1,7 @@
 // The run (paper 02, Q-10), on a memory that is a switch state: the calls that lent fields ask, one after another, each told in four bytes of
 // lent room. The memory is not tested again between them; ready words and the checksum's table are kept from call to call.
+#![tactic(auto)]
+
 ghost use Rattle.std.specs.Prelude.{◌≡◌, List, ℕ};
 ghost use Rattle.layout.specs.Tables.{settings_of};
 ghost use Rattle.memory.specs.Judged.{Works};
@@ -11,7 +13,7 @@ use layout::Shape;
 use ledger::Refusal;
 
 // Why a run stopped: its fields ended, one of them is bad, or four bytes no longer fit.
-#[derive(Drop)]
+#[derive(Clone, Copy)]
 pub enum Why {
     Ended,
     BadField,
@@ -19,14 +21,14 @@ pub enum Why {
 }
 
 // How many fields a run did, and why it stopped.
-#[derive(Drop)]
+#[derive(Clone, Copy)]
 pub struct Ran {
     pub count: usize,
     pub why: Why,
 }
 
 // A run's answer: what it did, or why it is refused.
-#[derive(Drop)]
+#[derive(Clone, Copy)]
 pub enum Outcome {
     Did(Ran),
     No(Refusal),

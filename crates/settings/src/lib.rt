@@ -1,10 +1,12 @@
 // The settings, as setup is told them and as a memory holds them, and the one test of their rows.
+#![tactic(auto)]
+
 ghost use Rattle.std.specs.Prelude.{◌≡◌, ◌<◌};
 ghost use Rattle.ledger.specs.Settings.{settings, is_beat, ports_in, queues_in, packets_in, in_row, in_rows, first_out};
 ghost use Rattle.settings.specs.Told.{told_settings, between};
 
 // In their rows or not.
-#[derive(Drop)]
+#[derive(Clone, Copy)]
 pub struct Settings {
     pub ports: u32,
     pub queues: u32,

@@ -1,4 +1,6 @@
 // Setup: the settings are tested, and a new state is written.
+#![tactic(auto)]
+
 ghost use Rattle.std.specs.Prelude.{◌≡◌, List, ℕ};
 ghost use Rattle.ledger.specs.Calls.{Reply};
 ghost use Rattle.ledger.specs.Answers.{plain_reply};

@@ -1,4 +1,6 @@
 // Show, on a memory that is a switch state: which packet is the oldest of a queue's slots, and where it lies.
+#![tactic(auto)]
+
 ghost use Rattle.std.specs.Prelude.{◌≡◌, List, [], ◌∷◌, ℕ, length};
 ghost use Rattle.ledger.specs.Answers.{number_in, show_reply};
 ghost use Rattle.ledger.specs.Calls.{show, other_sizes};

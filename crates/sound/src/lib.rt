@@ -1,5 +1,7 @@
 // Is a memory of any bytes a switch state? For a call, numbers and marks, then all else by one walk of the lists; for whoever asks what is wrong, that walk
 // first, and where it doesn't tell, the rules in the paper's order, a walk each, up to the first that is broken.
+#![tactic(auto)]
+
 ghost use Rattle.std.specs.Prelude.{◌≡◌, ◌≤◌};
 ghost use Rattle.layout.specs.Tables.{settings_of};
 ghost use Rattle.ranges.specs.Opening.{Open};
@@ -17,7 +19,7 @@ use ranges::Opened;
 use whole::Walk;
 
 // What a call needs to know of a memory.
-#[derive(Drop)]
+#[derive(Clone, Copy)]
 pub enum Tested {
     State(Shape),
     NoState,

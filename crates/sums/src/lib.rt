@@ -1,4 +1,6 @@
 // The checksum both ways, as C functions, for benchmarks alone: by the library's table, and bit by bit, as its definition has it.
+#![tactic(auto)]
+
 ghost use Rattle.std.specs.Prelude.{◌≡◌};
 ghost use Rattle.crc.specs.Crc.{crc_bit, crc_byte, crc8};
 

@@ -3,6 +3,8 @@
 // fixes answer and memory: (reply, memory after) is M of the call and the memory before; of the round, round_on of the memory and the room; of
 // the run run_on, of the audit audit_on, of the finding broken_in, of the repair repaired; of a whole packet packet_on of both memories, and show
 // hands back shown_of the four.
+#![tactic(auto)]
+
 ghost use Rattle.std.specs.Prelude.{◌≡◌, List, [], ◌∷◌, ℕ, ◌<◌, length};
 ghost use Rattle.ledger.specs.Header.{alone};
 ghost use Rattle.ledger.specs.Answers.{number_in, load_of, show_reply};

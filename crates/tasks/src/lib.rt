@@ -1,5 +1,7 @@
 // One call of a run (paper 02, Q-10), on a memory that is a switch state: it is told in four bytes, and the ready words that the run keeps stay
 // right.
+#![tactic(auto)]
+
 ghost use Rattle.std.specs.Prelude.{◌≡◌, ℕ, length, take, drop};
 ghost use Rattle.ledger.specs.Buckets.{untimed};
 ghost use Rattle.ledger.specs.Calls.{prefetch, credit, turn};

@@ -1,4 +1,6 @@
 // Turn and ready, on a memory that is a switch state: which queues are ready, which one a turn serves, and what leaves.
+#![tactic(auto)]
+
 ghost use Rattle.std.specs.Prelude.{◌≡◌, List, ℕ, ◌<◌};
 ghost use Rattle.ledger.specs.Answers.{exit_of, turn_reply, ready_reply};
 ghost use Rattle.ledger.specs.Buckets.{untimed};

@@ -1,4 +1,6 @@
 // How long they wait (paper 02, Q-13): the wait of a packet that a timed turn sends, its bucket, the timed turn, and the reading of a bucket.
+#![tactic(auto)]
+
 ghost use Rattle.std.specs.Prelude.{◌≡◌, ℕ, List};
 ghost use Rattle.ledger.specs.Buckets.{at, wait_of, bucket_of, one_more, bucket#};
 ghost use Rattle.ledger.specs.Answers.{turn_reply, bucket_reply};

@@ -1,6 +1,8 @@
 // Rules (c) to (g) of a switch state together, and of (b) what is said of prefetch lists: one walk of the lists, in marks and sums that the
 // caller lends, tells whether all are kept. Which rule is broken first, and where, say the crates of the rules; the walk tells them where to
 // begin. docs/LAYOUT.md has a table of what is tested where.
+#![tactic(auto)]
+
 ghost use Rattle.layout.specs.Tables.{settings_of};
 ghost use Rattle.once.specs.Bits.{marks_in};
 ghost use Rattle.whole.specs.Whole.{Tells};
@@ -11,7 +13,7 @@ use ledger::{EntryId, Finding};
 
 // What the walk tells: every rule is kept; or one before (g) is broken, and what (d) to (f) find from this port's lists on is what they
 // find; or (g) alone is broken, first at this cell.
-#[derive(Drop)]
+#[derive(Clone, Copy)]
 pub enum Walk {
     Kept,
     Stuck(usize),

@@ -1,5 +1,7 @@
 // Ready words kept from call to call, with no byte of state: a port's word is made when it is first asked for, and after an act that touches a
 // queue of it one bit is made again.
+#![tactic(auto)]
+
 ghost use Rattle.std.specs.Prelude.{◌≡◌, ◌+◌, ◌*◌, ◌/◌, ◌%◌, ◌^◌};
 ghost use Rattle.ledger.specs.Ready.{ready_word};
 ghost use Rattle.layout.specs.Tables.{settings_of};

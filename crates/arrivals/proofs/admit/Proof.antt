@@ -61,7 +61,7 @@ wanting-requires c κs =
       laid = st.requires.priced.laid;
       long = st.requires.long;
       port = st.requires.port;
-      queue = rw (queue_is k) (laws.queue_in_lem (settings_of a.s) _ (header_of a.f) st.requires.queue);
+      queue = rw (queue_is k) (laws.queue_in_range (settings_of a.s) _ (header_of a.f) st.requires.queue);
     }
 
 -- what is asked is whether the packet's price can be paid

@@ -134,7 +134,7 @@ goes c =
 egress-list-requires : tie.Need-egress-list-requires
 egress-list-requires c κs =
     let mp = c.before in
-    record { laid = (begun (listed (met (read mp)))).requires.laid; port = (goes mp).to_in; queue = (goes mp).queue_in_lem }
+    record { laid = (begun (listed (met (read mp)))).requires.laid; port = (goes mp).to_in; queue = (goes mp).queue_in_range }
 
 -- the oldest ingress node can go to the egress list
 can : (c : tie.After-mapped) → let st = begun (listed (met (read c))) in
@@ -149,7 +149,7 @@ can c =
         inside = ingress_in (S st) (m st) st.args.port st.pre.laid.roomy g.port;
         some = g.some;
       };
-      target = place#_lt (S st) (egress _ _) (g.to_in, g.queue_in_lem);
+      target = place#_lt (S st) (egress _ _) (g.to_in, g.queue_in_range);
     }
 
 pop-requires : tie.Need-pop-requires

@@ -1,8 +1,8 @@
--- `waits::one_more_lem` meets its contract. Assumes nothing.
+-- `waits::is_one_more` meets its contract. Assumes nothing.
 use Rattle.std.proofs.Common.{arith, rules}
 use Rattle.waits.proofs.Laws.{more, no_more}
-use Rattle.waits.proofs.one_more_lem.Statement.{statement}
-use Rattle.waits.proofs.one_more_lem.Tie as tie
+use Rattle.waits.proofs.is_one_more.Statement.{statement}
+use Rattle.waits.proofs.is_one_more.Tie as tie
 
 add-result : tie.Need-overflow-add-result
 add-result c = search rules

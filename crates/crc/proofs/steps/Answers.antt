@@ -2,12 +2,8 @@
 use mathlib.Core.Path.{refl}
 use Rattle.crc.specs.Crc.{crc_bit, crc_bits}
 use Rattle.crc.proofs.Entries.{tested}
-use Rattle.crc.proofs.steps.Statement.{statement}
-use Rattle.crc.proofs.steps.Tie as tie
+use Rattle.crc.proofs.steps.Goals as goal
 
-returns : tie.Need-returns
+pub returns : goal.returns
 unfolding crc_bit crc_bits
 returns c = tested _ tt refl
-
-pub steps-spec : {M : Type 1} → statement M
-steps-spec = tie.close (tie.spec returns)
