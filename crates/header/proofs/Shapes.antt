@@ -2,7 +2,7 @@
 use mathlib.Core.Path.{◌≡◌}
 use Prim.Native.Nat.{◌+◌, ◌*◌, ◌≤◌}
 use native.Mathlib.Omega.{arith}
-use Rattle.ledger.specs.Header.{front_bits, spare, body_size, header_size, least_length}
+use Rattle.ledger.specs.Header.{front_bits, body_size, header_size, least_length}
 use Rattle.ledger.proofs.Header.{fronted}
 use Rattle.forms.specs.declared.HeaderForm.{HeaderForm}
 use Rattle.forms.specs.Formed.{form_in, Formed}

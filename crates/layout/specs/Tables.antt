@@ -143,6 +143,6 @@ pub record Laid (s : Shape) : Type 0 where
   pub all_are : s.all ≡ all (settings_of s)
   pub arrival_at : s.arrival ≡ start_of (settings_of s) Arrival
   pub head_at : s.head ≡ start_of (settings_of s) Head
-  pub next_at_lem : s.next ≡ start_of (settings_of s) Next
+  pub next_at : s.next ≡ start_of (settings_of s) Next
   pub least_is : s.least ≡ least_length (form (settings_of s))
   pub dests_are : s.dests ≡ 2 ^ (form (settings_of s)).port_bits

@@ -91,7 +91,7 @@ module _ (S : Settings) (r : Roomy S) (m : List ℕ) (F : Fresh S m) where
 
   next_of : (p i : ℕ) → p < S.ports → suc i < S.nodes → get S m Next (slot S (entry_id p i)) ≡ entry_id p (suc i)
   unfolding slot
-  next_of p i h k = rw (row_div 2048 p i (omega arith), row_mod 2048 p i (omega arith)) (F.next_at_lem p i h k)
+  next_of p i h k = rw (row_div 2048 p i (omega arith), row_mod 2048 p i (omega arith)) (F.next_at p i h k)
 
   -- the links go from each node of a port to the next
   chain_run : (p i n : ℕ) → p < S.ports → i + n ≤ S.nodes → chain S m n (entry_id p i) ≡ tabulate (λ y. y) (entry_id p i) n

@@ -49,7 +49,7 @@ pub record Fresh (S : Settings) (m : List ℕ) : Type 0 where
   pub tail_at : (p : ℕ) → p < S.ports → get S m Tail (p * row S) ≡ entry_id p (S.nodes - 1)
   pub count_at : (p : ℕ) → p < S.ports → get S m Count (p * row S) ≡ S.nodes
   pub count_else : (p c : ℕ) → p < S.ports → suc c < row S → get S m Count (p * row S + suc c) ≡ 0
-  pub next_at_lem : (p i : ℕ) → p < S.ports → suc i < S.nodes → get S m Next (p * S.nodes + i) ≡ entry_id p (suc i)
+  pub next_at : (p i : ℕ) → p < S.ports → suc i < S.nodes → get S m Next (p * S.nodes + i) ≡ entry_id p (suc i)
 
 pub row_pos : (S : Settings) → 0 < row S
 unfolding row
@@ -160,7 +160,7 @@ module _ (S : Settings) where
             ∙ fill_other S Head _ _ S.ports (credited S m) Count (p * row S + suc c) heads_fit l (omega arith)
             ∙ unfilled Count (p * row S + suc c) l (omega arith) (omega arith) (omega arith)
             ∙ blank Count (p * row S + suc c) l;
-        next_at_lem = λ p i h k. links_get S r S.ports (counted S m) p i (le_refl S.ports) (simp length_fill long) h k;
+        next_at = λ p i h k. links_get S r S.ports (counted S m) p i (le_refl S.ports) (simp length_fill long) h k;
       }
         where
           untouched : (t : Table) (i : ℕ) → i < many S t → turn_of t < turn_of Head → turn_of t ≢ turn_of Setting → turn_of t ≢ turn_of Last

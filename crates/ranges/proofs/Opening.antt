@@ -36,7 +36,7 @@ shape_is s l =
       all = l.all_are i;
       arrival = l.arrival_at i;
       head = l.head_at i;
-      next = l.next_at_lem i;
+      next = l.next_at i;
       least = l.least_is i;
       dests = l.dests_are i;
     }
@@ -50,7 +50,7 @@ laid_for S R = record {
   all_are = refl;
   arrival_at = refl;
   head_at = refl;
-  next_at_lem = refl;
+  next_at = refl;
   least_is = refl;
   dests_are = refl;
 }
