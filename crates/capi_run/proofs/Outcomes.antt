@@ -3,9 +3,10 @@ use mathlib.Core.Path.{sym, ap, ◌∙◌}
 use mathlib.Core.List.{List}
 use Prim.Native.Nat.{ℕ}
 use Rattle.ledger.specs.Outcome.{OneOutcome}
-use Rattle.capi_run.proofs.vr_run
+use Rattle.capi_run.specs.contracts.vr_run
+use Rattle.capi_run.proofs.vr_run.Reads as vr_run_says
 
-pub vr_run_one : OneOutcome vr_run.ended vr_run.Reads.Learnt
+pub vr_run_one : OneOutcome vr_run.ended vr_run_says.Learnt
 vr_run_one κs a r r₂ left left₂ p q =
     let e = p ∙ sym q in (
       ap (λ (o : ℕ × List ℕ × List ℕ × ℕ × ℕ). o.0) e,

@@ -14,8 +14,10 @@ use Rattle.codec.specs.declared.Label as code
 use Rattle.codec.specs.declared.HeaderRead.{HeaderRead}
 use Rattle.codec.specs.declared.HeaderRead.TheVariants as variants
 use Rattle.codec.specs.declared.Written.{Written}
-use Rattle.codec.proofs.read
-use Rattle.codec.proofs.write
+use Rattle.codec.specs.contracts.read
+use Rattle.codec.proofs.read.Reads as read_says
+use Rattle.codec.specs.contracts.write
+use Rattle.codec.proofs.write.Reads as write_says
 
 -- ---- the reader
 
@@ -41,7 +43,7 @@ read_inj (variants.Label v) (variants.No s) e = cc
 read_inj (variants.No r) (variants.Label w) e = cc
 read_inj (variants.No r) (variants.No s) e = cc (number_inj r s (cc))
 
-pub read_one : OneOutcome read.ended read.Reads.Learnt
+pub read_one : OneOutcome read.ended read_says.Learnt
 read_one κs a r r₂ left left₂ p q = (read_inj r r₂ (p ∙ sym q), refl)
 
 -- ---- the writer
@@ -58,5 +60,5 @@ written_one w w₂ a k k₂ =
     ap (λ (x : Plain). record { answer = x; size = w.size; bytes = w.bytes }) same
     ∙ ap₂ (λ (n : ℕ) (b : List ℕ). record { answer = w₂.answer; size = n; bytes = b }) (k.size ∙ sym k₂.size) (k.bytes ∙ sym k₂.bytes)
 
-pub write_one : OneOutcome write.ended write.Reads.Learnt
+pub write_one : OneOutcome write.ended write_says.Learnt
 write_one κs a r r₂ left left₂ p q = (written_one r r₂ _ p q, refl)

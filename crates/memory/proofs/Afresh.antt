@@ -98,7 +98,7 @@ module _ (m : List ℕ) (S : Settings) (L : Ledger) (e : picture m ≡ has S L) 
       let first : ℕ = entry_id (owner y) 0 in
       omega (
         arith,
-        uncounted y (list_at S k.0.ledger v) k.0.not-Free,
+        uncounted y (list_at S k.0.ledger v) k.0.not_free,
         ap (sum (one y 0)) free-again,
         bares_in y first S.nodes (omega arith) (omega (arith, n.low)),
       )

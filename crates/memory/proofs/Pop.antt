@@ -97,7 +97,7 @@ module _ (S : Settings) (m : List ℕ) (a : ℕ) (P : Tidy S m) (ha : a < lists 
   nodes_left = rw (pop_head, pop_count) (C.chain_same S m m' _ _ (All-map left next_same left_members))
 
   pop_front : get_or (ledger_in S m).lists a [] ≡ node_in S m a (get S m Head a) ∷ map (node_in S m a) left
-  pop_front = C.list_at S m a ha ∙ ap (map (node_in S m a)) (C.nodes_front S m a pos)
+  pop_front = C.list_at_lem S m a ha ∙ ap (map (node_in S m a)) (C.nodes_front S m a pos)
 
   pub pop_item : oldest (get_or (ledger_in S m).lists a []) ≡ node_in S m a (get S m Head a)
   pop_item = rw pop_front

@@ -238,7 +238,7 @@ module _ (S : Settings) (m : List ℕ) (b x : ℕ) (R : Roomy S) (P : Tidy S m) 
   pub push_lists : (ledger_in S (push_mem S b x m)).lists ≡ push b (node_in S m b x) (ledger_in S m).lists
   unfolding ledger_in push
   push_lists =
-      rw (C.list_at S m b hb)
+      rw (C.list_at_lem S m b hb)
       (C.table_set (C.shown S m) (C.shown S (push_mem S b x m)) (lists S) b _ hb push_shown
       (λ l h n. rw (push_grown.nodes_other l h n) (items l (nodes_of S m l) (C.members S m P l h))))
 

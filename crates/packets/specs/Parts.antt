@@ -22,7 +22,7 @@ part_of k at n = (bytes_at at n k.now, (k.ref_ptr.0, k.ref_ptr.1 + at))
 
 -- "answers a refusal with an empty part": at the start of the first memory
 abbrev pub empty_of : Bor (List ℕ) → List ℕ × (ℕ × ℕ)
-empty_of k = ([], k.ptr)
+empty_of k = ([], k.ref_ptr)
 
 -- what show hands back of the four memories where it is answered r
 abbrev pub shown_of : Reply → Bor (List ℕ) → Bor (List ℕ) → Bor (List ℕ) → Bor (List ℕ) → List ℕ × (ℕ × ℕ)

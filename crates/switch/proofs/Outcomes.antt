@@ -25,28 +25,50 @@ use Rattle.memory.proofs.Image.{zero_no_state}
 use Rattle.runs.proofs.Outcomes.{outcome_inj}
 use Rattle.ledger.specs.Answers.{record_in}
 use Rattle.ledger.specs.declared.Stitched.{Stitched}
-use Rattle.switch.proofs.set_up
-use Rattle.switch.proofs.arrive
-use Rattle.switch.proofs.arrive_packet
-use Rattle.switch.proofs.show_at
-use Rattle.switch.proofs.show
-use Rattle.switch.proofs.stitch
-use Rattle.switch.proofs.prefetch
-use Rattle.switch.proofs.credit
-use Rattle.switch.proofs.map_to
-use Rattle.switch.proofs.turn
-use Rattle.switch.proofs.timed_turn
-use Rattle.switch.proofs.bucket
-use Rattle.switch.proofs.ready
-use Rattle.switch.proofs.where_is
-use Rattle.switch.proofs.where_past
-use Rattle.switch.proofs.round
-use Rattle.switch.proofs.run
-use Rattle.switch.proofs.audit
-use Rattle.switch.proofs.find
-use Rattle.switch.proofs.repair
-use Rattle.switch.proofs.clear
-use Rattle.switch.proofs.report
+use Rattle.switch.specs.contracts.set_up
+use Rattle.switch.proofs.set_up.Reads as set_up_says
+use Rattle.switch.specs.contracts.arrive
+use Rattle.switch.proofs.arrive.Reads as arrive_says
+use Rattle.switch.specs.contracts.arrive_packet
+use Rattle.switch.proofs.arrive_packet.Reads as arrive_packet_says
+use Rattle.switch.specs.contracts.show_at
+use Rattle.switch.proofs.show_at.Reads as show_at_says
+use Rattle.switch.specs.contracts.show
+use Rattle.switch.proofs.show.Reads as show_says
+use Rattle.switch.specs.contracts.stitch
+use Rattle.switch.proofs.stitch.Reads as stitch_says
+use Rattle.switch.specs.contracts.prefetch
+use Rattle.switch.proofs.prefetch.Reads as prefetch_says
+use Rattle.switch.specs.contracts.credit
+use Rattle.switch.proofs.credit.Reads as credit_says
+use Rattle.switch.specs.contracts.map_to
+use Rattle.switch.proofs.map_to.Reads as map_to_says
+use Rattle.switch.specs.contracts.turn
+use Rattle.switch.proofs.turn.Reads as turn_says
+use Rattle.switch.specs.contracts.timed_turn
+use Rattle.switch.proofs.timed_turn.Reads as timed_turn_says
+use Rattle.switch.specs.contracts.bucket
+use Rattle.switch.proofs.bucket.Reads as bucket_says
+use Rattle.switch.specs.contracts.ready
+use Rattle.switch.proofs.ready.Reads as ready_says
+use Rattle.switch.specs.contracts.where_is
+use Rattle.switch.proofs.where_is.Reads as where_is_says
+use Rattle.switch.specs.contracts.where_past
+use Rattle.switch.proofs.where_past.Reads as where_past_says
+use Rattle.switch.specs.contracts.round
+use Rattle.switch.proofs.round.Reads as round_says
+use Rattle.switch.specs.contracts.run
+use Rattle.switch.proofs.run.Reads as run_says
+use Rattle.switch.specs.contracts.audit
+use Rattle.switch.proofs.audit.Reads as audit_says
+use Rattle.switch.specs.contracts.find
+use Rattle.switch.proofs.find.Reads as find_says
+use Rattle.switch.specs.contracts.repair
+use Rattle.switch.proofs.repair.Reads as repair_says
+use Rattle.switch.specs.contracts.clear
+use Rattle.switch.proofs.clear.Reads as clear_says
+use Rattle.switch.specs.contracts.report
+use Rattle.switch.proofs.report.Reads as report_says
 
 -- what equals the same pair has equal parts; `at` puts the second where the function's parameters have it
 pub parted : {A B C : Type 0} (at : B → C) {x y : A} {m n : B} {out : A × B} → (x, m) ≡ out → (y, n) ≡ out → (x ≡ y) × (at m ≡ at n)
@@ -63,85 +85,85 @@ module _ {A : Type 0} {reply : A → Reply} (inj : (a b : A) → reply a ≡ rep
       → (a ≡ b) × (◌≡◌ {A = List ℕ × C} (m, others) (n, others))
   fixed {a} {b} p q = let t = parted (λ m. m) p q in (inj a b t.0, ap (λ (m : List ℕ). (m, others)) t.1)
 
-pub set_up_one : OneOutcome set_up.ended set_up.Reads.Learnt
+pub set_up_one : OneOutcome set_up.ended set_up_says.Learnt
 set_up_one κs a r r₂ left left₂ p q = fixed plain_inj left.1 p q
 
-pub arrive_one : OneOutcome arrive.ended arrive.Reads.Learnt
+pub arrive_one : OneOutcome arrive.ended arrive_says.Learnt
 arrive_one κs a r r₂ left left₂ p q = fixed entry_inj left.1 p q
 
 -- a whole packet's equation fixes the packet memory too
-pub arrive_packet_one : OneOutcome arrive_packet.ended arrive_packet.Reads.Learnt
+pub arrive_packet_one : OneOutcome arrive_packet.ended arrive_packet_says.Learnt
 arrive_packet_one κs a r r₂ left left₂ p q =
     let t = roomed {B = List ℕ × (List ℕ × (Unit {0} × (Unit {0} × Unit {0})))} (λ m k. (m, (k, (tt, (tt, tt))))) p q in (entry_inj r r₂ t.0, t.1)
 
-pub prefetch_one : OneOutcome prefetch.ended prefetch.Reads.Learnt
+pub prefetch_one : OneOutcome prefetch.ended prefetch_says.Learnt
 prefetch_one κs a r r₂ left left₂ p q = fixed entry_inj left.1 p q
 
-pub credit_one : OneOutcome credit.ended credit.Reads.Learnt
+pub credit_one : OneOutcome credit.ended credit_says.Learnt
 credit_one κs a r r₂ left left₂ p q = fixed plain_inj left.1 p q
 
-pub map_to_one : OneOutcome map_to.ended map_to.Reads.Learnt
+pub map_to_one : OneOutcome map_to.ended map_to_says.Learnt
 map_to_one κs a r r₂ left left₂ p q = fixed plain_inj left.1 p q
 
-pub turn_one : OneOutcome turn.ended turn.Reads.Learnt
+pub turn_one : OneOutcome turn.ended turn_says.Learnt
 turn_one κs a r r₂ left left₂ p q = fixed turn_inj left.1 p q
 
-pub timed_turn_one : OneOutcome timed_turn.ended timed_turn.Reads.Learnt
+pub timed_turn_one : OneOutcome timed_turn.ended timed_turn_says.Learnt
 timed_turn_one κs a r r₂ left left₂ p q = fixed turn_inj left.1 p q
 
 -- a round's equation fixes the room with answer and memory
-pub round_one : OneOutcome round.ended round.Reads.Learnt
+pub round_one : OneOutcome round.ended round_says.Learnt
 round_one κs a r r₂ left left₂ p q = let t = roomed {B = List ℕ × (List ℕ × Unit {0})} (λ m x. (m, (x, tt))) p q in (plain_inj r r₂ t.0, t.1)
 
 -- and so does a run's
-pub run_one : OneOutcome run.ended run.Reads.Learnt
+pub run_one : OneOutcome run.ended run_says.Learnt
 run_one κs a r r₂ left left₂ p q =
     let t = roomed {B = List ℕ × (Unit {0} × (List ℕ × Unit {0}))} (λ m x. (m, (tt, (x, tt)))) p q in (outcome_inj r r₂ t.0, t.1)
 
-pub repair_one : OneOutcome repair.ended repair.Reads.Learnt
+pub repair_one : OneOutcome repair.ended repair_says.Learnt
 repair_one κs a r r₂ left left₂ p q = fixed plain_inj left.1 p q
 
-pub clear_one : OneOutcome clear.ended clear.Reads.Learnt
+pub clear_one : OneOutcome clear.ended clear_says.Learnt
 clear_one κs a r r₂ left left₂ p q = fixed plain_inj left.1 p q
 
 -- the memory of these is lent for reading only: nothing is left that could differ but the audit's room
-pub report_one : OneOutcome report.ended report.Reads.Learnt
+pub report_one : OneOutcome report.ended report_says.Learnt
 report_one κs a r r₂ left left₂ p q = (report_inj r r₂ (p ∙ sym q), refl)
 
-pub bucket_one : OneOutcome bucket.ended bucket.Reads.Learnt
+pub bucket_one : OneOutcome bucket.ended bucket_says.Learnt
 bucket_one κs a r r₂ left left₂ p q = (bucket_inj r r₂ (p ∙ sym q), refl)
 
-pub show_at_one : OneOutcome show_at.ended show_at.Reads.Learnt
+pub show_at_one : OneOutcome show_at.ended show_at_says.Learnt
 show_at_one κs a r r₂ left left₂ p q = (show_inj r r₂ (p ∙ sym q), refl)
 
 -- Of show: the same number, the same bytes, at the same place of the same block. (What else a reference has, the name under which proofs
 -- track its value, is no part of an outcome: no program has it.)
 pub show_one : (κs : Lfts (show.ended).signature.lifetimes) (a : Args (show.ended).signature κs) (r r₂ : Res (show.ended).signature κs)
-    (left left₂ : Lasts show.ended κs a) → show.Reads.Learnt κs a r (at_exit show.ended κs a left) → show.Reads.Learnt κs a r₂ (at_exit show.ended κs a left₂)
+    (left left₂ : Lasts show.ended κs a) → show_says.Learnt κs a r (at_exit show.ended κs a left) → show_says.Learnt κs a r₂ (at_exit show.ended κs a left₂)
     → (◌≡◌ {A = List ℕ × (ℕ × ℕ)} (r.now, r.ref_ptr) (r₂.now, r₂.ref_ptr)) × (left ≡ left₂)
 show_one κs a r r₂ left left₂ p q =
     (p.1 ∙ sym q.1, ap (λ (n : ℕ). (tt, (tt, (tt, (tt, (tt, (tt, (tt, (n, tt))))))))) (p.0 ∙ sym q.0))
 
-pub audit_one : OneOutcome audit.ended audit.Reads.Learnt
+pub audit_one : OneOutcome audit.ended audit_says.Learnt
 audit_one κs a r r₂ left left₂ p q = let t = parted {C = Unit {0} × (List ℕ × Unit {0})} (λ x. (tt, (x, tt))) p q in (plain_inj r r₂ t.0, t.1)
 
-pub find_one : OneOutcome find.ended find.Reads.Learnt
+pub find_one : OneOutcome find.ended find_says.Learnt
 find_one κs a r r₂ left left₂ p q = (p ∙ sym q, refl)
 
-pub ready_one : OneOutcome ready.ended ready.Reads.Learnt
+pub ready_one : OneOutcome ready.ended ready_says.Learnt
 ready_one κs a r r₂ left left₂ p q = (ready_inj r r₂ (p ∙ sym q), refl)
 
-pub where_is_one : OneOutcome where_is.ended where_is.Reads.Learnt
+pub where_is_one : OneOutcome where_is.ended where_is_says.Learnt
 where_is_one κs a r r₂ left left₂ p q = (where_inj r r₂ (p ∙ sym q), refl)
 
-pub where_past_one : OneOutcome where_past.ended where_past.Reads.Learnt
+pub where_past_one : OneOutcome where_past.ended where_past_says.Learnt
 where_past_one κs a r r₂ left left₂ p q = (where_inj r r₂ (p 65536 (omega arith) ∙ sym (q 65536 (omega arith))), refl)
 
 -- stitch's first equation fixes answer and memory, its second the ten bytes
 stitched_alike : (r r₂ : Stitched) → r.answer ≡ r₂.answer → r.«record» ≡ r₂.«record» → r ≡ r₂
 stitched_alike r r₂ p q i = record { answer = p i; «record» = q i }
 
-pub stitch_one : OneOutcome stitch.ended stitch.Reads.Learnt
+pub stitch_one : OneOutcome stitch.ended stitch_says.Learnt
 stitch_one κs a r r₂ left left₂ p q =
     let t = parted (λ m. m) p.0 q.0 in
     let answer = (stitch_inj r.answer r₂.answer r.«record» r₂.«record» t.0).0 in
@@ -168,7 +190,7 @@ module _ (m : List ℕ) (port : ℕ) where
 
 -- the first alone would not do: beside a refusal any ten bytes might stand
 abbrev pub first_alone : Contract stitch.ended
-first_alone κs a r left = AllOf (stitch.Reads.ensures-1-read κs a tt r left).tells
+first_alone κs a r left = AllOf (stitch_says.ensures-1-read κs a tt r left).tells
 
 pub second_needed : OneOutcome stitch.ended first_alone → ⊥
 second_needed one =

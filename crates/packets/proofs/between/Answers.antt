@@ -4,14 +4,10 @@ use Prim.Native.Nat.{◌+◌, ◌-◌}
 use native.Mathlib.Omega.{arith}
 use borrow.Author.Rules.{rules}
 use Rattle.packets.proofs.Laws.{same_part}
-use Rattle.packets.proofs.between.Statement.{statement}
-use Rattle.packets.proofs.between.Tie as tie
+use Rattle.packets.proofs.between.Goals as goal
 
-returns : tie.Need-returns
+pub returns : goal.returns
 returns c =
-    let a = c.before.args in
+    let a = c.args in
     let n : a.at + a.n - a.at ≡ a.n = omega arith in
     same_part (rw n) refl (omega arith)
-
-pub between-spec : {M : Type 1} → statement M
-between-spec = tie.close (tie.spec (λ c. search rules) (λ c. search rules) (λ c. search rules) (λ c. search rules) returns)

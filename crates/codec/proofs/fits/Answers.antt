@@ -4,17 +4,13 @@ use Prim.Native.Nat.{◌^◌}
 use native.Mathlib.Omega.{arith}
 use lib.Dec.{ltb}
 use lib.Pow.{pow-lt}
-use Rattle.codec.proofs.fits.Statement.{statement}
-use Rattle.codec.proofs.fits.Tie as tie
+use Rattle.codec.proofs.fits.Goals as goal
 
-join-requires : tie.Need-join-requires
-join-requires c κs = (c.requires, omega (arith, pow-lt c.requires))
+pub join-requires : goal.join-requires
+join-requires c = (c.requires, omega (arith, pow-lt c.requires))
 
-returns : tie.Need-returns
+pub returns : goal.returns
 returns c =
-    let a = c.before.args in
+    let a = c.args in
     let power : c.join.result ≡ 2 ^ a.width = c.join.ensures ∙ omega arith in
     ap (ltb a.v) power
-
-pub fits-spec : {M : Type 1} → statement M
-fits-spec = tie.close (tie.spec join-requires returns)
