@@ -14,7 +14,7 @@ use Rattle.ledger.specs.Sound.{Roomy}
 use Rattle.ledger.specs.Desk.{none, has}
 use Rattle.ledger.proofs.Tests.{eqb_is}
 use Rattle.ledger.proofs.Places.{row_div, row_mod}
-use Rattle.ledger.proofs.Rows.{rows, roomy}
+use Rattle.ledger.proofs.Rows.{roomy}
 use Rattle.ledger.proofs.Start.{start_length, start_first, start_empty, start_sound}
 use Rattle.layout.specs.declared.Table.TheVariants.{Setting, Next}
 use Rattle.layout.specs.Tables.{lists, start_of, get, table_of}

@@ -9,7 +9,7 @@ use native.Mathlib.Omega.{arith}
 use native.Mathlib.Decide.{dec_lt}
 use lib.ListN.{length, drop}
 use lib.Dec.{eqb}
-use Rattle.ledger.specs.Settings.{Settings, settings, in_rows, ids, row, size}
+use Rattle.ledger.specs.Settings.{Settings, in_rows, ids, row, size}
 use Rattle.ledger.specs.Rules.{Rule, refuse, guard, Clear}
 use Rattle.ledger.specs.Header.{form, fields_of, price, Load, bytes_in}
 use Rattle.ledger.specs.Ledger.{owner, is_node, Packet, bare, recorded, Place, free, ingress, egress, prefetched, place#, column, port_of, Ledger}
@@ -35,7 +35,7 @@ use Rattle.ledger.proofs.Halt.{halts_low, marks_port, marks_halts, marks_not, ma
 use Rattle.ledger.proofs.Steps.{guarded, recorded_proper, picked_some, keep_served, keep_step, keep_marked}
 use Rattle.layout.specs.declared.Table.TheVariants.{Arrival, Outward, Halted, Buckets}
 use Rattle.ledger.proofs.Buckets.{bucket_in, bucket_lt, one_more_in}
-use Rattle.layout.specs.Tables.{lists, get, put}
+use Rattle.layout.specs.Tables.{get, put}
 use Rattle.layout.proofs.Tables.{get_lt}
 use Rattle.layout.specs.Picture.{settings_in, packet_at, node_in, ledger_in, StateOf, State}
 use Rattle.memory.specs.Ends.{pop_mem, push_mem, Tidy, with_lists}

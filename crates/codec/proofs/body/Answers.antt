@@ -2,7 +2,6 @@
 use mathlib.Core.Path.{◌≡◌, refl, ap, ◌∙◌}
 use Prim.Native.Nat.{ℕ, ◌+◌, ◌-◌, ◌*◌, ◌^◌, ◌<◌}
 use native.Mathlib.Omega.{arith}
-use borrow.Author.Rules.{rules}
 use lib.ListN.{length}
 use lib.Pow.{pow_pos}
 use Rattle.numbers.specs.Fields.{Fit}
@@ -23,13 +22,13 @@ fit : (c : Start) → Fit (widths (form_in c.args.form)) (values (label_in c.arg
 fit c = c.requires.1
 
 -- the room stays twelve bytes
-first_room : (c : After-write4) → length c.write4.new.0 ≡ 12
+first_room : (c : After-write4) → length c.write4.new.m ≡ 12
 first_room c = ap length c.write4.ensures ∙ length_store 4 _ _ _
 
-second_room : (c : After-write4-2) → length c.write4-2.new.0 ≡ 12
+second_room : (c : After-write4-2) → length c.write4-2.new.m ≡ 12
 second_room c = ap length c.write4-2.ensures ∙ length_store 4 _ _ _ ∙ first_room (goal.at.After-write4-2 c).After-write4
 
-third_room : (c : After-write2) → length c.write2.new.0 ≡ 12
+third_room : (c : After-write2) → length c.write2.new.m ≡ 12
 third_room c = ap length c.write2.ensures ∙ length_store 2 _ _ _ ∙ second_room (goal.at.After-write2 c).After-write4-2
 
 pub overflow_sub-last : goal.overflow_sub-last
@@ -87,8 +86,8 @@ write1-requires c =
 
 pub returns : goal.returns
 returns c =
-    body_stored c.args.form c.requires.0 (label_in c.args.v) (fit (goal.at.returns c).Start) _ c.write4.last.0 c.write4-2.last.0 c.write2.last.0
-    c.write1.new.0 c.front_from-front.result c.join-credit.result
+    body_stored c.args.form c.requires.0 (label_in c.args.v) (fit (goal.at.returns c).Start) _ c.write4.new.m c.write4-2.new.m c.write2.new.m
+    c.write1.new.m c.front_from-front.result c.join-credit.result
     c.front_from-front.ensures
     c.join-credit.ensures
     refl

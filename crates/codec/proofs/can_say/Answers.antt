@@ -1,6 +1,5 @@
 -- `codec::can_say` meets its contract. Assumes nothing.
 use native.Mathlib.Omega.{arith}
-use borrow.Author.Rules.{rules}
 use Rattle.header.proofs.Shapes.{Shaped, shaped}
 use Rattle.codec.specs.Writer.{holds}
 use Rattle.codec.proofs.can_say.Goals as goal

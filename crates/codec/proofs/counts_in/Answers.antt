@@ -1,5 +1,4 @@
 -- `codec::counts_in` meets its contract. Assumes nothing.
-use borrow.Author.Rules.{rules}
 use Rattle.codec.specs.Label.{counts_in}
 use Rattle.codec.proofs.counts_in.Goals as goal
 

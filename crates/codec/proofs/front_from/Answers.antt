@@ -1,7 +1,6 @@
 -- `codec::front_from` meets its contract: each value that is joined keeps the number as narrow as the fields so far. Assumes nothing.
 use Prim.Native.Nat.{ℕ, ◌+◌, ◌-◌, ◌*◌, ◌^◌, ◌<◌}
 use native.Mathlib.Omega.{arith}
-use borrow.Author.Rules.{rules}
 use lib.Pow.{pow_pos}
 use Rattle.numbers.specs.Fields.{Fit}
 use Rattle.numbers.proofs.Parts.{joined_lt, join_word}

@@ -1,7 +1,6 @@
 -- `codec::read` meets its contract: the counts, then what the header's own refusals say. Assumes nothing.
 use mathlib.Core.Path.{◌≡◌, sym, ap, ◌∙◌}
 use mathlib.Core.Bool.{true}
-use borrow.Author.Rules.{rules}
 use borrow.Author.Tests.{not-true, not-false}
 use Rattle.ledger.specs.Answers.{number_of}
 use Rattle.forms.specs.Formed.{form_in}

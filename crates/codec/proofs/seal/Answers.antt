@@ -1,7 +1,6 @@
 -- `codec::seal` meets its contract: the checksum goes behind the bytes that it is of. Assumes nothing.
 use mathlib.Core.Path.{◌≡◌, ap, ◌∙◌}
 use native.Mathlib.Omega.{arith}
-use borrow.Author.Rules.{rules}
 use lib.ListN.{length, length-take}
 use Rattle.header.proofs.Shapes.{Shaped, shaped}
 use Rattle.codec.specs.Label.{label_in}
@@ -34,7 +33,7 @@ write1-requires c =
 
 pub returns : goal.returns
 returns c =
-    header_stored c.args.form c.requires.0 (label_in c.args.v) c.body-b.result c.write1.new.0 c.checksum-sum.result
+    header_stored c.args.form c.requires.0 (label_in c.args.v) c.body-b.result c.write1.new.m c.checksum-sum.result
     c.body-b.ensures
     c.checksum-sum.ensures
     c.write1.ensures

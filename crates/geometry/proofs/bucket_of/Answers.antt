@@ -1,6 +1,5 @@
 -- `geometry::bucket_of` meets its contract: no bucket is far. Assumes nothing.
 use mathlib.Core.Path.{refl}
-use borrow.Author.Rules.{rules}
 use Rattle.ledger.specs.Buckets.{bucket#}
 use Rattle.geometry.proofs.bucket_of.Goals as goal
 

@@ -2,7 +2,6 @@
 use mathlib.Core.Path.{refl}
 use Prim.Native.Nat.{◌+◌, ◌-◌, ◌*◌, ◌<◌}
 use native.Mathlib.Omega.{arith}
-use borrow.Author.Rules.{rules}
 use Rattle.ledger.specs.Ledger.{cell}
 use Rattle.ledger.proofs.Places.{row_lt}
 use Rattle.layout.specs.Tables.{cells, settings_of}

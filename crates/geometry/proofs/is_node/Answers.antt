@@ -1,5 +1,4 @@
 -- `geometry::is_node` meets its contract. Assumes nothing.
-use borrow.Author.Rules.{rules}
 use borrow.Author.Tests.{lt-ltb, le-ltb}
 use Rattle.ledger.specs.Ledger.{is_node}
 use Rattle.geometry.proofs.is_node.Goals as goal

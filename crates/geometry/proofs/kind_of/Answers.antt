@@ -1,6 +1,5 @@
 -- `geometry::kind_of` meets its contract: each return is a law of the place there. Assumes nothing.
 use native.Mathlib.Omega.{arith}
-use borrow.Author.Rules.{rules}
 use Rattle.geometry.proofs.Places as places
 use Rattle.geometry.proofs.kind_of.Goals as goal
 

@@ -1,7 +1,6 @@
 -- `geometry::slot_of` meets its contract. Assumes nothing.
 use Prim.Native.Nat.{◌*◌, ◌≤◌}
 use native.Mathlib.Omega.{arith}
-use borrow.Author.Rules.{rules}
 use Rattle.layout.specs.Tables.{settings_of}
 use Rattle.layout.specs.Picture.{slot}
 use Rattle.layout.proofs.Shapes.{owner_row}

@@ -1,6 +1,5 @@
 -- `packets::chosen` meets its contract: each number has its memory. Assumes nothing.
 use native.Mathlib.Omega.{arith}
-use borrow.Author.Rules.{rules}
 use Rattle.packets.proofs.Laws.{fourth}
 use Rattle.packets.proofs.chosen.Goals as goal
 

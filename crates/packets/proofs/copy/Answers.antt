@@ -1,7 +1,7 @@
 -- `packets::copy` meets its contract. The loop's invariant: the first i bytes are the packet's, and the others are as they were. Assumes nothing.
 use mathlib.Core.Path.{◌≡◌, refl, ap, sym, ◌∙◌}
 use mathlib.Core.List.{List, ◌++◌}
-use Prim.Native.Nat.{ℕ, ◌-◌, ◌≤◌, ◌+◌}
+use Prim.Native.Nat.{ℕ}
 use native.Mathlib.Omega.{arith}
 use lib.ListN.{length, drop, take, set, get_or, length-set}
 use lib.Seq.{take_all}

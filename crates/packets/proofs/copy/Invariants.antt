@@ -1,12 +1,8 @@
 -- What the loop of `packets::copy` keeps.
-use mathlib.Core.Path.{◌≡◌, refl, ap, sym, ◌∙◌}
-use mathlib.Core.List.{List, ◌++◌}
-use Prim.Native.Nat.{ℕ, ◌-◌, ◌≤◌, ◌+◌}
-use native.Mathlib.Omega.{arith}
-use lib.ListN.{length, drop, take, set, get_or, length-set}
-use lib.Seq.{take_all}
-use native.Mathlib.Numerals.{add-one}
-use Rattle.packets.proofs.Laws.{copy_next}
+use mathlib.Core.Path.{◌≡◌}
+use mathlib.Core.List.{◌++◌}
+use Prim.Native.Nat.{◌-◌, ◌≤◌}
+use lib.ListN.{length, drop, take}
 use Rattle.packets.proofs.copy.Given as goal
 
 abbrev pub invariant-loop-i : goal.invariant-loop-i

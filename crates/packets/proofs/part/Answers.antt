@@ -2,7 +2,6 @@
 use mathlib.Core.Path.{ap, ◌∙◌}
 use mathlib.Core.List.{List}
 use Prim.Native.Nat.{ℕ, ◌+◌, ◌≤◌}
-use borrow.Author.Rules.{rules}
 use denote.Ref.{Bor}
 use lib.ListN.{length}
 use Rattle.packets.specs.Parts.{part_of}
