@@ -37,8 +37,8 @@ fn call(task: Task, next: usize) -> Asked
 
 // The task of a bench's order: setup is none.
 fn task_of(order: Order, next: usize) -> Asked
-    ensures by_index { (s : List ℕ) → ask_of s result ≡ of_call (call_in order (header_in s order)) next }
-    ensures by_index_2 { (at n : ℕ) → Keeps at n (Read.Call order next) → Within at n result }
+    ensures asked { (s : List ℕ) → ask_of s result ≡ of_call (call_in order (header_in s order)) next }
+    ensures within { (at n : ℕ) → Keeps at n (Read.Call order next) → Within at n result }
 {
     match order {
         Order::Setup {
@@ -69,8 +69,8 @@ fn task_of(order: Order, next: usize) -> Asked
 
 // What the bench reads, in a run.
 fn of_bench(read: Read) -> Asked
-    ensures by_index { (s : List ℕ) → ask_of s result ≡ of_bench s read }
-    ensures by_index_2 { (at n : ℕ) → Keeps at n read → Within at n result }
+    ensures asked { (s : List ℕ) → ask_of s result ≡ of_bench s read }
+    ensures within { (at n : ℕ) → Keeps at n read → Within at n result }
 {
     match read {
         Read::Call { order, next } => task_of(order, next),
@@ -90,8 +90,8 @@ fn is_own(tag: u8, len: usize, size: usize) -> bool
 // What a whole field asks, whose value is the len bytes from v on.
 fn whole(s: &[u8], tag: u8, v: usize, len: usize, next: usize, size: usize) -> Asked
     requires { Stands s.now v len next size }
-    ensures result_value { ask_of s.now result ≡ whole_asked size s.now tag v len next }
-    ensures by_index { (at : ℕ) → v ≡ at + 3 → Within at (length s.now) result }
+    ensures asked { ask_of s.now result ≡ whole_asked size s.now tag v len next }
+    ensures within { (at : ℕ) → v ≡ at + 3 → Within at (length s.now) result }
 {
     if is_own(tag, len, size) {
         let port = numbers::read1(s, v) as u32;
@@ -110,7 +110,7 @@ fn whole(s: &[u8], tag: u8, v: usize, len: usize, next: usize, size: usize) -> A
 // What is asked at a place of the fields of a run on a switch whose headers have so many bytes.
 pub fn asked_at(s: &[u8], at: usize, size: usize) -> Asked
     requires { size ≤ 12 }
-    ensures result_value { ask_of s.now result ≡ asked_at size s.now at }
+    ensures asked { ask_of s.now result ≡ asked_at size s.now at }
     ensures within { Within at (length s.now) result }
 {
     match fields::field_at(s, at) {

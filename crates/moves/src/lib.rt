@@ -91,8 +91,8 @@ fn record_of(k: Sent, to: u8) -> [u8; 10]
 // The oldest ingress node to the egress list of the port that the map names now.
 pub fn stitch(m: &mut [u8], s: Shape, port: u32) -> Stitched
     requires { Works s m.old }
-    ensures fact { ◌≡◌ {A = Reply × List ℕ} (stitch_reply result.answer result.record, m.new) (acted (settings_of s) m.old (stitch port)) }
-    ensures record_value { result.record ≡ record_in (acted (settings_of s) m.old (stitch port)).0 }
+    ensures acted { ◌≡◌ {A = Reply × List ℕ} (stitch_reply result.answer result.record, m.new) (acted (settings_of s) m.old (stitch port)) }
+    ensures told { result.record ≡ record_in (acted (settings_of s) m.old (stitch port)).0 }
 {
     let verdict = judge_stitch(m, s, port);
     match verdict {

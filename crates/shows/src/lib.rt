@@ -118,9 +118,9 @@ pub fn show<'a>(
     no: &mut u32,
 ) -> &'a [u8]
     requires { Works s m.now }
-    ensures no_after { no.new ≡ number_in (acted (settings_of s) m.now
+    ensures refusal { no.new ≡ number_in (acted (settings_of s) m.now
         (show (length p0.now ∷ length p1.now ∷ length p2.now ∷ length p3.now ∷ []) port queue)).0 }
-    ensures fact { ◌≡◌ {A = List ℕ × (ℕ × ℕ)} (result.now, result.ref_ptr)
+    ensures shown { ◌≡◌ {A = List ℕ × (ℕ × ℕ)} (result.now, result.ref_ptr)
         (shown_of (acted (settings_of s) m.now
         (show (length p0.now ∷ length p1.now ∷ length p2.now ∷ length p3.now ∷ []) port queue)).0
         p0.entry p1.entry p2.entry p3.entry) }

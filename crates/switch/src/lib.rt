@@ -94,9 +94,9 @@ pub fn show<'a>(
     queue: u32,
     no: &mut u32,
 ) -> &'a [u8]
-    ensures no_after { no.new ≡ number_in (M (act (show (length p0.now ∷ length p1.now ∷ length p2.now
+    ensures refusal { no.new ≡ number_in (M (act (show (length p0.now ∷ length p1.now ∷ length p2.now
         ∷ length p3.now ∷ []) port queue)) m.now).0 }
-    ensures fact { ◌≡◌ {A = List ℕ × (ℕ × ℕ)} (result.now, result.ref_ptr)
+    ensures shown { ◌≡◌ {A = List ℕ × (ℕ × ℕ)} (result.now, result.ref_ptr)
         (shown_of (M (act (show (length p0.now ∷ length p1.now ∷ length p2.now ∷ length p3.now ∷ []) port queue))
         m.now).0 p0.entry p1.entry p2.entry p3.entry) }
 {
@@ -112,8 +112,8 @@ pub fn show<'a>(
 
 // Stitch: the port's oldest ingress node to the egress list of the mapped port; answers the ten-byte record.
 pub fn stitch(m: &mut [u8], port: u32) -> Stitched
-    ensures fact { ◌≡◌ {A = Reply × List ℕ} (stitch_reply result.answer result.record, m.new) (M (act (stitch port)) m.old) }
-    ensures record_value { result.record ≡ record_in (M (act (stitch port)) m.old).0 }
+    ensures acted { ◌≡◌ {A = Reply × List ℕ} (stitch_reply result.answer result.record, m.new) (M (act (stitch port)) m.old) }
+    ensures told { result.record ≡ record_in (M (act (stitch port)) m.old).0 }
 {
     let tested = sound::test(m);
     match tested {

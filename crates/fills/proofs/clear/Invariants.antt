@@ -1,0 +1,14 @@
+-- What the loop of `fills::clear` keeps.
+use mathlib.Core.Path.{refl, ap, ◌∙◌}
+use mathlib.Core.List.{List, ◌++◌}
+use Prim.Native.Nat.{ℕ, ◌-◌}
+use native.Mathlib.Omega.{arith}
+use lib.ListN.{drop, set, replicate, length-set}
+use Rattle.fills.proofs.Fills.{Partly, partly_none, partly_next, partly_all, clear_next}
+use Rattle.fills.proofs.clear.Given as goal
+
+abbrev pub invariant-loop-at : goal.invariant-loop-at
+invariant-loop-at l = Partly (λ k. replicate k 0 ++ drop k l.initial.m) l.n l.initial.m l.at l.m
+
+abbrev pub decreases-loop-at : goal.decreases-loop-at
+decreases-loop-at l = l.n - l.at

@@ -1,0 +1,16 @@
+-- What the loop of `fits::fits` keeps.
+use Prim.Native.Nat.{◌-◌}
+use mathlib.Core.Path.{◌≡◌, refl, sym, ◌∙◌}
+use native.Mathlib.Omega.{arith}
+use borrow.Author.Rules.{rules}
+use Rattle.layout.specs.Tables.{lists, settings_of}
+use Rattle.fits.specs.Fits.{fits_from}
+use Rattle.fits.proofs.Walk.{fits_end, fits_stop, fits_next}
+use Rattle.fits.proofs.fits.Given as goal
+
+abbrev pub invariant-loop-l : goal.invariant-loop-l
+invariant-loop-l l =
+    fits_from l.rule (settings_of l.s) l.m l.l (lists (settings_of l.s) - l.l) ≡ fits_from l.rule (settings_of l.s) l.m l.from (lists (settings_of l.s) - l.from)
+
+abbrev pub decreases-loop-l : goal.decreases-loop-l
+decreases-loop-l l = l.lists - l.l

@@ -1,0 +1,8 @@
+-- `parts::arrival` meets its contract. Assumes nothing.
+use borrow.Author.Rules.{rules}
+use Rattle.layout.specs.Picture.{ledger_in}
+use Rattle.parts.proofs.arrival.Goals as goal
+
+pub returns : goal.returns
+unfolding ledger_in
+returns c = c.credit.ensures

@@ -1,0 +1,33 @@
+-- `ranges::in_range` meets its contract: a number by the numbers' test, a prefetch list by its count. Assumes nothing.
+use mathlib.Core.Path.{refl, sym, ap, ◌∙◌}
+use Prim.Native.Nat.{ℕ, ◌-◌}
+use native.Mathlib.Omega.{arith}
+use borrow.Author.Rules.{rules}
+use lib.Dec.{leb}
+use Rattle.layout.specs.declared.Table.TheVariants.{Count}
+use Rattle.layout.specs.Tables.{get, settings_of}
+use Rattle.ranges.proofs.Items.{fits_list, prefetch_lt}
+use Rattle.ranges.proofs.in_range.Goals as goal
+
+pub number_in_range-requires : goal.number_in_range-requires
+number_in_range-requires c = (c.requires.held, omega (arith, c.number_items-n.ensures))
+
+pub returns-then-i-n : goal.returns-then-i-n
+returns-then-i-n c = c.number_in_range.ensures
+
+pub prefetch_list-requires : goal.prefetch_list-requires
+prefetch_list-requires c = (c.requires.held.laid, omega (arith, c.number_items-n.ensures, c.requires.low))
+
+pub get4-count-requires : goal.get4-count-requires
+get4-count-requires c =
+    let a = c.args in
+    let many = c.number_items-n.ensures in
+    let low = prefetch_lt (settings_of a.s) a.m.now (a.i - c.number_items-n.result) (omega arith) (omega (arith, many, c.requires.low)) in
+    record { laid = c.requires.held.laid; long = c.requires.held.long; wide = refl; inside = omega (arith, c.prefetch_list.ensures) }
+
+pub returns : goal.returns
+returns c =
+    let a = c.args in
+    let read = c.get4-count.ensures ∙ ap (get (settings_of a.s) a.m.now Count) c.prefetch_list.ensures in
+    ap (λ (v : ℕ). leb v a.s.slots) read
+    ∙ sym (fits_list (settings_of a.s) a.m.now a.i (a.i - c.number_items-n.result) (omega (arith, c.number_items-n.ensures)))
