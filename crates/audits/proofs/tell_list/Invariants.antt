@@ -1,0 +1,16 @@
+-- What the loop of `audits::tell_list` keeps.
+use Prim.Native.Nat.{◌-◌, ◌<◌}
+use native.Mathlib.Omega.{arith}
+use borrow.Author.Rules.{rules}
+use Rattle.layout.specs.declared.Table.TheVariants.{Count}
+use Rattle.layout.specs.Tables.{settings_of, get}
+use Rattle.lists.specs.Ends.{InList}
+use Rattle.memory.proofs.Chains.{state_tidy, total_bound}
+use Rattle.audits.proofs.Walks.{Telling, tell_starts, tell_node, tell_goes, tell_ends}
+use Rattle.audits.proofs.tell_list.Given as goal
+
+abbrev pub invariant-loop-i : goal.invariant-loop-i
+invariant-loop-i l = Telling (settings_of l.s) l.m l.l l.initial.room l.room l.x.0 l.i
+
+abbrev pub decreases-loop-i : goal.decreases-loop-i
+decreases-loop-i l = l.n - l.i

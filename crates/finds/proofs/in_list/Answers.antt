@@ -1,0 +1,44 @@
+-- `finds::in_list` meets its contract. The loop's invariant: what is found in the list is what is found in the rest of it. Assumes nothing.
+use Prim.Native.Nat.{◌-◌, ◌<◌}
+use native.Mathlib.Omega.{arith}
+use borrow.Author.Rules.{rules}
+use Rattle.layout.specs.declared.Table.TheVariants.{Count}
+use Rattle.layout.specs.Tables.{settings_of, get}
+use Rattle.memory.proofs.Chains.{state_tidy, total_bound}
+use Rattle.finds.proofs.Laws as laws
+use Rattle.finds.proofs.in_list.Goals as goal
+use Rattle.finds.proofs.in_list.Goals.{In-loop-i}
+
+pub count-n-requires : goal.count-n-requires
+count-n-requires c = let pre = c.requires in record { laid = pre.works.laid; long = pre.works.state.long; inside = pre.inside }
+
+pub first-y-requires : goal.first-y-requires
+first-y-requires c = let pre = c.requires in record { laid = pre.works.laid; long = pre.works.state.long; inside = pre.inside }
+
+pub loop-i-init : goal.loop-i-init
+loop-i-init c =
+    rw c.first-y.ensures (laws.walk_starts _ _ _ c.requires.works.state c.args.l c.requires.inside)
+
+-- in a turn the node at hand is one of the list's
+inside : (c : In-loop-i) → let a = c.args in c.loop-i.i < get (settings_of a.s) a.m.now Count a.l
+inside c = rw c.count-n.ensures at c.loop-i-test.true
+
+pub overflow_cast-result : goal.overflow_cast-result
+overflow_cast-result c =
+    let w = c.requires.works in
+    omega (arith, inside (goal.at.overflow_cast-result c).In-loop-i, total_bound _ _ (state_tidy _ _ w.state) w.laid.roomy c.args.l c.requires.inside)
+
+pub returns-then-y-x : goal.returns-then-y-x
+returns-then-y-x c = laws.walk_meets _ _ _ _ _ _ c.loop-i.invariant (inside (goal.at.returns-then-y-x c).In-loop-i) c.if-y-x.true
+
+pub next-y-requires : goal.next-y-requires
+next-y-requires c =
+    let w = c.requires.works in
+    record { laid = w.laid; long = w.state.long; node = laws.walk_node _ _ _ _ _ _ c.loop-i.invariant (inside (goal.at.next-y-requires c).In-loop-i) }
+
+pub loop-i-preserved : goal.loop-i-preserved
+loop-i-preserved c =
+    rw c.next-y.ensures (laws.walk_goes _ _ _ _ _ _ c.loop-i.invariant (inside (goal.at.loop-i-preserved c).In-loop-i) c.if-y-x.false)
+
+pub returns : goal.returns
+returns c = laws.walk_ends _ _ _ _ _ _ c.loop-i.invariant (rw c.count-n.ensures at c.loop-i-test.false)

@@ -1,0 +1,15 @@
+-- What the loop of `finds::in_list` keeps.
+use Prim.Native.Nat.{◌-◌, ◌<◌}
+use native.Mathlib.Omega.{arith}
+use borrow.Author.Rules.{rules}
+use Rattle.layout.specs.declared.Table.TheVariants.{Count}
+use Rattle.layout.specs.Tables.{settings_of, get}
+use Rattle.memory.proofs.Chains.{state_tidy, total_bound}
+use Rattle.finds.proofs.Laws as laws
+use Rattle.finds.proofs.in_list.Given as goal
+
+abbrev pub invariant-loop-i : goal.invariant-loop-i
+invariant-loop-i l = laws.Walking (settings_of l.s) l.m l.x.0 l.l l.y.0 l.i
+
+abbrev pub decreases-loop-i : goal.decreases-loop-i
+decreases-loop-i l = l.n - l.i

@@ -1,0 +1,13 @@
+-- `finds::next` meets its contract. Assumes nothing.
+use mathlib.Core.Path.{refl}
+use borrow.Author.Rules.{rules}
+use Rattle.memory.proofs.Chains.{slot_lt}
+use Rattle.finds.proofs.next.Goals as goal
+
+pub get2-requires : goal.get2-requires
+get2-requires c =
+    let pre = c.requires in
+    record { laid = pre.laid; long = pre.long; wide = refl; inside = rw c.slot_of.ensures (slot_lt _ _ pre.node) }
+
+pub returns : goal.returns
+returns c = cc

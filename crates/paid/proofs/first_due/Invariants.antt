@@ -1,0 +1,15 @@
+-- What the loop of `paid::first_due` keeps.
+use mathlib.Core.Path.{sym, ◌∙◌}
+use Prim.Native.Nat.{◌-◌}
+use native.Mathlib.Omega.{arith}
+use borrow.Author.Tests.{not-true, not-false}
+use Rattle.layout.specs.Tables.{settings_of}
+use Rattle.ranges.proofs.First.{Searching, search_start, search_next, search_at, search_none}
+use Rattle.paid.specs.Paid.{settled_at, due_found}
+use Rattle.paid.proofs.first_due.Given as goal
+
+abbrev pub invariant-loop-c : goal.invariant-loop-c
+invariant-loop-c l = Searching (settled_at (settings_of l.s) l.m l.sums) (Rattle.layout.specs.Tables.cells (settings_of l.s)) l.c
+
+abbrev pub decreases-loop-c : goal.decreases-loop-c
+decreases-loop-c l = l.cells - l.c

@@ -1,0 +1,16 @@
+-- What the loop of `repairs::keep` keeps.
+use mathlib.Core.Path.{refl, ap, ◌∙◌}
+use Prim.Native.Nat.{◌-◌}
+use native.Mathlib.Omega.{arith}
+use Rattle.ledger.specs.Settings.{ids}
+use Rattle.ledger.specs.Repair.{mended}
+use Rattle.layout.specs.declared.Table.TheVariants.{Mapped}
+use Rattle.layout.specs.Tables.{get, settings_of}
+use Rattle.repairs.proofs.Keeping.{Keeping, keeping_none, keeping_next}
+use Rattle.repairs.proofs.keep.Given as goal
+
+abbrev pub invariant-loop-i : goal.invariant-loop-i
+invariant-loop-i l = Keeping (λ k. mended (settings_of l.s) (get (settings_of l.s) l.m Mapped k)) ids l.i l.map
+
+abbrev pub decreases-loop-i : goal.decreases-loop-i
+decreases-loop-i l = ids - l.i

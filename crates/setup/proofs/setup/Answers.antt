@@ -1,0 +1,34 @@
+-- `setup::setup` meets its contract: each way out by the law of its answer. Assumes nothing.
+use mathlib.Core.Path.{◌≡◌, sym, ap, ◌∙◌}
+use mathlib.Core.Bool.{true}
+use native.Mathlib.Omega.{arith}
+use borrow.Author.Rules.{rules}
+use borrow.Author.Tests.{not-true, not-false}
+use Rattle.ledger.specs.Settings.{in_rows, size}
+use Rattle.ledger.proofs.Rows.{roomy}
+use Rattle.settings.specs.Told.{told_settings}
+use Rattle.setup.proofs.Answers.{of_setting, of_memory, of_done}
+use Rattle.setup.proofs.setup.Goals as goal
+use Rattle.setup.proofs.setup.Goals.{After-size_of-n, Else-not-in_rows}
+
+-- the settings are in their rows
+passed : (c : Else-not-in_rows) → in_rows (told_settings c.args.told) ≡ true
+passed c = sym c.in_rows.ensures ∙ not-false _ c.if-not-in_rows.false-raw
+
+-- the size is that of the switch that is asked for
+sized : (c : After-size_of-n) → c.size_of-n.result ≡ size (told_settings c.args.told)
+sized c = c.size_of-n.ensures ∙ ap size c.shape_of-s.ensures.settings_are
+
+pub returns-then-not-in_rows : goal.returns-then-not-in_rows
+returns-then-not-in_rows c = of_setting _ _ (sym c.in_rows.ensures ∙ not-true _ c.if-not-in_rows.true-raw)
+
+pub shape_of-s-requires : goal.shape_of-s-requires
+shape_of-s-requires c = roomy _ (passed c)
+
+pub returns-then-m-n : goal.returns-then-m-n
+returns-then-m-n c = let e = sized (goal.at.returns-then-m-n c).After-size_of-n in of_memory _ _ (passed (goal.at.returns-then-m-n c).Else-not-in_rows) (omega arith)
+
+pub returns : goal.returns
+returns c =
+    let e = sized (goal.at.returns c).After-size_of-n in
+    rw (c.put_state.ensures, c.shape_of-s.ensures.settings_are) (of_done _ _ (passed (goal.at.returns c).Else-not-in_rows) (omega arith))

@@ -1,0 +1,17 @@
+-- What the loop of `turns::ready_word` keeps.
+use mathlib.Core.Path.{◌≡◌, ◌∙◌}
+use Prim.Native.Nat.{◌+◌, ◌-◌, ◌^◌, ◌≤◌, ◌<◌}
+use native.Mathlib.Omega.{arith}
+use Rattle.ledger.specs.Ready.{is_ready, word_of, ready_word}
+use Rattle.ledger.proofs.Places.{bit_le}
+use Rattle.layout.specs.Tables.{settings_of}
+use Rattle.layout.specs.Picture.{ledger_in}
+use Rattle.turns.proofs.Laws.{word_down, word_start, word_end, word_room}
+use Rattle.turns.proofs.ready_word.Given as goal
+
+abbrev pub invariant-loop-q : goal.invariant-loop-q
+invariant-loop-q l =
+    (l.q ≤ l.s.queues) × (l.word ≡ word_of (λ i. is_ready (settings_of l.s) (ledger_in (settings_of l.s) l.m) l.p (l.q + i)) (l.s.queues - l.q))
+
+abbrev pub decreases-loop-q : goal.decreases-loop-q
+decreases-loop-q l = l.q
