@@ -1,0 +1,17 @@
+-- What the loop of `rounds::prefetch_each` keeps.
+use mathlib.Core.List.{List, [], ◌∷◌}
+use Prim.Native.Nat.{ℕ, ◌-◌}
+use native.Mathlib.Omega.{arith}
+use Rattle.ledger.specs.Calls.{Act, prefetch}
+use Rattle.ledger.specs.Rounds.{each}
+use Rattle.rounds.proofs.Rounds.{Passed, passed_none, passed_next, passed_all}
+use Rattle.rounds.proofs.prefetch_each.Given as goal
+
+abbrev all : ℕ → ℕ → List Act
+all queues p = each (λ q. prefetch p q ∷ []) queues
+
+abbrev pub invariant-loop-p : goal.invariant-loop-p
+invariant-loop-p l = Passed l.s (all l.s.queues) l.initial.m l.ports l.p l.m
+
+abbrev pub decreases-loop-p : goal.decreases-loop-p
+decreases-loop-p l = l.ports - l.p

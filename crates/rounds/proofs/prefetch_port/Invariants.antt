@@ -1,0 +1,18 @@
+-- What the loop of `rounds::prefetch_port` keeps.
+use mathlib.Core.Path.{ap}
+use mathlib.Core.List.{List, [], ◌∷◌}
+use Prim.Native.Nat.{ℕ, ◌-◌}
+use native.Mathlib.Omega.{arith}
+use borrow.Author.Rules.{rules}
+use Rattle.ledger.specs.Calls.{Act, Reply, prefetch}
+use Rattle.rounds.proofs.Rounds.{Passed, passed_none, passed_next, passed_all}
+use Rattle.rounds.proofs.prefetch_port.Given as goal
+
+abbrev one : ℕ → ℕ → List Act
+one p q = prefetch p q ∷ []
+
+abbrev pub invariant-loop-q : goal.invariant-loop-q
+invariant-loop-q l = Passed l.s (one l.p) l.initial.m l.queues l.q l.m
+
+abbrev pub decreases-loop-q : goal.decreases-loop-q
+decreases-loop-q l = l.queues - l.q

@@ -1,0 +1,17 @@
+-- What the loop of `rounds::stitch_each` keeps.
+use mathlib.Core.Path.{ap}
+use mathlib.Core.List.{List, [], ◌∷◌}
+use Prim.Native.Nat.{ℕ, ◌-◌}
+use native.Mathlib.Omega.{arith}
+use Rattle.ledger.specs.Calls.{Act, Reply, stitch}
+use Rattle.rounds.proofs.Rounds.{Passed, passed_none, passed_next, passed_all}
+use Rattle.rounds.proofs.stitch_each.Given as goal
+
+abbrev one : ℕ → List Act
+one p = stitch p ∷ []
+
+abbrev pub invariant-loop-p : goal.invariant-loop-p
+invariant-loop-p l = Passed l.s one l.initial.m l.ports l.p l.m
+
+abbrev pub decreases-loop-p : goal.decreases-loop-p
+decreases-loop-p l = l.ports - l.p

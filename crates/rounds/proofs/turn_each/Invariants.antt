@@ -1,0 +1,11 @@
+-- What the loop of `rounds::turn_each` keeps.
+use Prim.Native.Nat.{◌-◌}
+use native.Mathlib.Omega.{arith}
+use Rattle.rounds.proofs.Rounds.{Telling, told_none, told_one, told_all}
+use Rattle.rounds.proofs.turn_each.Given as goal
+
+abbrev pub invariant-loop-p : goal.invariant-loop-p
+invariant-loop-p l = Telling l.s l.initial.m l.initial.room l.ports l.p l.m l.room
+
+abbrev pub decreases-loop-p : goal.decreases-loop-p
+decreases-loop-p l = l.ports - l.p
