@@ -1,0 +1,12 @@
+-- `acts::act_arrive` meets its contract: on a state the act is the call, and the room follows the reply. Assumes nothing.
+use mathlib.Core.Path.{◌∙◌}
+use borrow.Author.Rules.{rules}
+use Rattle.memory.proofs.Demands.{on_works}
+use Rattle.rooms.specs.Rooms.{entry_room}
+use Rattle.rooms.proofs.Laws.{tells_in}
+use Rattle.acts.proofs.act_arrive.Goals as goal
+
+pub returns : goal.returns
+returns c =
+    let w = c.put_entry.ensures in
+    tells_in _ _ _ _ (c.arrive.ensures ∙ on_works _ _ c.shape-s.ensures _) w.0 entry_room _ _ w.1

@@ -1,0 +1,12 @@
+-- `acts::act_stitch` meets its contract: on a state the act is the call, and the room follows the reply. Assumes nothing.
+use mathlib.Core.Path.{◌∙◌}
+use borrow.Author.Rules.{rules}
+use Rattle.memory.proofs.Demands.{on_works}
+use Rattle.rooms.specs.Rooms.{record_room}
+use Rattle.rooms.proofs.Laws.{tells_in}
+use Rattle.acts.proofs.act_stitch.Goals as goal
+
+pub returns : goal.returns
+returns c =
+    let w = c.put_record.ensures in
+    tells_in _ _ _ _ (c.stitch-out.ensures.acted ∙ on_works _ _ c.shape-s.ensures _) w.0 record_room _ _ w.1
