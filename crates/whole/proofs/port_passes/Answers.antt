@@ -124,7 +124,7 @@ went : (c : Else-not-list_passes)
     AtList (settings_of a.s) a.m.now (marks_in (settings_of a.s) (marks_after (goal.at.Else-not-list_passes c).After-list_passes)) (sums_after (goal.at.Else-not-list_passes c).After-list_passes)
     (a.port * a.s.row + (c.loop-column.column + 1)) (c.loop-column.met + c.get4-count.result)
 went c =
-    lists_next c.loop-column.invariant.2 (inside (goal.at.Else-not-list_passes c).In-loop-column).0 (sym (answered (goal.at.Else-not-list_passes c).After-few_enough) ∙ not-false _ c.if-not-few_enough.false)
+    lists_next c.loop-column.invariant.2 (inside (goal.at.Else-not-list_passes c).In-loop-column).0 (sym (answered (goal.at.Else-not-list_passes c).After-few_enough) ∙ not-false _ c.if-not-few_enough.false-raw)
     (marks_length _ _ ∙ sym (marks_length _ _)) c.list_passes.ensures (not-false _ c.if-not-list_passes.false-raw) (omega arith) c.get4-count.ensures
 
 -- no more nodes were met than there are
