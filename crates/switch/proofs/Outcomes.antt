@@ -7,7 +7,7 @@ use Prim.Native.Nat.{ℕ}
 use native.Mathlib.Omega.{arith}
 use borrow.Fn.Claims.{AllOf}
 use contract.Lifetimes.{Lfts}
-use denote.Ref.{Bor}
+use denote.Ref.{MutBor}
 use denote.Triple.Entry.{Args, Res}
 use denote.Triple.Clauses.{Lasts, at_exit}
 use lib.ListN.{get_or, replicate}
@@ -170,27 +170,27 @@ stitch_one κs a r r₂ left left₂ p q =
     (stitched_alike r r₂ answer (p.1 ∙ sym q.1), ap (λ (m : List ℕ). (m, left.1)) t.1)
 
 -- the same in the contract's own words: a memory is its bytes, wherever it lies
-abbrev pub lent : List ℕ → Bor (List ℕ)
-lent m = record { ref_ptr = (0, 0); now = m }
+abbrev pub lent : List ℕ → MutBor (List ℕ)
+lent m = record { ref_ptr = (0, 0); ghost_name = 0; now = m }
 
 module _ (m : List ℕ) (port : ℕ) where
   abbrev out : Reply × List ℕ
   out = M (act (calls.stitch port)) m
 
-  pub stitch-in-words :
+  pub stitch_in_words :
       (r r₂ : Stitched) (left left₂ : List ℕ)
       → (stitch_reply r.answer r.«record», left) ≡ out
       → r.«record» ≡ record_in out.0
       → (stitch_reply r₂.answer r₂.«record», left₂) ≡ out
       → r₂.«record» ≡ record_in out.0
       → (r ≡ r₂) × (left ≡ left₂)
-  stitch-in-words r r₂ left left₂ p s q t =
+  stitch_in_words r r₂ left left₂ p s q t =
       let u = stitch_one ([], tt) (lent m, (port, tt)) r r₂ (left, (tt, tt)) (left₂, (tt, tt)) (p, s) (q, t) in
       (u.0, ap (λ (x : List ℕ × (Unit {0} × Unit {0})). x.0) u.1)
 
 -- the first alone would not do: beside a refusal any ten bytes might stand
 abbrev pub first_alone : Contract stitch.ended
-first_alone κs a r left = AllOf (stitch_says.ensures-1-read κs a tt r left).tells
+first_alone κs a r left = AllOf (stitch_says.ensures-acted-read κs a tt r left).owes
 
 pub second_needed : OneOutcome stitch.ended first_alone → ⊥
 second_needed one =

@@ -1,0 +1,25 @@
+-- `switch::report` meets its contract: where the test says a state, the act on it is the call; else refusal 3. Assumes nothing.
+use mathlib.Core.Path.{sym, ap, ◌∙◌}
+use mathlib.Core.List.{List}
+use Prim.Native.Nat.{ℕ}
+use borrow.Author.Rules.{rules}
+use Rattle.ledger.specs.Calls.{Reply, report}
+use Rattle.sound.proofs.Means.{tested_state}
+use Rattle.switch.proofs.Laws.{on_state, off_state}
+use Rattle.switch.proofs.report.Goals as goal
+
+pub report-requires : goal.report-requires
+report-requires c =
+    let a = c.args in
+    tested_state a.m.now _ (sym c.test.ensures ∙ c.in-State.is)
+
+pub returns-in-State : goal.returns-in-State
+returns-in-State c =
+    let a = c.args in
+    c.report.ensures ∙ ap (λ (out : Reply × List ℕ). out.0)
+    (on_state _ a.m.now (sym c.test.ensures ∙ c.in-State.is) (report a.port))
+
+pub returns-in-NoState : goal.returns-in-NoState
+returns-in-NoState c =
+    let a = c.args in
+    ap (λ (out : Reply × List ℕ). out.0) (off_state a.m.now (sym c.test.ensures ∙ c.in-NoState.is) (report a.port))
