@@ -1,0 +1,14 @@
+-- What the loop of `sums::bitwise` keeps.
+use Prim.Native.Nat.{ℕ, ◌+◌, ◌-◌, ◌≤◌}
+use mathlib.Core.Path.{◌≡◌, refl, sym, ap, ◌∙◌}
+use native.Mathlib.Omega.{arith}
+use lib.ListN.{length, drop}
+use Rattle.crc.specs.Crc.{crc_from, crc8}
+use Rattle.crc.proofs.Crc.{from_next, from_end}
+use Rattle.sums.proofs.bitwise.Given as goal
+
+abbrev pub invariant-loop-i : goal.invariant-loop-i
+invariant-loop-i l = (l.i ≤ length l.s) × (crc_from l.c (drop l.i l.s) ≡ crc8 l.s)
+
+abbrev pub decreases-loop-i : goal.decreases-loop-i
+decreases-loop-i l = length l.s - l.i
