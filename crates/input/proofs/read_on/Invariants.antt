@@ -1,0 +1,13 @@
+-- What the loop of `input::read_on` keeps.
+use mathlib.Core.Path.{◌≡◌, refl}
+use Prim.Native.Nat.{◌≤◌, ◌-◌}
+use lib.ListN.{take}
+use borrow.Author.Rules.{rules}
+use Rattle.input.proofs.Laws.{still_front}
+use Rattle.input.proofs.read_on.Given as goal
+
+abbrev pub invariant-loop-to : goal.invariant-loop-to
+invariant-loop-to g l = (l.from ≤ l.to) × (l.to ≤ 4096) × (take l.from l.bytes ≡ take l.from l.initial.bytes)
+
+abbrev pub decreases-loop-to : goal.decreases-loop-to
+decreases-loop-to g l = 14 - l.to
