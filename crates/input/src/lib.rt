@@ -45,12 +45,8 @@ fn moved(bytes: &mut [u8], from: usize, to: usize) -> usize
     requires { (from ≤ to) × (to ≤ length bytes.old) }
     ensures { (result ≡ to - from) × (take (to - from) bytes.new ≡ unread bytes.old from to) }
 {
-    let mut i = 0;
-    while i < to - from {
-        bytes[i] = bytes[from + i];
-        i += 1;
-    }
-    i
+    bytes.copy_within(from..to, 0);
+    to - from
 }
 
 // One read, to place to: up to where the buffer is filled then. The same place where nothing came, at the end or by a read that failed.

@@ -1,9 +1,5 @@
--- What the loop of `input::read_on` keeps.
-use mathlib.Core.Path.{◌≡◌, refl}
-use Prim.Native.Nat.{◌≤◌, ◌-◌}
-use lib.ListN.{take}
-use borrow.Author.Rules.{rules}
-use Rattle.input.proofs.Laws.{still_front}
+-- Each turn leaves the bytes that were there, and reads a byte or more past them.
+use Rattle.std.proofs.Common.{◌≡◌, ◌-◌, ◌≤◌, take}
 use Rattle.input.proofs.read_on.Given as goal
 
 abbrev pub invariant-loop-to : goal.invariant-loop-to
