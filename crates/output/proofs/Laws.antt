@@ -1,7 +1,9 @@
--- A number in decimal, digit by digit; with no code.
-use Rattle.std.proofs.Common.{◌≡◌, ℕ, zero, suc, ◌+◌, ◌-◌, ◌/◌, ◌%◌, ◌^◌, ◌≤◌, ◌<◌, List, [], ◌∷◌, ◌++◌, length, set, drop, arith}
+-- A number in decimal, digit by digit; and what waits in the buffer after some bytes and then some more; with no code.
+use Rattle.std.proofs.Common.{◌≡◌, refl, sym, ap, ◌∙◌, ℕ, zero, suc, ◌+◌, ◌-◌, ◌/◌, ◌%◌, ◌^◌, ◌≤◌, ◌<◌, List, [], ◌∷◌, ◌++◌, length, set, drop, arith}
 use Rattle.std.proofs.lemmas.Grind.{common_steps}
-use Rattle.output.specs.Buffer.{places, decimal}
+use Rattle.output.specs.Buffer.{places, decimal, queued_byte, queued}
+
+-- ---- decimals
 
 places_enough : (a b n : ℕ) → n < a → n < b → places a n ≡ places b n
 places_enough zero b n h k = absurd (omega arith)
@@ -35,3 +37,13 @@ pub room_left : (rest at : ℕ) → 10 ≤ rest → rest < 10 ^ at → 1 < at
 room_left rest zero h fits = omega arith
 room_left rest (suc zero) h fits = omega arith
 room_left rest (suc (suc at)) h fits = omega arith
+
+-- ---- the buffer
+
+queued_append : (w xs ys : List ℕ) → queued w (xs ++ ys) ≡ queued (queued w xs) ys
+queued_append w [] ys = refl
+queued_append w (x ∷ xs) ys = queued_append (queued_byte w x) xs ys
+
+-- what waits after some bytes, and then after some more
+pub then_queued : (w xs ys : List ℕ) {w' r : List ℕ} → w' ≡ queued w xs → r ≡ queued w' ys → r ≡ queued w (xs ++ ys)
+then_queued w xs ys first then = then ∙ ap (λ (l : List ℕ). queued l ys) first ∙ sym (queued_append w xs ys)

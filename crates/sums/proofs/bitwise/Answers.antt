@@ -1,9 +1,9 @@
 -- `sums::bitwise` meets its contract. The loop's invariant: the bytes that are left, from the sum so far, give the whole sum. The
 -- measure is their count. Assumes nothing.
-use Prim.Native.Nat.{ℕ, ◌+◌, ◌-◌, ◌≤◌}
-use mathlib.Core.Path.{◌≡◌, refl, sym, ap, ◌∙◌}
+use Prim.Native.Nat.{ℕ, ◌+◌}
+use mathlib.Core.Path.{refl, sym, ap, ◌∙◌}
 use native.Mathlib.Omega.{arith}
-use lib.ListN.{length, drop}
+use lib.ListN.{drop}
 use Rattle.crc.specs.Crc.{crc_from, crc8}
 use Rattle.crc.proofs.Crc.{from_next, from_end}
 use Rattle.sums.proofs.bitwise.Goals as goal

@@ -1,10 +1,8 @@
 -- What the loop of `sums::bitwise` keeps.
-use Prim.Native.Nat.{ℕ, ◌+◌, ◌-◌, ◌≤◌}
-use mathlib.Core.Path.{◌≡◌, refl, sym, ap, ◌∙◌}
-use native.Mathlib.Omega.{arith}
+use Prim.Native.Nat.{◌-◌, ◌≤◌}
+use mathlib.Core.Path.{◌≡◌}
 use lib.ListN.{length, drop}
 use Rattle.crc.specs.Crc.{crc_from, crc8}
-use Rattle.crc.proofs.Crc.{from_next, from_end}
 use Rattle.sums.proofs.bitwise.Given as goal
 
 abbrev pub invariant-loop-i : goal.invariant-loop-i

@@ -4,7 +4,7 @@ use Prim.Native.Nat.{ℕ, ◌-◌}
 use mathlib.Core.Path.{◌≡◌, sym, ap, ◌∙◌}
 use native.Mathlib.Omega.{arith}
 use borrow.Author.Rules.{rules}
-use Rattle.crc.specs.Crc.{crc_bits, crc_byte}
+use Rattle.crc.specs.Crc.{crc_bits}
 use Rattle.crc.proofs.Crc.{byte_starts, bits_fall}
 use Rattle.sums.proofs.step.Goals as goal
 

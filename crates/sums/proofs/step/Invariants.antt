@@ -1,10 +1,6 @@
 -- What the loop of `sums::step` keeps.
-use Prim.Native.Nat.{ℕ, ◌-◌}
-use mathlib.Core.Path.{◌≡◌, sym, ap, ◌∙◌}
-use native.Mathlib.Omega.{arith}
-use borrow.Author.Rules.{rules}
+use mathlib.Core.Path.{◌≡◌}
 use Rattle.crc.specs.Crc.{crc_bits, crc_byte}
-use Rattle.crc.proofs.Crc.{byte_starts, bits_fall}
 use Rattle.sums.proofs.step.Given as goal
 
 abbrev pub invariant-loop-left : goal.invariant-loop-left
