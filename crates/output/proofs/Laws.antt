@@ -1,5 +1,5 @@
 -- A number in decimal, digit by digit; and what waits in the buffer after some bytes and then some more; with no code.
-use Rattle.std.proofs.Common.{◌≡◌, refl, sym, ap, ◌∙◌, ℕ, zero, suc, ◌+◌, ◌-◌, ◌/◌, ◌%◌, ◌^◌, ◌≤◌, ◌<◌, List, [], ◌∷◌, ◌++◌, length, set, drop, arith}
+use Rattle.std.proofs.Common.{◌≡◌, refl, ℕ, zero, suc, ◌+◌, ◌-◌, ◌/◌, ◌%◌, ◌^◌, ◌≤◌, ◌<◌, List, [], ◌∷◌, ◌++◌, length, set, drop, arith}
 use Rattle.std.proofs.lemmas.Grind.{common_steps}
 use Rattle.output.specs.Buffer.{places, decimal, queued_byte, queued}
 
@@ -40,10 +40,7 @@ room_left rest (suc (suc at)) h fits = omega arith
 
 -- ---- the buffer
 
-queued_append : (w xs ys : List ℕ) → queued w (xs ++ ys) ≡ queued (queued w xs) ys
+-- what waits after some bytes, and then after some more
+pub queued_append : (w xs ys : List ℕ) → queued w (xs ++ ys) ≡ queued (queued w xs) ys
 queued_append w [] ys = refl
 queued_append w (x ∷ xs) ys = queued_append (queued_byte w x) xs ys
-
--- what waits after some bytes, and then after some more
-pub then_queued : (w xs ys : List ℕ) {w' r : List ℕ} → w' ≡ queued w xs → r ≡ queued w' ys → r ≡ queued w (xs ++ ys)
-then_queued w xs ys first then = then ∙ ap (λ (l : List ℕ). queued l ys) first ∙ sym (queued_append w xs ys)

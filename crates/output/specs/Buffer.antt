@@ -1,4 +1,4 @@
--- A number's text, byte for byte, and what waits in the buffer after some bytes.
+-- A number's text, byte for byte, and what waits in the buffer after some bytes. Assumes nothing.
 use Rattle.std.specs.Prelude.{cond, List, [], ◌∷◌, ◌++◌, ℕ, zero, suc, ◌+◌, ◌/◌, ◌%◌, nat_lt, length}
 
 -- the last k digits of n, the most significant first

@@ -11,50 +11,50 @@ use std::io::Write;
 mod digits;
 
 // Writes what waits. The callers here go on after a write that fails: no answer depends on it.
-pub fn flush<W: Write>(to: &mut W, out: &[u8], waiting: usize) -> io::Result<()>
+pub fn flush<W: Write>(writer: &mut W, out: &[u8], waiting: usize) -> io::Result<()>
     requires { waiting ≤ length out.now }
-    ensures { OnOk result (Appends (W.contents to.old) (W.contents to.new) (take waiting out.now)) }
+    ensures { OnOk result (Appends (W.contents writer.old) (W.contents writer.new) (take waiting out.now)) }
 {
-    to.write_all(&out[..waiting])
+    writer.write_all(&out[..waiting])
 }
 
 // Room for a byte more.
-fn room<W: Write>(to: &mut W, out: &[u8; 4096], waiting: usize) -> usize
+fn room<W: Write>(writer: &mut W, out: &[u8; 4096], waiting: usize) -> usize
     requires { waiting ≤ 4096 }
     ensures { (result < 4096) × (result ≡ cond (nat_lt waiting 4096) waiting 0) }
 {
     if waiting < 4096 {
         return waiting;
     }
-    let _ = flush(to, out, waiting);
+    let _ = flush(writer, out, waiting);
     0
 }
 
-pub fn byte<W: Write>(to: &mut W, out: &mut [u8; 4096], waiting: usize, b: u8) -> usize
+pub fn byte<W: Write>(writer: &mut W, out: &mut [u8; 4096], waiting: usize, b: u8) -> usize
     requires { waiting ≤ 4096 }
     ensures { (result ≤ 4096) × (take result out.new ≡ queued (take waiting out.old) (b ∷ [])) }
 {
-    let at = room(to, out, waiting);
+    let at = room(writer, out, waiting);
     out[at] = b;
     at + 1
 }
 
-pub fn text<W: Write>(to: &mut W, out: &mut [u8; 4096], waiting: usize, s: &[u8]) -> usize
+pub fn text<W: Write>(writer: &mut W, out: &mut [u8; 4096], waiting: usize, s: &[u8]) -> usize
     requires { waiting ≤ 4096 }
     ensures { (result ≤ 4096) × (take result out.new ≡ queued (take waiting out.old) s.now) }
 {
     let mut at = waiting;
     for b in s {
-        at = byte(to, out, at, *b);
+        at = byte(writer, out, at, *b);
     }
     at
 }
 
-pub fn number<W: Write>(to: &mut W, out: &mut [u8; 4096], waiting: usize, n: u64) -> usize
+pub fn number<W: Write>(writer: &mut W, out: &mut [u8; 4096], waiting: usize, n: u64) -> usize
     requires { waiting ≤ 4096 }
     ensures { (result ≤ 4096) × (take result out.new ≡ queued (take waiting out.old) (decimal n)) }
 {
     let mut digits = [0u8; 20];
     let from = digits::put(n, &mut digits);
-    text(to, out, waiting, &digits[from..])
+    text(writer, out, waiting, &digits[from..])
 }
