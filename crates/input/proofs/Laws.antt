@@ -1,41 +1,19 @@
--- What is read of the input and not used yet; with no code. Assumes nothing.
-use mathlib.Core.Logic.{inl, inr}
-use mathlib.Core.Path.{◌≡◌, refl, sym, ap, ◌∙◌}
-use mathlib.Core.List.{List, [], ◌∷◌, ◌++◌}
-use Prim.Native.Nat.{ℕ, ◌+◌, ◌-◌, ◌≤◌, ◌<◌}
-use native.Mathlib.Numerals.{add-one}
-use native.Mathlib.Omega.{arith}
-use lib.ListN.{length, get_or, take, drop, set, length-set, length-drop}
-use lib.Seq.{take-suc, take-suc-set, take-take, drop-drop, drop-set-lt, get_or-drop}
-use Rattle.input.specs.Inputs.{unread, Kept}
+-- The bytes that a reader gives, in order; with no code. Assumes nothing.
+use Rattle.std.proofs.Common.{◌≡◌, sym, ap, ◌∙◌, subst, ℕ, ◌+◌, ◌-◌, ◌≤◌, List, ◌++◌, None, Some, length, take, drop, arith}
+use Rattle.std.proofs.lemmas.Grind.{common_steps}
+use Rattle.std.proofs.lemmas.List.{take-append-drop, drop-append-le, drop-take, take-take, length-take-le}
+use Rattle.std.proofs.lemmas.Slice.{take-put_mid}
+use borrow.Rule.Slice.PartMut.{put_mid}
+use Rattle.std.proofs.KnownBytes.{Consumes-trans}
+use Rattle.std.specs.declared.option.Option.{Option}
+use Rattle.std.specs.Io.KnownBytes.{Consumes}
+use Rattle.input.specs.Inputs.{unread, IsNoneLost}
 
--- i bytes are moved to the front, and from place i on all stand as they did
-pub record Moved (old : List ℕ) (from i : ℕ) (bytes : List ℕ) : Type 0 where
-  pub same : length bytes ≡ length old
-  pub front : take i bytes ≡ take i (drop from old)
-  pub rest : drop i bytes ≡ drop i old
-
-pub moved_step :
-    (old : List ℕ) (from i : ℕ) (bytes : List ℕ) → from + i < length old → Moved old from i bytes
-    → Moved old from (i + 1) (set bytes i (get_or bytes (from + i) 0))
-moved_step old from i bytes h v = record {
-  same = length-set bytes i _ ∙ v.same;
-  front =
-      rw (add-one, byte)
-      (take-suc-set bytes i _ (omega (arith, v.same))
-      ∙ ap (λ (l : List ℕ). l ++ (get_or (drop from old) i 0 ∷ [])) v.front
-      ∙ sym (take-suc (drop from old) i 0 (simp length-drop (omega arith))));
-  rest =
-      drop-set-lt (i + 1) bytes i _ (omega arith)
-      ∙ sym (drop-drop 1 i bytes)
-      ∙ ap (drop 1) v.rest
-      ∙ drop-drop 1 i old;
-}
-  where
-    byte : get_or bytes (from + i) 0 ≡ get_or (drop from old) i 0
-    byte =
-        let swap : from + i ≡ i + from = omega arith in
-        rw (get_or-drop from old i 0, swap, ← get_or-drop i bytes from 0, v.rest) (get_or-drop i old from 0)
+-- what is read to place `to` stands there
+pub read_there :
+    (to got : ℕ) (bytes part : List ℕ) → to ≤ length bytes → length part ≡ length bytes - to → got ≤ length part
+    → drop to (take (to + got) (put_mid to (length bytes - to) bytes part)) ≡ take got part
+read_there to got bytes part h e k = grind (arith, common_steps, take-put_mid to (length bytes - to) bytes part (to + length part), drop-take)
 
 -- what is read past place `to` leaves the bytes before it
 pub still_front :
@@ -43,13 +21,39 @@ pub still_front :
     → take from bytes' ≡ take from old
 still_front from to old bytes bytes' h front e = sym (take-take from to bytes' h) ∙ ap (take from) e ∙ take-take from to bytes h ∙ front
 
--- what is left is enough
-pub kept_there : (bytes : List ℕ) (from to : ℕ) → from ≤ to → Kept bytes from to bytes from to
-kept_there bytes from to h = record { place = inl (refl, refl); more = omega arith; front = refl }
+-- what was read before stands in front of it
+read_after :
+    (from to next : ℕ) (bytes bytes' : List ℕ) → from ≤ to → to ≤ next → next ≤ length bytes' → take to bytes' ≡ take to bytes
+    → drop from (take to bytes) ++ drop to (take next bytes') ≡ drop from (take next bytes')
+read_after from to next bytes bytes' h k room e =
+    let rest = drop to (take next bytes') in
+    let front : take to (take next bytes') ≡ take to bytes = take-take to next bytes' k ∙ e in
+    let whole : take next bytes' ≡ take to bytes ++ rest = sym (take-append-drop to (take next bytes')) ∙ ap (λ l. l ++ rest) front in
+    let long : length (take to bytes) ≡ to = ap length (sym e) ∙ length-take-le to bytes' (omega arith) in
+    sym (ap (drop from) whole ∙ drop-append-le from (take to bytes) rest (omega arith))
+
+-- what a read gives comes after what was read before
+pub read_more :
+    (a b c : Option (List ℕ)) (from to next : ℕ) (bytes bytes' : List ℕ) → from ≤ to → to ≤ next → next ≤ length bytes'
+    → take to bytes' ≡ take to bytes → Consumes a b (drop from (take to bytes)) → Consumes b c (drop to (take next bytes'))
+    → Consumes a c (drop from (take next bytes'))
+read_more a b c from to next bytes bytes' h k room e before then =
+    subst (Consumes a c) (read_after from to next bytes bytes' h k room e) (Consumes-trans a b c _ _ before then)
+
+-- what was there and what is read after it are none lost
+none_lost :
+    (left left' : Option (List ℕ)) (bytes bytes' : List ℕ) (n : ℕ) → take n bytes' ≡ bytes → Consumes left left' (drop n bytes')
+    → IsNoneLost bytes left bytes' left'
+none_lost None left' bytes bytes' n e c = tt
+none_lost (Some xs) None bytes bytes' n e c = c
+none_lost (Some xs) (Some ys) bytes bytes' n e c = grind (arith, common_steps, take-append-drop n bytes')
 
 -- what is left is moved to the front, and read on from
-pub kept_moved :
-    (bytes : List ℕ) (from to : ℕ) (between : List ℕ) {rest from' to' : ℕ} {bytes' : List ℕ}
-    → rest ≡ to - from → take (to - from) between ≡ unread bytes from to → from' ≡ 0 → rest ≤ to' → take rest bytes' ≡ take rest between
-    → Kept bytes from to bytes' from' to'
-kept_moved bytes from to between all front start more on = record { place = inr start; more = omega arith; front = rw start (rw all at on ∙ front) }
+pub none_lost_on :
+    (left left' : Option (List ℕ)) (old between new : List ℕ) (from to rest to' : ℕ) → rest ≡ to - from → take (to - from) between ≡ unread old from to
+    → rest ≤ to' → take rest new ≡ take rest between → Consumes left left' (drop rest (take to' new))
+    → IsNoneLost (unread old from to) left (unread new 0 to') left'
+none_lost_on left left' old between new from to rest to' all moved more on read =
+    let same : to' ≡ to' - 0 = omega arith in
+    subst (λ (n : ℕ). IsNoneLost (unread old from to) left (take n new) left') same
+    (none_lost left left' _ (take to' new) rest (take-take rest to' new more ∙ on ∙ rw all moved) read)

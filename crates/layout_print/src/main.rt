@@ -6,19 +6,15 @@ ghost use Rattle.layout.specs.Tables.{Laid};
 
 use layout::{Shape, Table};
 use settings::Settings;
+use std::io;
 
-fn number(n: usize) {
-    io::write_all(1, b" ");
-    io::print_decimal(1, n as u64);
-}
-
-fn start(s: Shape, t: Table)
+fn start(rt: &impl Print, s: Shape, t: Table) -> io::Result<()>
     requires { Laid s }
 {
-    number(layout::start_of(s, t));
+    print!(rt; " {}", layout::start_of(s, t))
 }
 
-fn line(nodes: u32)
+fn line(rt: &impl Print, nodes: u32) -> io::Result<()>
     requires { (1 ≤ nodes) × (nodes ≤ 2048) }
 {
     let s = layout::shape_of(Settings {
@@ -31,35 +27,34 @@ fn line(nodes: u32)
         edition: 0,
         packets: 0,
     });
-    io::print_decimal(1, nodes as u64);
-    start(s, Table::Setting);
-    start(s, Table::Mapped);
-    start(s, Table::Last);
-    start(s, Table::Halted);
-    start(s, Table::Arrival);
-    start(s, Table::Outward);
-    start(s, Table::Buckets);
-    start(s, Table::Head);
-    start(s, Table::Tail);
-    start(s, Table::Count);
-    start(s, Table::Next);
-    start(s, Table::Length);
-    start(s, Table::Stamp);
-    start(s, Table::Queue);
-    start(s, Table::Dest);
-    start(s, Table::Poisoned);
-    start(s, Table::Transaction);
-    start(s, Table::Price);
-    number(layout::size_of(s));
-    io::write_all(1, b"\n");
+    print!(rt; "{nodes}")?;
+    start(rt, s, Table::Setting)?;
+    start(rt, s, Table::Mapped)?;
+    start(rt, s, Table::Last)?;
+    start(rt, s, Table::Halted)?;
+    start(rt, s, Table::Arrival)?;
+    start(rt, s, Table::Outward)?;
+    start(rt, s, Table::Buckets)?;
+    start(rt, s, Table::Head)?;
+    start(rt, s, Table::Tail)?;
+    start(rt, s, Table::Count)?;
+    start(rt, s, Table::Next)?;
+    start(rt, s, Table::Length)?;
+    start(rt, s, Table::Stamp)?;
+    start(rt, s, Table::Queue)?;
+    start(rt, s, Table::Dest)?;
+    start(rt, s, Table::Poisoned)?;
+    start(rt, s, Table::Transaction)?;
+    start(rt, s, Table::Price)?;
+    println!(rt; " {}", layout::size_of(s))
 }
 
-fn main() {
-    line(1);
-    line(2);
-    line(16);
-    line(255);
-    line(256);
-    line(257);
-    line(2048);
+fn main(rt: HostRuntime) -> io::Result<()> {
+    line(&rt, 1)?;
+    line(&rt, 2)?;
+    line(&rt, 16)?;
+    line(&rt, 255)?;
+    line(&rt, 256)?;
+    line(&rt, 257)?;
+    line(&rt, 2048)
 }
