@@ -10,7 +10,7 @@ use lib.Dec.{eqb, ltb, leb}
 use Rattle.ledger.specs.declared.Finding.{Finding}
 use Rattle.ledger.specs.declared.Finding.TheVariants.{At}
 use Rattle.ledger.specs.declared.Broken.{Broken}
-use Rattle.ledger.specs.declared.Broken.TheVariants.{Nothing, A, B}
+use Rattle.ledger.specs.declared.Broken.TheVariants.{Nothing, B}
 use Rattle.ledger.specs.Settings.{Settings, ids, row}
 use Rattle.ledger.specs.Buckets.{stop}
 use Rattle.ledger.specs.Halt.{is_mark}

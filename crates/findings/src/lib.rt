@@ -1,3 +1,2 @@
 // What a finding means: definitions and theorems, nothing runs.
 #![tactic(auto)]
-

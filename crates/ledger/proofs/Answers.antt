@@ -32,7 +32,7 @@ use Rattle.ledger.specs.declared.Bucketed.{Bucketed}
 use Rattle.ledger.specs.declared.Bucketed.TheVariants as counts
 use Rattle.ledger.specs.declared.Shown.{Shown}
 use Rattle.ledger.specs.declared.Shown.TheVariants as parts
-use Rattle.ledger.specs.Calls.{refused, entry, leaves, found, Side}
+use Rattle.ledger.specs.Calls.{refused, leaves, found, Side}
 use Rattle.ledger.specs.Ledger.{Packet, Place}
 
 -- the refusals by their numbers; where there is none, any

@@ -9,7 +9,7 @@ use Rattle.ledger.specs.Settings.{Settings}
 use Rattle.ledger.specs.Ledger.{cell, credit_at}
 use Rattle.ledger.specs.Sound.{Roomy}
 use Rattle.ledger.proofs.Places.{cell_lt}
-use Rattle.layout.specs.Tables.{cells, lists, many}
+use Rattle.layout.specs.Tables.{cells, lists}
 use Rattle.memory.proofs.Chains.{total_bound}
 use Rattle.paid.specs.Paid.{add_list, add_from, sums_of}
 use Rattle.paid.specs.Passes.{Payable, Sums, list_most}

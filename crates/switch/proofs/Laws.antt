@@ -15,7 +15,6 @@ use Rattle.ledger.proofs.Tests.{ltb_not}
 use Rattle.ledger.proofs.Rows.{roomy}
 use Rattle.layout.specs.declared.Shape.{Shape}
 use Rattle.layout.specs.Tables.{settings_of}
-use Rattle.layout.specs.Picture.{State}
 use Rattle.memory.specs.Memory.{acted, M}
 use Rattle.memory.specs.Packets.{packet_on}
 use Rattle.memory.specs.Rounds.{rounded, round_on}

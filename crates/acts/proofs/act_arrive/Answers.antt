@@ -1,6 +1,5 @@
 -- `acts::act_arrive` meets its contract: on a state the act is the call, and the room follows the reply. Assumes nothing.
 use mathlib.Core.Path.{◌∙◌}
-use borrow.Author.Rules.{rules}
 use Rattle.memory.proofs.Demands.{on_works}
 use Rattle.rooms.specs.Rooms.{entry_room}
 use Rattle.rooms.proofs.Laws.{tells_in}

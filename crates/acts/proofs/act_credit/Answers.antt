@@ -1,6 +1,5 @@
 -- `acts::act_credit` meets its contract: on a state the act is the call. Assumes nothing.
 use mathlib.Core.Path.{◌∙◌}
-use borrow.Author.Rules.{rules}
 use Rattle.memory.proofs.Demands.{on_works}
 use Rattle.rooms.proofs.Laws.{tells}
 use Rattle.acts.proofs.act_credit.Goals as goal

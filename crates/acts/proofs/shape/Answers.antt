@@ -2,7 +2,6 @@
 use mathlib.Core.Path.{◌≡◌, sym, ◌∙◌, subst}
 use Prim.Native.Nat.{ℕ}
 use native.Mathlib.Omega.{arith}
-use borrow.Author.Rules.{rules}
 use Rattle.ledger.specs.Settings.{Settings}
 use Rattle.layout.specs.Picture.{StateOf}
 use Rattle.ranges.proofs.Opening.{opened_fine, opened_is}

@@ -1,7 +1,6 @@
 -- `arrivals::admit` meets its contract: each return is a law of what the judgement is there. Assumes nothing.
 use mathlib.Core.Path.{◌≡◌, sym, ap, ◌∙◌}
 use Prim.Native.Nat.{ℕ}
-use borrow.Author.Rules.{rules}
 use Rattle.ledger.specs.Ledger.{Packet, recorded, free, place#}
 use Rattle.ledger.specs.Calls.{lacks}
 use Rattle.ledger.specs.Answers.{sent_of}

@@ -1,7 +1,6 @@
 -- `arrivals::arrive_by` meets its contract: the judge decides; the packet that it accepts is taken in, else the port is halted if that is due.
 -- Assumes nothing.
 use mathlib.Core.Path.{sym, ap, ◌∙◌}
-use borrow.Author.Rules.{rules}
 use Rattle.ledger.specs.Answers.{sent_of, load_of}
 use Rattle.layout.specs.Tables.{settings_of}
 use Rattle.arrivals.specs.Admission.{admitted_of}

@@ -1,6 +1,5 @@
 -- `arrivals::judge_arrive` meets its contract: the kind, then the rest. Assumes nothing.
 use mathlib.Core.Path.{sym, ap, ◌∙◌}
-use borrow.Author.Rules.{rules}
 use Rattle.ledger.specs.Answers.{load_of}
 use Rattle.layout.specs.Tables.{settings_of}
 use Rattle.memory.specs.Judged.{judgement_of}

@@ -1,6 +1,5 @@
 -- `arrivals::judge_at` meets its contract: the port, then the header's own verdict, then what its fields ask. Assumes nothing.
 use mathlib.Core.Path.{◌≡◌, sym, ap, ◌∙◌}
-use borrow.Author.Rules.{rules}
 use Rattle.ledger.specs.Header.{form}
 use Rattle.ledger.specs.Answers.{load_of}
 use Rattle.header.specs.Parse.{header_of}

@@ -1,6 +1,5 @@
 -- `arrivals::judge_header` meets its contract: the form is the switch's. Assumes nothing.
 use mathlib.Core.Path.{ap, ◌∙◌}
-use borrow.Author.Rules.{rules}
 use Rattle.ledger.specs.Header.{Form}
 use Rattle.ledger.specs.Answers.{load_of}
 use Rattle.header.specs.Judge.{verdict}

@@ -1,7 +1,6 @@
 -- `arrivals::judge_kind` meets its contract: the kind, then of a packet the size of its memory. Assumes nothing.
 use mathlib.Core.Path.{◌≡◌, refl, sym, ap, ◌∙◌}
 use mathlib.Core.Bool.{not, false}
-use borrow.Author.Rules.{rules}
 use Rattle.ledger.specs.Settings.{keeps_packets}
 use Rattle.ledger.specs.Header.{alone, whole}
 use Rattle.layout.specs.Tables.{settings_of}

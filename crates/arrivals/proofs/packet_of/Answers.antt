@@ -1,6 +1,5 @@
 -- `arrivals::packet_of` meets its contract. Assumes nothing.
 use native.Mathlib.Omega.{arith}
-use borrow.Author.Rules.{rules}
 use Rattle.ledger.specs.Ledger.{recorded}
 use Rattle.ledger.proofs.Header.{price_le}
 use Rattle.arrivals.proofs.packet_of.Goals as goal

@@ -3,7 +3,6 @@
 use mathlib.Core.Path.{◌≡◌, sym, ap, ◌∙◌}
 use Prim.Native.Nat.{ℕ}
 use native.Mathlib.Omega.{arith}
-use borrow.Author.Rules.{rules}
 use Rattle.ledger.specs.Ledger.{free, place#}
 use Rattle.ledger.specs.Answers.{sent_of}
 use Rattle.layout.specs.declared.Table.TheVariants.{Head}

@@ -1,6 +1,5 @@
 -- `arrivals::wanting` meets its contract: a halt first, then the credit. Assumes nothing.
 use mathlib.Core.Path.{sym, ◌∙◌}
-use borrow.Author.Rules.{rules}
 use Rattle.arrivals.proofs.wanting.Goals as goal
 
 pub returns-then-held_up : goal.returns-then-held_up

@@ -1,6 +1,5 @@
 -- `asks::asked_at` meets its contract: by what the field is. Assumes nothing.
 use mathlib.Core.Path.{sym, ap, ◌∙◌}
-use borrow.Author.Rules.{rules}
 use Rattle.fields.proofs.Fields.{whole_inside}
 use Rattle.memory.specs.Runs.{asked_by, asked_at}
 use Rattle.asks.proofs.asked_at.Goals as goal

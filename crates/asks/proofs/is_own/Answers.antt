@@ -1,6 +1,5 @@
 -- `asks::is_own` meets its contract: by the tag. Assumes nothing.
 use borrow.Author.Tests.{eq-eqb, ne_eqb}
-use borrow.Author.Rules.{rules}
 use Rattle.asks.proofs.is_own.Goals as goal
 
 pub returns-then-tag-eq2 : goal.returns-then-tag-eq2

@@ -1,6 +1,5 @@
 -- `asks::of_bench` meets its contract: by what is read. Assumes nothing.
 use mathlib.Core.Path.{refl}
-use borrow.Author.Rules.{rules}
 use Rattle.asks.specs.declared.Asked.TheVariants.{Bad, End}
 use Rattle.asks.proofs.Laws.{read_asks}
 use Rattle.asks.proofs.of_bench.Goals as goal

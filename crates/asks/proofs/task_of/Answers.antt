@@ -1,6 +1,5 @@
 -- `asks::task_of` meets its contract: order by order. Assumes nothing.
 use mathlib.Core.Path.{refl}
-use borrow.Author.Rules.{rules}
 use Rattle.asks.specs.declared.Asked.TheVariants.{Bad}
 use Rattle.asks.proofs.Laws.{order_asks}
 use Rattle.asks.proofs.task_of.Goals as goal

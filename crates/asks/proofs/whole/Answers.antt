@@ -1,6 +1,5 @@
 -- `asks::whole` meets its contract: an arrival of the switch's own size, or what the bench reads. Assumes nothing.
 use mathlib.Core.Path.{sym, ◌∙◌}
-use borrow.Author.Rules.{rules}
 use Rattle.asks.proofs.Laws.{port_in, own_asks, bench_asks}
 use Rattle.asks.proofs.whole.Goals as goal
 

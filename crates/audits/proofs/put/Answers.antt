@@ -1,11 +1,9 @@
 -- `audits::put` meets its contract. The loop's invariant: the bytes passed are in the room. The measure is how many are left. Assumes nothing.
 use mathlib.Core.Path.{◌≡◌}
-use Prim.Native.Nat.{◌-◌}
-use native.Mathlib.Omega.{arith}
 use mir.Syntax.{w8}
 use borrow.Kind.Array.{good_length, e_int}
 use lib.ListN.{length}
-use Rattle.audits.proofs.Rooms.{Putting, put_starts, put_goes, put_ends}
+use Rattle.audits.proofs.Rooms.{put_starts, put_goes, put_ends}
 use Rattle.audits.proofs.put.Goals as goal
 use Rattle.audits.proofs.put.Goals.{Start}
 

@@ -2,7 +2,6 @@
 use mathlib.Core.Path.{refl}
 use Prim.Native.Nat.{◌<◌}
 use native.Mathlib.Omega.{arith}
-use borrow.Author.Rules.{rules}
 use Rattle.layout.specs.Tables.{all, settings_of}
 use Rattle.memory.proofs.Chains.{slot_lt}
 use Rattle.audits.proofs.tell.Goals as goal

@@ -1,13 +1,12 @@
 -- `audits::tell_list` meets its contract. The loop's invariant: what the whole list leaves is what the rest of it leaves from here. The measure is
 -- how many nodes are left. Assumes nothing.
-use Prim.Native.Nat.{◌-◌, ◌<◌}
+use Prim.Native.Nat.{◌<◌}
 use native.Mathlib.Omega.{arith}
-use borrow.Author.Rules.{rules}
 use Rattle.layout.specs.declared.Table.TheVariants.{Count}
 use Rattle.layout.specs.Tables.{settings_of, get}
 use Rattle.lists.specs.Ends.{InList}
 use Rattle.memory.proofs.Chains.{state_tidy, total_bound}
-use Rattle.audits.proofs.Walks.{Telling, tell_starts, tell_node, tell_goes, tell_ends}
+use Rattle.audits.proofs.Walks.{tell_starts, tell_node, tell_goes, tell_ends}
 use Rattle.audits.proofs.tell_list.Goals as goal
 use Rattle.audits.proofs.tell_list.Goals.{In-loop-i, Start}
 

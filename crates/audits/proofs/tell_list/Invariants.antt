@@ -1,12 +1,7 @@
 -- What the loop of `audits::tell_list` keeps.
-use Prim.Native.Nat.{◌-◌, ◌<◌}
-use native.Mathlib.Omega.{arith}
-use borrow.Author.Rules.{rules}
-use Rattle.layout.specs.declared.Table.TheVariants.{Count}
-use Rattle.layout.specs.Tables.{settings_of, get}
-use Rattle.lists.specs.Ends.{InList}
-use Rattle.memory.proofs.Chains.{state_tidy, total_bound}
-use Rattle.audits.proofs.Walks.{Telling, tell_starts, tell_node, tell_goes, tell_ends}
+use Prim.Native.Nat.{◌-◌}
+use Rattle.layout.specs.Tables.{settings_of}
+use Rattle.audits.proofs.Walks.{Telling}
 use Rattle.audits.proofs.tell_list.Given as goal
 
 abbrev pub invariant-loop-i : goal.invariant-loop-i

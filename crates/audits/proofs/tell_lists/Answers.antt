@@ -1,10 +1,9 @@
 -- `audits::tell_lists` meets its contract. The loop's invariant: what all lists leave is what the rest of them leaves from here. The measure is how
 -- many are left. Assumes nothing.
-use Prim.Native.Nat.{◌-◌, ◌<◌}
+use Prim.Native.Nat.{◌<◌}
 use native.Mathlib.Omega.{arith}
-use borrow.Author.Rules.{rules}
 use Rattle.layout.specs.Tables.{lists, settings_of}
-use Rattle.audits.proofs.Walks.{Passing, pass_starts, pass_goes, pass_ends}
+use Rattle.audits.proofs.Walks.{pass_starts, pass_goes, pass_ends}
 use Rattle.audits.proofs.tell_lists.Goals as goal
 use Rattle.audits.proofs.tell_lists.Goals.{In-loop-l}
 

@@ -1,9 +1,7 @@
 -- What the loop of `audits::tell_lists` keeps.
-use Prim.Native.Nat.{◌-◌, ◌<◌}
-use native.Mathlib.Omega.{arith}
-use borrow.Author.Rules.{rules}
-use Rattle.layout.specs.Tables.{lists, settings_of}
-use Rattle.audits.proofs.Walks.{Passing, pass_starts, pass_goes, pass_ends}
+use Prim.Native.Nat.{◌-◌}
+use Rattle.layout.specs.Tables.{settings_of}
+use Rattle.audits.proofs.Walks.{Passing}
 use Rattle.audits.proofs.tell_lists.Given as goal
 
 abbrev pub invariant-loop-l : goal.invariant-loop-l

@@ -1,5 +1,4 @@
 -- `capi::vr_arrive_packet` meets its contract: the answer, the room and the packet memory follow the reply of the call. Assumes nothing.
-use borrow.Author.Rules.{rules}
 use Rattle.rooms.proofs.Laws.{tells_packet}
 use Rattle.capi.proofs.vr_arrive_packet.Goals as goal
 

@@ -1,5 +1,4 @@
 -- `capi::vr_audit` meets its contract: the answer follows the reply of the audit, which has left the room. Assumes nothing.
-use borrow.Author.Rules.{rules}
 use Rattle.rooms.proofs.Laws.{tells}
 use Rattle.capi.proofs.vr_audit.Goals as goal
 

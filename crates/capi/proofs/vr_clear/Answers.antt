@@ -1,5 +1,4 @@
 -- `capi::vr_clear` meets its contract: the answer follows the reply of the call. Assumes nothing.
-use borrow.Author.Rules.{rules}
 use Rattle.rooms.proofs.Laws.{tells}
 use Rattle.capi.proofs.vr_clear.Goals as goal
 

@@ -1,6 +1,5 @@
 -- `capi::vr_find` meets its contract: both numbers of the finding. Assumes nothing.
 use mathlib.Core.Path.{ap, ◌∙◌}
-use borrow.Author.Rules.{rules}
 use Rattle.rooms.specs.Rooms.{found_numbers}
 use Rattle.capi.proofs.vr_find.Goals as goal
 

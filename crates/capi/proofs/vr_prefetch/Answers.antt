@@ -1,5 +1,4 @@
 -- `capi::vr_prefetch` meets its contract: the answer and the room follow the reply of the call. Assumes nothing.
-use borrow.Author.Rules.{rules}
 use Rattle.rooms.specs.Rooms.{entry_room}
 use Rattle.rooms.proofs.Laws.{tells_in}
 use Rattle.capi.proofs.vr_prefetch.Goals as goal

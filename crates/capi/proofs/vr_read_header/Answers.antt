@@ -1,6 +1,5 @@
 -- `capi::vr_read_header` meets its contract: the answer follows the reader's. Assumes nothing.
 use mathlib.Core.Path.{ap, ◌∙◌}
-use borrow.Author.Rules.{rules}
 use Rattle.codec.specs.Label.{Label, Answer}
 use Rattle.labels.specs.Labels.{label_room}
 use Rattle.capi.proofs.vr_read_header.Goals as goal

@@ -1,5 +1,4 @@
 -- `capi::vr_ready` meets its contract: the answer and the room follow the reply of the call. Assumes nothing.
-use borrow.Author.Rules.{rules}
 use Rattle.rooms.specs.Rooms.{ready_room}
 use Rattle.rooms.proofs.Laws.{shows}
 use Rattle.capi.proofs.vr_ready.Goals as goal

@@ -1,5 +1,4 @@
 -- `capi::vr_repair` meets its contract: the answer follows the reply of the repair, which has left the memory. Assumes nothing.
-use borrow.Author.Rules.{rules}
 use Rattle.rooms.proofs.Laws.{tells}
 use Rattle.capi.proofs.vr_repair.Goals as goal
 

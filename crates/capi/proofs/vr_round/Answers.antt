@@ -1,5 +1,4 @@
 -- `capi::vr_round` meets its contract: the answer follows the reply of the round, which has left memory and room. Assumes nothing.
-use borrow.Author.Rules.{rules}
 use Rattle.rooms.proofs.Laws.{tells_round}
 use Rattle.capi.proofs.vr_round.Goals as goal
 

@@ -1,6 +1,5 @@
 -- `capi::vr_setup` meets its contract: the answer follows the reply of the call. Assumes nothing.
 use mathlib.Core.Path.{ap, ◌∙◌}
-use borrow.Author.Rules.{rules}
 use Rattle.ledger.specs.Settings.{Settings}
 use Rattle.ledger.specs.Desk.{setup}
 use Rattle.memory.specs.Memory.{M}

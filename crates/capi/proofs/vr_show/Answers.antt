@@ -1,5 +1,4 @@
 -- `capi::vr_show` meets its contract: the answer and the rooms follow the reply of the call. Assumes nothing.
-use borrow.Author.Rules.{rules}
 use Rattle.rooms.specs.Rooms.{part_room}
 use Rattle.rooms.proofs.Laws.{shows}
 use Rattle.capi.proofs.vr_show.Goals as goal

@@ -1,6 +1,5 @@
 -- `capi::vr_size` meets its contract: by the rows. Assumes nothing.
 use mathlib.Core.Path.{sym, ap, ◌∙◌}
-use borrow.Author.Rules.{rules}
 use borrow.Author.Tests.{not-true, not-false}
 use Rattle.ledger.specs.Settings.{size}
 use Rattle.ledger.proofs.Rows.{roomy}

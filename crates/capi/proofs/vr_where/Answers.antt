@@ -1,6 +1,5 @@
 -- `capi::vr_where` meets its contract: a number past every entry id is refused, and the room stays. Assumes nothing.
 use mathlib.Core.Path.{sym, ap, ◌∙◌}
-use borrow.Author.Rules.{rules}
 use Rattle.ledger.specs.Audit.{place_room}
 use Rattle.ledger.specs.Calls.{Reply}
 use Rattle.rooms.proofs.Laws.{shows}

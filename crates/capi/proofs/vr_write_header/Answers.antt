@@ -1,6 +1,5 @@
 -- `capi::vr_write_header` meets its contract: the answer follows the writer's. Assumes nothing.
 use mathlib.Core.Path.{ap, ◌∙◌}
-use borrow.Author.Rules.{rules}
 use Rattle.codec.specs.Label.{Label, label_in}
 use Rattle.codec.specs.Writer.{writes}
 use Rattle.labels.specs.Labels.{header_room}

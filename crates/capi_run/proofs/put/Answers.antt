@@ -1,5 +1,4 @@
 -- `capi_run::put` meets its contract: by the outcome's cases. Assumes nothing.
-use borrow.Author.Rules.{rules}
 use Rattle.capi_run.proofs.put.Goals as goal
 
 pub returns-in-No : goal.returns-in-No

@@ -1,5 +1,4 @@
 -- `capi_run::vr_run` meets its contract: number and rooms follow the report of the run, which has left memory and room. Assumes nothing.
-use borrow.Author.Rules.{rules}
 use Rattle.capi_run.proofs.Laws.{tells_run}
 use Rattle.capi_run.proofs.vr_run.Goals as goal
 

@@ -2,7 +2,6 @@
 use mathlib.Core.Path.{refl, sym, ap, ◌∙◌}
 use Prim.Native.Nat.{ℕ, ◌+◌}
 use native.Mathlib.Omega.{arith}
-use borrow.Author.Rules.{rules}
 use Rattle.ledger.specs.Calls.{done, credit}
 use Rattle.layout.specs.declared.Table.TheVariants.{Outward}
 use Rattle.layout.specs.Tables.{settings_of}

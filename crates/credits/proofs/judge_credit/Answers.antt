@@ -1,5 +1,4 @@
 -- `credits::judge_credit` meets its contract: each return is a law of what the judgement is there. Assumes nothing.
-use borrow.Author.Rules.{rules}
 use Rattle.credits.proofs.Laws as laws
 use Rattle.credits.proofs.judge_credit.Goals as goal
 

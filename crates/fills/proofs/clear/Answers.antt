@@ -1,10 +1,10 @@
 -- `fills::clear` meets its contract. The loop's invariant: the bytes passed are 0, the others as they were. The measure is what is left of n. Assumes nothing.
 use mathlib.Core.Path.{refl, ap, ◌∙◌}
-use mathlib.Core.List.{List, ◌++◌}
-use Prim.Native.Nat.{ℕ, ◌-◌}
+use mathlib.Core.List.{List}
+use Prim.Native.Nat.{ℕ}
 use native.Mathlib.Omega.{arith}
-use lib.ListN.{drop, set, replicate, length-set}
-use Rattle.fills.proofs.Fills.{Partly, partly_none, partly_next, partly_all, clear_next}
+use lib.ListN.{set, length-set}
+use Rattle.fills.proofs.Fills.{partly_none, partly_next, partly_all, clear_next}
 use Rattle.fills.proofs.clear.Goals as goal
 
 pub loop-at-init : goal.loop-at-init

@@ -1,10 +1,8 @@
 -- What the loop of `fills::clear` keeps.
-use mathlib.Core.Path.{refl, ap, ◌∙◌}
-use mathlib.Core.List.{List, ◌++◌}
-use Prim.Native.Nat.{ℕ, ◌-◌}
-use native.Mathlib.Omega.{arith}
-use lib.ListN.{drop, set, replicate, length-set}
-use Rattle.fills.proofs.Fills.{Partly, partly_none, partly_next, partly_all, clear_next}
+use mathlib.Core.List.{◌++◌}
+use Prim.Native.Nat.{◌-◌}
+use lib.ListN.{drop, replicate}
+use Rattle.fills.proofs.Fills.{Partly}
 use Rattle.fills.proofs.clear.Given as goal
 
 abbrev pub invariant-loop-at : goal.invariant-loop-at

@@ -1,10 +1,5 @@
 -- `fills::put_all_links` meets its contract. The loop's invariant: the links of the ports passed are made. The measure is how many are left. Assumes nothing.
-use Prim.Native.Nat.{◌-◌}
-use native.Mathlib.Omega.{arith}
-use borrow.Author.Rules.{rules}
-use Rattle.layout.specs.Tables.{settings_of}
-use Rattle.memory.specs.Image.{all_linked}
-use Rattle.fills.proofs.Fills.{Partly, partly_all, links_none, links_next}
+use Rattle.fills.proofs.Fills.{partly_all, links_none, links_next}
 use Rattle.fills.proofs.put_all_links.Goals as goal
 
 pub loop-p-init : goal.loop-p-init

@@ -1,10 +1,8 @@
 -- What the loop of `fills::put_all_links` keeps.
 use Prim.Native.Nat.{◌-◌}
-use native.Mathlib.Omega.{arith}
-use borrow.Author.Rules.{rules}
 use Rattle.layout.specs.Tables.{settings_of}
 use Rattle.memory.specs.Image.{all_linked}
-use Rattle.fills.proofs.Fills.{Partly, partly_all, links_none, links_next}
+use Rattle.fills.proofs.Fills.{Partly}
 use Rattle.fills.proofs.put_all_links.Given as goal
 
 abbrev pub invariant-loop-p : goal.invariant-loop-p

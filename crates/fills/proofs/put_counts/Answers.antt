@@ -1,12 +1,10 @@
 -- `fills::put_counts` meets its contract. The loop's invariant: the ports passed have their counts. The measure is how many are left. Assumes nothing.
 use mathlib.Core.Path.{refl}
-use Prim.Native.Nat.{◌-◌, ◌*◌, ◌<◌}
+use Prim.Native.Nat.{◌*◌, ◌<◌}
 use native.Mathlib.Omega.{arith}
 use Rattle.layout.specs.Tables.{lists, settings_of}
-use Rattle.layout.specs.declared.Table.TheVariants.{Count}
 use Rattle.layout.proofs.Shapes.{few}
-use Rattle.memory.specs.Image.{fill}
-use Rattle.fills.proofs.Fills.{Partly, partly_all, fill_none, fill_next, free_in}
+use Rattle.fills.proofs.Fills.{partly_all, fill_none, fill_next, free_in}
 use Rattle.fills.proofs.put_counts.Goals as goal
 use Rattle.fills.proofs.put_counts.Goals.{In-loop-p}
 

@@ -1,12 +1,9 @@
 -- What the loop of `fills::put_counts` keeps.
-use mathlib.Core.Path.{refl}
-use Prim.Native.Nat.{◌-◌, ◌*◌, ◌<◌}
-use native.Mathlib.Omega.{arith}
-use Rattle.layout.specs.Tables.{lists, settings_of}
+use Prim.Native.Nat.{◌-◌, ◌*◌}
+use Rattle.layout.specs.Tables.{settings_of}
 use Rattle.layout.specs.declared.Table.TheVariants.{Count}
-use Rattle.layout.proofs.Shapes.{few}
 use Rattle.memory.specs.Image.{fill}
-use Rattle.fills.proofs.Fills.{Partly, partly_all, fill_none, fill_next, free_in}
+use Rattle.fills.proofs.Fills.{Partly}
 use Rattle.fills.proofs.put_counts.Given as goal
 
 abbrev pub invariant-loop-p : goal.invariant-loop-p

@@ -1,11 +1,5 @@
 -- `fills::put_last` meets its contract. The loop's invariant: the ports passed have their marks. The measure is how many are left. Assumes nothing.
-use Prim.Native.Nat.{◌-◌}
-use native.Mathlib.Omega.{arith}
-use borrow.Author.Rules.{rules}
-use Rattle.layout.specs.Tables.{settings_of}
-use Rattle.layout.specs.declared.Table.TheVariants.{Last}
-use Rattle.memory.specs.Image.{fill}
-use Rattle.fills.proofs.Fills.{Partly, partly_all, fill_none, fill_next}
+use Rattle.fills.proofs.Fills.{partly_all, fill_none, fill_next}
 use Rattle.fills.proofs.put_last.Goals as goal
 
 pub loop-p-init : goal.loop-p-init

@@ -1,11 +1,9 @@
 -- What the loop of `fills::put_last` keeps.
 use Prim.Native.Nat.{◌-◌}
-use native.Mathlib.Omega.{arith}
-use borrow.Author.Rules.{rules}
 use Rattle.layout.specs.Tables.{settings_of}
 use Rattle.layout.specs.declared.Table.TheVariants.{Last}
 use Rattle.memory.specs.Image.{fill}
-use Rattle.fills.proofs.Fills.{Partly, partly_all, fill_none, fill_next}
+use Rattle.fills.proofs.Fills.{Partly}
 use Rattle.fills.proofs.put_last.Given as goal
 
 abbrev pub invariant-loop-p : goal.invariant-loop-p

@@ -1,12 +1,9 @@
 -- `fills::put_line` meets its contract. The loop's invariant: the memory is the fill of the places passed. The measure is how many are left. Assumes nothing.
-use Prim.Native.Nat.{◌-◌}
 use native.Mathlib.Omega.{arith}
 use Rattle.layout.specs.Access.{Reads}
-use Rattle.layout.specs.Tables.{settings_of}
 use Rattle.layout.proofs.Shapes.{reach}
-use Rattle.memory.specs.Image.{fill}
 use Rattle.fills.specs.Fills.{along}
-use Rattle.fills.proofs.Fills.{Partly, partly_all, fill_none, fill_next}
+use Rattle.fills.proofs.Fills.{partly_all, fill_none, fill_next}
 use Rattle.fills.proofs.put_line.Goals as goal
 use Rattle.fills.proofs.put_line.Goals.{In-loop-i}
 

@@ -1,12 +1,9 @@
 -- What the loop of `fills::put_line` keeps.
 use Prim.Native.Nat.{◌-◌}
-use native.Mathlib.Omega.{arith}
-use Rattle.layout.specs.Access.{Reads}
 use Rattle.layout.specs.Tables.{settings_of}
-use Rattle.layout.proofs.Shapes.{reach}
 use Rattle.memory.specs.Image.{fill}
 use Rattle.fills.specs.Fills.{along}
-use Rattle.fills.proofs.Fills.{Partly, partly_all, fill_none, fill_next}
+use Rattle.fills.proofs.Fills.{Partly}
 use Rattle.fills.proofs.put_line.Given as goal
 
 abbrev pub invariant-loop-i : goal.invariant-loop-i

@@ -1,7 +1,6 @@
 -- `fills::put_links` meets its contract. Assumes nothing.
 use mathlib.Core.Path.{refl, ◌∙◌}
 use native.Mathlib.Omega.{arith}
-use borrow.Author.Rules.{rules}
 use Rattle.ledger.proofs.Places.{row_lt}
 use Rattle.layout.specs.Tables.{settings_of}
 use Rattle.layout.proofs.Shapes.{few}

@@ -1,12 +1,6 @@
 -- `fills::put_settings` meets its contract. The loop's invariant: the settings passed are put. The measure is how many are left. Assumes nothing.
-use Prim.Native.Nat.{◌-◌}
 use native.Mathlib.Omega.{arith}
-use borrow.Author.Rules.{rules}
-use Rattle.ledger.specs.Settings.{setting_count}
-use Rattle.layout.specs.Tables.{settings_of}
-use Rattle.layout.specs.declared.Table.TheVariants.{Setting}
-use Rattle.memory.specs.Image.{fill, setting_at}
-use Rattle.fills.proofs.Fills.{Partly, partly_all, fill_none, fill_next, setting_small}
+use Rattle.fills.proofs.Fills.{partly_all, fill_none, fill_next, setting_small}
 use Rattle.fills.proofs.put_settings.Goals as goal
 
 pub loop-i-init : goal.loop-i-init

@@ -1,12 +1,10 @@
 -- What the loop of `fills::put_settings` keeps.
 use Prim.Native.Nat.{◌-◌}
-use native.Mathlib.Omega.{arith}
-use borrow.Author.Rules.{rules}
 use Rattle.ledger.specs.Settings.{setting_count}
 use Rattle.layout.specs.Tables.{settings_of}
 use Rattle.layout.specs.declared.Table.TheVariants.{Setting}
 use Rattle.memory.specs.Image.{fill, setting_at}
-use Rattle.fills.proofs.Fills.{Partly, partly_all, fill_none, fill_next, setting_small}
+use Rattle.fills.proofs.Fills.{Partly}
 use Rattle.fills.proofs.put_settings.Given as goal
 
 abbrev pub invariant-loop-i : goal.invariant-loop-i

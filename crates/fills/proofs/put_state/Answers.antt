@@ -1,6 +1,5 @@
 -- `fills::put_state` meets its contract. Assumes nothing.
 use native.Mathlib.Omega.{arith}
-use borrow.Author.Rules.{rules}
 use Rattle.layout.specs.Tables.{settings_of}
 use Rattle.fills.proofs.Fills.{written_along}
 use Rattle.fills.proofs.put_state.Goals as goal

@@ -1,7 +1,6 @@
 -- `finds::in_list` meets its contract. The loop's invariant: what is found in the list is what is found in the rest of it. Assumes nothing.
-use Prim.Native.Nat.{◌-◌, ◌<◌}
+use Prim.Native.Nat.{◌<◌}
 use native.Mathlib.Omega.{arith}
-use borrow.Author.Rules.{rules}
 use Rattle.layout.specs.declared.Table.TheVariants.{Count}
 use Rattle.layout.specs.Tables.{settings_of, get}
 use Rattle.memory.proofs.Chains.{state_tidy, total_bound}

@@ -1,10 +1,6 @@
 -- What the loop of `finds::in_list` keeps.
-use Prim.Native.Nat.{◌-◌, ◌<◌}
-use native.Mathlib.Omega.{arith}
-use borrow.Author.Rules.{rules}
-use Rattle.layout.specs.declared.Table.TheVariants.{Count}
-use Rattle.layout.specs.Tables.{settings_of, get}
-use Rattle.memory.proofs.Chains.{state_tidy, total_bound}
+use Prim.Native.Nat.{◌-◌}
+use Rattle.layout.specs.Tables.{settings_of}
 use Rattle.finds.proofs.Laws as laws
 use Rattle.finds.proofs.in_list.Given as goal
 

@@ -1,6 +1,5 @@
 -- `finds::next` meets its contract. Assumes nothing.
 use mathlib.Core.Path.{refl}
-use borrow.Author.Rules.{rules}
 use Rattle.memory.proofs.Chains.{slot_lt}
 use Rattle.finds.proofs.next.Goals as goal
 

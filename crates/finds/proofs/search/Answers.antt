@@ -1,8 +1,7 @@
 -- `finds::search` meets its contract. The loop's invariant: what is found in all lists is what is found in the rest of them.
 -- Assumes nothing.
 use mathlib.Core.Path.{sym, ◌∙◌}
-use Prim.Native.Nat.{◌-◌, ◌<◌}
-use borrow.Author.Rules.{rules}
+use Prim.Native.Nat.{◌<◌}
 use Rattle.layout.specs.Tables.{settings_of, lists}
 use Rattle.finds.proofs.Laws as laws
 use Rattle.finds.proofs.search.Goals as goal

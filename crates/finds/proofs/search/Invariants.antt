@@ -1,8 +1,6 @@
 -- What the loop of `finds::search` keeps.
-use mathlib.Core.Path.{sym, ◌∙◌}
-use Prim.Native.Nat.{◌-◌, ◌<◌}
-use borrow.Author.Rules.{rules}
-use Rattle.layout.specs.Tables.{settings_of, lists}
+use Prim.Native.Nat.{◌-◌}
+use Rattle.layout.specs.Tables.{settings_of}
 use Rattle.finds.proofs.Laws as laws
 use Rattle.finds.proofs.search.Given as goal
 

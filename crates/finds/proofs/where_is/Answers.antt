@@ -1,7 +1,6 @@
 -- `finds::where_is` meets its contract: a node is found where it stands, and it stands somewhere. Assumes nothing.
 use mathlib.Core.Path.{◌≡◌, sym, ap, ◌∙◌}
 use mathlib.Core.Bool.{true}
-use borrow.Author.Rules.{rules}
 use borrow.Author.Tests.{not-true, not-false}
 use Rattle.ledger.specs.Ledger.{is_node, Place}
 use Rattle.ledger.specs.Calls.{found}

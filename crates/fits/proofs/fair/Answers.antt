@@ -2,7 +2,6 @@
 use Prim.Native.Nat.{◌*◌, ◌≤◌}
 use native.Mathlib.Nat.{mul-le-mul}
 use native.Mathlib.Omega.{arith}
-use borrow.Author.Rules.{rules}
 use Rattle.ledger.proofs.Header.{price_free}
 use Rattle.fits.proofs.Prices.{too_few, enough}
 use Rattle.fits.proofs.fair.Goals as goal

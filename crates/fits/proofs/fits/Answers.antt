@@ -1,11 +1,7 @@
 -- `fits::fits` meets its contract. The loop's invariant: the lists that are left say what all say. The measure is their count.
 -- Assumes nothing.
-use Prim.Native.Nat.{◌-◌}
-use mathlib.Core.Path.{◌≡◌, refl, sym, ◌∙◌}
+use mathlib.Core.Path.{refl, sym, ◌∙◌}
 use native.Mathlib.Omega.{arith}
-use borrow.Author.Rules.{rules}
-use Rattle.layout.specs.Tables.{lists, settings_of}
-use Rattle.fits.specs.Fits.{fits_from}
 use Rattle.fits.proofs.Walk.{fits_end, fits_stop, fits_next}
 use Rattle.fits.proofs.fits.Goals as goal
 

@@ -1,11 +1,8 @@
 -- What the loop of `fits::fits` keeps.
 use Prim.Native.Nat.{◌-◌}
-use mathlib.Core.Path.{◌≡◌, refl, sym, ◌∙◌}
-use native.Mathlib.Omega.{arith}
-use borrow.Author.Rules.{rules}
+use mathlib.Core.Path.{◌≡◌}
 use Rattle.layout.specs.Tables.{lists, settings_of}
 use Rattle.fits.specs.Fits.{fits_from}
-use Rattle.fits.proofs.Walk.{fits_end, fits_stop, fits_next}
 use Rattle.fits.proofs.fits.Given as goal
 
 abbrev pub invariant-loop-l : goal.invariant-loop-l

@@ -1,6 +1,5 @@
 -- `fits::node_fits` meets its contract, rule by rule. Assumes nothing.
 use mathlib.Core.Path.{refl}
-use borrow.Author.Rules.{rules}
 use borrow.Author.Tests.{ltb-false}
 use Rattle.layout.specs.Picture.{packet_at}
 use Rattle.memory.proofs.Chains.{slot_lt}

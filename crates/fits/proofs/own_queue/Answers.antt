@@ -1,5 +1,4 @@
 -- `fits::own_queue` meets its contract. Assumes nothing.
-use borrow.Author.Rules.{rules}
 use borrow.Author.Tests.{lt-ltb, le-ltb}
 use Rattle.fits.proofs.own_queue.Goals as goal
 

@@ -1,6 +1,5 @@
 -- `fits::proper` meets its contract: what was read of the record are the fields of the packet. Assumes nothing.
 use mathlib.Core.Path.{◌∙◌}
-use borrow.Author.Rules.{rules}
 use Rattle.memory.proofs.Chains.{slot_lt}
 use Rattle.fits.proofs.Walk.{note_tests}
 use Rattle.fits.proofs.proper.Goals as goal

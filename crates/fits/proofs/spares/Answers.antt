@@ -1,5 +1,4 @@
 -- `fits::spares` meets its contract, rule by rule. Assumes nothing.
-use borrow.Author.Rules.{rules}
 use Rattle.fits.proofs.spares.Goals as goal
 
 pub returns-in-OwnPort : goal.returns-in-OwnPort

@@ -1,5 +1,4 @@
 -- `halts::clear` meets its contract. Assumes nothing.
-use borrow.Author.Rules.{rules}
 use Rattle.halts.proofs.Laws.{clear_no_port, clears}
 use Rattle.halts.proofs.clear.Goals as goal
 

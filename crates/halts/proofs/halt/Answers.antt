@@ -1,6 +1,5 @@
 -- `halts::halt` meets its contract: written exactly if it marks. Assumes nothing.
 use mathlib.Core.Path.{◌≡◌, sym, ap, ◌∙◌}
-use borrow.Author.Rules.{rules}
 use Rattle.ledger.specs.Halt.{marks}
 use Rattle.ledger.specs.Answers.{number_of}
 use Rattle.ledger.proofs.Halt.{marks_port}

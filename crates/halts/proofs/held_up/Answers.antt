@@ -1,7 +1,6 @@
 -- `halts::held_up` meets its contract: queue 0 goes on, and any other where there is no mark. Assumes nothing.
 use mathlib.Core.Path.{ap, ◌∙◌}
 use Prim.Native.Nat.{ℕ}
-use borrow.Author.Rules.{rules}
 use lib.Dec.{ltb}
 use Rattle.halts.proofs.Laws.{held_none, held_some}
 use Rattle.halts.proofs.held_up.Goals as goal

@@ -1,7 +1,6 @@
 -- `halts::marking` meets its contract: the port, then that it has no mark, then the number. Assumes nothing.
 use mathlib.Core.Path.{sym, ◌∙◌}
 use native.Mathlib.Omega.{arith}
-use borrow.Author.Rules.{rules}
 use Rattle.ledger.proofs.Halt.{marks_in_lem}
 use Rattle.halts.proofs.Laws.{marks_once, marks_now}
 use Rattle.halts.proofs.marking.Goals as goal

@@ -1,6 +1,5 @@
 -- `halts::report` meets its contract. Assumes nothing.
 use mathlib.Core.Path.{ap, ◌∙◌}
-use borrow.Author.Rules.{rules}
 use Rattle.ledger.specs.Calls.{reported}
 use Rattle.halts.proofs.Laws.{report_no_port, reports}
 use Rattle.halts.proofs.report.Goals as goal

@@ -1,6 +1,5 @@
 -- `halts::right_mark` meets its contract. Assumes nothing.
 use mathlib.Core.Path.{sym, ap, ◌∙◌}
-use borrow.Author.Rules.{rules}
 use Rattle.ledger.specs.Halt.{is_mark}
 use Rattle.halts.proofs.Laws.{mark_none, mark_some}
 use Rattle.halts.proofs.right_mark.Goals as goal

@@ -1,12 +1,7 @@
 -- `halts::wrong_mark` meets its contract: what is found from port p on is what is found of all. Assumes nothing.
 use mathlib.Core.Path.{sym, ◌∙◌}
-use Prim.Native.Nat.{◌-◌}
-use native.Mathlib.Omega.{arith}
 use borrow.Author.Tests.{not-true, not-false}
-use Rattle.ledger.specs.Halt.{is_mark}
-use Rattle.layout.specs.declared.Table.TheVariants.{Halted}
-use Rattle.layout.specs.Tables.{get, settings_of}
-use Rattle.ranges.proofs.First.{Searching, search_start, search_next, search_at, search_none}
+use Rattle.ranges.proofs.First.{search_start, search_next, search_at, search_none}
 use Rattle.halts.specs.Marks.{marks_found}
 use Rattle.halts.proofs.wrong_mark.Goals as goal
 

@@ -1,13 +1,9 @@
 -- What the loop of `halts::wrong_mark` keeps.
-use mathlib.Core.Path.{sym, ◌∙◌}
 use Prim.Native.Nat.{◌-◌}
-use native.Mathlib.Omega.{arith}
-use borrow.Author.Tests.{not-true, not-false}
 use Rattle.ledger.specs.Halt.{is_mark}
 use Rattle.layout.specs.declared.Table.TheVariants.{Halted}
 use Rattle.layout.specs.Tables.{get, settings_of}
-use Rattle.ranges.proofs.First.{Searching, search_start, search_next, search_at, search_none}
-use Rattle.halts.specs.Marks.{marks_found}
+use Rattle.ranges.proofs.First.{Searching}
 use Rattle.halts.proofs.wrong_mark.Given as goal
 
 abbrev pub invariant-loop-p : goal.invariant-loop-p

@@ -1,12 +1,11 @@
 -- `labels::copy` meets its contract: the loop's invariant is `Copied`, and the measure is what is left. Assumes nothing.
 use mathlib.Core.Path.{◌≡◌, refl}
-use Prim.Native.Nat.{◌-◌}
 use native.Mathlib.Omega.{arith}
 use mir.Syntax.{w8}
 use borrow.Kind.Array.{good_length, e_int}
 use borrow.Author.Rules.{rules}
 use lib.ListN.{length}
-use Rattle.labels.proofs.Laws.{Copied, copied_more}
+use Rattle.labels.proofs.Laws.{copied_more}
 use Rattle.labels.proofs.copy.Goals as goal
 use Rattle.labels.proofs.copy.Goals.{Start}
 

@@ -1,5 +1,4 @@
 -- `labels::put_header` meets its contract: by the answer's cases. Assumes nothing.
-use borrow.Author.Rules.{rules}
 use Rattle.labels.proofs.put_header.Goals as goal
 
 pub returns-in-Done : goal.returns-in-Done

@@ -1,5 +1,4 @@
 -- `labels::put_label` meets its contract: by the answer's cases. Assumes nothing.
-use borrow.Author.Rules.{rules}
 use Rattle.labels.proofs.put_label.Goals as goal
 
 pub returns-in-Label : goal.returns-in-Label

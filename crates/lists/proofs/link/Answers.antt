@@ -2,7 +2,6 @@
 use mathlib.Core.Path.{refl, sym, ◌∙◌}
 use native.Mathlib.Omega.{arith}
 use borrow.Author.Tests.{eq-eqb, ne_eqb}
-use borrow.Author.Rules.{rules}
 use Rattle.memory.specs.Ends.{link}
 use Rattle.memory.proofs.Chains.{slot_lt, tail_is_node}
 use Rattle.lists.proofs.link.Goals as goal

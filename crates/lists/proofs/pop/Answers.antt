@@ -1,6 +1,5 @@
 -- `lists::pop` meets its contract. Assumes nothing.
 use mathlib.Core.Path.{refl}
-use borrow.Author.Rules.{rules}
 use Rattle.memory.specs.Ends.{pop_mem}
 use Rattle.memory.proofs.Chains.{slot_lt, head_is_node}
 use Rattle.lists.proofs.pop.Goals as goal

@@ -1,6 +1,5 @@
 -- `lists::push` meets its contract. Assumes nothing.
 use native.Mathlib.Omega.{arith}
-use borrow.Author.Rules.{rules}
 use Rattle.memory.specs.Ends.{push_mem}
 use Rattle.memory.proofs.Chains.{total_bound}
 use Rattle.lists.proofs.push.Goals as goal

@@ -1,7 +1,6 @@
 -- `maps::map_to` meets its contract: the judge decides, and where it lets the call go the entry is written. Assumes nothing.
 use mathlib.Core.Path.{refl, sym, ap, ◌∙◌}
 use native.Mathlib.Omega.{arith}
-use borrow.Author.Rules.{rules}
 use Rattle.ledger.specs.Calls.{map_to}
 use Rattle.layout.specs.Tables.{settings_of}
 use Rattle.memory.specs.Judged.{judgement_of}

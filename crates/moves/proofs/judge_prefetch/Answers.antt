@@ -1,6 +1,5 @@
 -- `moves::judge_prefetch` meets its contract: each return is a law of what the judgement is there. Assumes nothing.
 use mathlib.Core.Path.{◌≡◌, sym, ap, ◌∙◌}
-use borrow.Author.Rules.{rules}
 use Rattle.ledger.specs.Ledger.{egress, prefetched, place#}
 use Rattle.layout.specs.declared.Table.TheVariants.{Count}
 use Rattle.layout.specs.Tables.{settings_of, get}

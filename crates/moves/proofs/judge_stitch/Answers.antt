@@ -1,6 +1,5 @@
 -- `moves::judge_stitch` meets its contract. Assumes nothing.
 use mathlib.Core.Path.{◌≡◌, sym, ap, ◌∙◌}
-use borrow.Author.Rules.{rules}
 use Rattle.ledger.specs.Ledger.{ingress, place#}
 use Rattle.layout.specs.declared.Table.TheVariants.{Count}
 use Rattle.layout.specs.Tables.{settings_of, get}

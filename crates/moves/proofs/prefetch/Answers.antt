@@ -2,7 +2,6 @@
 use mathlib.Core.Path.{refl, sym, ap, ap₂, ◌∙◌}
 use mathlib.Core.List.{List}
 use Prim.Native.Nat.{ℕ}
-use borrow.Author.Rules.{rules}
 use Rattle.ledger.specs.Calls.{entry, prefetch}
 use Rattle.ledger.specs.Ledger.{egress, prefetched, place#}
 use Rattle.ledger.proofs.Places.{place#_lt}

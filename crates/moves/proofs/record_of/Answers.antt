@@ -1,5 +1,4 @@
 -- `moves::record_of` meets its contract. Assumes nothing.
-use borrow.Author.Rules.{rules}
 use Rattle.ledger.specs.Calls.{stitch_record}
 use Rattle.moves.proofs.record_of.Goals as goal
 

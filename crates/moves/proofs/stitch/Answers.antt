@@ -3,7 +3,6 @@
 use mathlib.Core.Path.{◌≡◌, refl, sym, ap, ◌∙◌}
 use mathlib.Core.List.{List}
 use Prim.Native.Nat.{ℕ, ◌<◌}
-use borrow.Author.Rules.{rules}
 use Rattle.ledger.specs.Settings.{Settings}
 use Rattle.ledger.specs.Answers.{sent_of}
 use Rattle.ledger.specs.Calls.{Reply, stitch}

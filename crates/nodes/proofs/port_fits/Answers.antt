@@ -1,5 +1,4 @@
 -- `nodes::port_fits` meets its contract. Assumes nothing.
-use borrow.Author.Rules.{rules}
 use Rattle.ledger.proofs.Tests.{leb_is, leb_not}
 use Rattle.nodes.proofs.port_fits.Goals as goal
 

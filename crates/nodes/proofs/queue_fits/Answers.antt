@@ -1,5 +1,4 @@
 -- `nodes::queue_fits` meets its contract. Assumes nothing.
-use borrow.Author.Rules.{rules}
 use borrow.Author.Tests.{lt-ltb, le-ltb}
 use Rattle.nodes.proofs.queue_fits.Goals as goal
 

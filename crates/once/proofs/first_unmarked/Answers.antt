@@ -1,11 +1,10 @@
 -- `once::first_unmarked` meets its contract. The loop's invariant: the first of all is the first of those from `i` on. Assumes nothing.
-use borrow.Author.Rules.{rules}
 use mathlib.Core.Path.{◌≡◌, sym, ◌∙◌}
 use mathlib.Core.List.{List}
-use Prim.Native.Nat.{ℕ, ◌+◌, ◌-◌, ◌≤◌}
+use Prim.Native.Nat.{ℕ}
 use native.Mathlib.Nat.{add-zero}
 use native.Mathlib.Omega.{arith}
-use lib.ListN.{drop, get_or}
+use lib.ListN.{get_or}
 use Rattle.layout.specs.Tables.{lists, settings_of}
 use Rattle.layout.specs.Picture.{tabulate}
 use Rattle.layout.proofs.Shapes.{few}

@@ -1,18 +1,10 @@
 -- What the loop of `once::first_unmarked` keeps.
-use borrow.Author.Rules.{rules}
-use mathlib.Core.Path.{◌≡◌, sym, ◌∙◌}
-use mathlib.Core.List.{List}
-use Prim.Native.Nat.{ℕ, ◌+◌, ◌-◌, ◌≤◌}
-use native.Mathlib.Nat.{add-zero}
-use native.Mathlib.Omega.{arith}
-use lib.ListN.{drop, get_or}
-use Rattle.layout.specs.Tables.{lists, settings_of}
+use mathlib.Core.Path.{◌≡◌}
+use Prim.Native.Nat.{◌+◌, ◌-◌, ◌≤◌}
+use lib.ListN.{drop}
 use Rattle.layout.specs.Picture.{tabulate}
-use Rattle.layout.proofs.Shapes.{few}
-use Rattle.memory.proofs.Chains.{length_tabulate, get_d_table}
-use Rattle.once.specs.Bits.{mark_at, marks_in}
+use Rattle.once.specs.Bits.{mark_at}
 use Rattle.once.specs.Once.{unmarked}
-use Rattle.once.proofs.Walk.{mark_clear, mark_set, mark_none}
 use Rattle.once.proofs.first_unmarked.Given as goal
 
 abbrev pub invariant-loop-i : goal.invariant-loop-i

@@ -1,7 +1,6 @@
 -- `once::mark_at` meets its contract: it is a bit of a byte. Assumes nothing.
 use mathlib.Core.Path.{ap, ◌∙◌}
 use Prim.Native.Nat.{◌%◌}
-use borrow.Author.Rules.{rules}
 use Rattle.numbers.specs.Fields.{bits}
 use Rattle.once.specs.Bits.{mark_at}
 use Rattle.once.proofs.mark_at.Goals as goal

@@ -1,5 +1,4 @@
 -- `once::meet` meets its contract. Assumes nothing.
-use borrow.Author.Rules.{rules}
 use mathlib.Core.Path.{◌≡◌, sym, ◌∙◌}
 use mathlib.Core.Bool.{true, false≢true}
 use native.Mathlib.Omega.{arith}

@@ -1,13 +1,8 @@
 -- `once::once` meets its contract. The loop's invariant: what is found in all lists is what is found from `l` on. Assumes nothing.
-use borrow.Author.Rules.{rules}
 use borrow.Author.Tests.{not-true, not-false}
-use mathlib.Core.Path.{◌≡◌, refl, sym, ◌∙◌}
-use Prim.Native.Nat.{◌-◌}
+use mathlib.Core.Path.{refl, sym, ◌∙◌}
 use native.Mathlib.Omega.{arith}
-use lib.ListN.{length}
-use Rattle.layout.specs.Tables.{settings_of}
-use Rattle.once.specs.Bits.{marks_in}
-use Rattle.once.specs.Walks.{Marks, Scanning}
+use Rattle.once.specs.Walks.{Marks}
 use Rattle.once.proofs.Bits.{marks_length}
 use Rattle.once.proofs.Walk.{scan_start, scan_no, scan_yes, scan_end}
 use Rattle.once.proofs.once.Goals as goal

@@ -1,15 +1,10 @@
 -- What the loop of `once::once` keeps.
-use borrow.Author.Rules.{rules}
-use borrow.Author.Tests.{not-true, not-false}
-use mathlib.Core.Path.{◌≡◌, refl, sym, ◌∙◌}
+use mathlib.Core.Path.{◌≡◌}
 use Prim.Native.Nat.{◌-◌}
-use native.Mathlib.Omega.{arith}
 use lib.ListN.{length}
 use Rattle.layout.specs.Tables.{settings_of}
 use Rattle.once.specs.Bits.{marks_in}
-use Rattle.once.specs.Walks.{Marks, Scanning}
-use Rattle.once.proofs.Bits.{marks_length}
-use Rattle.once.proofs.Walk.{scan_start, scan_no, scan_yes, scan_end}
+use Rattle.once.specs.Walks.{Scanning}
 use Rattle.once.proofs.once.Given as goal
 
 abbrev pub invariant-loop-l : goal.invariant-loop-l

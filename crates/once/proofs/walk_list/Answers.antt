@@ -5,7 +5,6 @@ use borrow.Author.Tests.{not-true, not-false}
 use mathlib.Core.Path.{◌≡◌, refl, sym, ap, ◌∙◌}
 use mathlib.Core.Bool.{true, false≢true}
 use native.Mathlib.Omega.{arith}
-use lib.ListN.{length}
 use lib.Dec.{eqb}
 use Rattle.layout.specs.Tables.{settings_of}
 use Rattle.memory.proofs.Chains.{slot_lt}
@@ -13,7 +12,7 @@ use Rattle.once.specs.Bits.{marks_in}
 use Rattle.once.specs.Once.{is_new}
 use Rattle.once.proofs.Bits.{marks_length}
 use Rattle.once.proofs.Marks.{new}
-use Rattle.once.proofs.Walk.{Walking, walk_start, walk_stuck, walk_step, walk_end}
+use Rattle.once.proofs.Walk.{walk_start, walk_stuck, walk_step, walk_end}
 use Rattle.once.proofs.walk_list.Goals as goal
 use Rattle.once.proofs.walk_list.Goals.{Else-not-meet}
 
@@ -46,12 +45,11 @@ get2-x-requires-in-loop-left c =
     record { laid = search rules; long = search rules; wide = refl; inside = rw c.slot_of.ensures (slot_lt _ _ (new _ _ _ (new_here (goal.at.get2-x-requires-in-loop-left c).Else-not-meet)).node) }
 
 pub loop-left-preserved : goal.loop-left-preserved
-loop-left-preserved c =
-    (
-      c.meet.auto.marks ∙ c.loop-left.invariant.0,
-      rw (c.get2-x-in-loop-left.ensures, c.slot_of.ensures, c.meet.ensures.after (not-false _ c.if-not-meet.false-raw))
-          (walk_step c.loop-left.invariant.1 (omega arith) (new_here (goal.at.loop-left-preserved c).Else-not-meet)),
-    )
+loop-left-preserved c = (
+  c.meet.auto.marks ∙ c.loop-left.invariant.0,
+  rw (c.get2-x-in-loop-left.ensures, c.slot_of.ensures, c.meet.ensures.after (not-false _ c.if-not-meet.false-raw))
+      (walk_step c.loop-left.invariant.1 (omega arith) (new_here (goal.at.loop-left-preserved c).Else-not-meet)),
+)
 
 pub returns : goal.returns
 returns c =

@@ -1,18 +1,9 @@
 -- What the loop of `once::walk_list` keeps.
-use borrow.Author.Rules.{rules}
-use borrow.Author.Tests.{not-true, not-false}
-use mathlib.Core.Path.{◌≡◌, refl, sym, ap, ◌∙◌}
-use mathlib.Core.Bool.{true, false≢true}
-use native.Mathlib.Omega.{arith}
+use mathlib.Core.Path.{◌≡◌}
 use lib.ListN.{length}
-use lib.Dec.{eqb}
 use Rattle.layout.specs.Tables.{settings_of}
-use Rattle.memory.proofs.Chains.{slot_lt}
 use Rattle.once.specs.Bits.{marks_in}
-use Rattle.once.specs.Once.{is_new}
-use Rattle.once.proofs.Bits.{marks_length}
-use Rattle.once.proofs.Marks.{new}
-use Rattle.once.proofs.Walk.{Walking, walk_start, walk_stuck, walk_step, walk_end}
+use Rattle.once.proofs.Walk.{Walking}
 use Rattle.once.proofs.walk_list.Given as goal
 
 abbrev pub invariant-loop-left : goal.invariant-loop-left

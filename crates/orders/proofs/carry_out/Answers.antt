@@ -1,6 +1,5 @@
 -- `orders::carry_out` meets its contract: each order by its call, and what is said follows the reply. Assumes nothing.
 use Rattle.orders.proofs.Laws.{carries}
-use borrow.Author.Rules.{rules}
 use Rattle.orders.proofs.carry_out.Goals as goal
 
 pub returns-in-Setup : goal.returns-in-Setup

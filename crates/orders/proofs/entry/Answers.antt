@@ -1,5 +1,4 @@
 -- `orders::entry` meets its contract: by the answer's cases. Assumes nothing.
-use borrow.Author.Rules.{rules}
 use Rattle.orders.proofs.entry.Goals as goal
 
 pub returns-in-Node : goal.returns-in-Node

@@ -1,10 +1,7 @@
 -- `orders::header` meets its contract: by whether the order is an arrival, of which what it requires speaks. Assumes nothing.
 use mathlib.Core.Path.{◌≡◌}
-use mathlib.Core.List.{[], ◌∷◌}
 use Prim.Native.Nat.{◌+◌, ◌-◌}
 use native.Mathlib.Omega.{arith}
-use types.Run.{miss}
-use borrow.Author.Rules.{rules}
 use Rattle.orders.proofs.Laws.{no_header}
 use Rattle.orders.proofs.header.Goals as goal
 

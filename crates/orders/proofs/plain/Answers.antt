@@ -1,5 +1,4 @@
 -- `orders::plain` meets its contract: by the answer's cases. Assumes nothing.
-use borrow.Author.Rules.{rules}
 use Rattle.orders.proofs.plain.Goals as goal
 
 pub returns-in-No : goal.returns-in-No

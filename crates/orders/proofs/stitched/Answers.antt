@@ -1,5 +1,4 @@
 -- `orders::stitched` meets its contract: by the answer's cases. Assumes nothing.
-use borrow.Author.Rules.{rules}
 use Rattle.orders.proofs.stitched.Goals as goal
 
 pub returns-in-Done : goal.returns-in-Done

@@ -1,5 +1,4 @@
 -- `orders::turned` meets its contract: by the answer's cases. Assumes nothing.
-use borrow.Author.Rules.{rules}
 use Rattle.orders.proofs.turned.Goals as goal
 
 pub returns-in-Leaves : goal.returns-in-Leaves

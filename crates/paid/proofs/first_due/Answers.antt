@@ -1,11 +1,9 @@
 -- `paid::first_due` meets its contract: what is found from cell c on is what is found of all. Assumes nothing.
 use mathlib.Core.Path.{sym, ◌∙◌}
-use Prim.Native.Nat.{◌-◌}
 use native.Mathlib.Omega.{arith}
 use borrow.Author.Tests.{not-true, not-false}
-use Rattle.layout.specs.Tables.{settings_of}
-use Rattle.ranges.proofs.First.{Searching, search_start, search_next, search_at, search_none}
-use Rattle.paid.specs.Paid.{settled_at, due_found}
+use Rattle.ranges.proofs.First.{search_start, search_next, search_at, search_none}
+use Rattle.paid.specs.Paid.{due_found}
 use Rattle.paid.proofs.first_due.Goals as goal
 
 pub loop-c-init : goal.loop-c-init

@@ -1,11 +1,8 @@
 -- What the loop of `paid::first_due` keeps.
-use mathlib.Core.Path.{sym, ◌∙◌}
 use Prim.Native.Nat.{◌-◌}
-use native.Mathlib.Omega.{arith}
-use borrow.Author.Tests.{not-true, not-false}
 use Rattle.layout.specs.Tables.{settings_of}
-use Rattle.ranges.proofs.First.{Searching, search_start, search_next, search_at, search_none}
-use Rattle.paid.specs.Paid.{settled_at, due_found}
+use Rattle.ranges.proofs.First.{Searching}
+use Rattle.paid.specs.Paid.{settled_at}
 use Rattle.paid.proofs.first_due.Given as goal
 
 abbrev pub invariant-loop-c : goal.invariant-loop-c

@@ -1,6 +1,5 @@
 -- `parts::bucket` meets its contract. Assumes nothing.
 use mathlib.Core.Path.{sym}
-use borrow.Author.Rules.{rules}
 use Rattle.parts.proofs.Laws.{bucket_is, bucket_reads}
 use Rattle.parts.proofs.bucket.Goals as goal
 

@@ -1,7 +1,6 @@
 -- `parts::credit` meets its contract. Assumes nothing.
 use mathlib.Core.Path.{sym}
 use native.Mathlib.Omega.{arith}
-use borrow.Author.Rules.{rules}
 use Rattle.ledger.proofs.Places.{credit_none}
 use Rattle.parts.proofs.Laws.{cell_reads, credit_is}
 use Rattle.parts.proofs.credit.Goals as goal

@@ -1,6 +1,5 @@
 -- `parts::last` meets its contract. Assumes nothing.
 use mathlib.Core.Path.{sym, ◌∙◌}
-use borrow.Author.Rules.{rules}
 use Rattle.parts.proofs.Laws.{last_is}
 use Rattle.parts.proofs.last.Goals as goal
 

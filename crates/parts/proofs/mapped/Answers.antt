@@ -1,6 +1,5 @@
 -- `parts::mapped` meets its contract. Assumes nothing.
 use mathlib.Core.Path.{sym, ◌∙◌}
-use borrow.Author.Rules.{rules}
 use Rattle.parts.proofs.Laws.{mapped_is}
 use Rattle.parts.proofs.mapped.Goals as goal
 

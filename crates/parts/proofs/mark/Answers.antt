@@ -1,6 +1,5 @@
 -- `parts::mark` meets its contract. Assumes nothing.
 use mathlib.Core.Path.{sym, ◌∙◌}
-use borrow.Author.Rules.{rules}
 use Rattle.parts.proofs.Laws.{mark_is}
 use Rattle.parts.proofs.mark.Goals as goal
 

@@ -1,5 +1,4 @@
 -- `parts::outward` meets its contract. Assumes nothing.
-use borrow.Author.Rules.{rules}
 use Rattle.layout.specs.Picture.{ledger_in}
 use Rattle.parts.proofs.outward.Goals as goal
 

@@ -1,5 +1,4 @@
 -- `parts::set_bucket` meets its contract. Assumes nothing.
-use borrow.Author.Rules.{rules}
 use Rattle.parts.proofs.Laws.{bucket_reads}
 use Rattle.parts.proofs.set_bucket.Goals as goal
 

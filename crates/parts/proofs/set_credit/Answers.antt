@@ -1,7 +1,6 @@
 -- `parts::set_credit` meets its contract. Assumes nothing.
 use mathlib.Core.Path.{sym}
 use native.Mathlib.Omega.{arith}
-use borrow.Author.Rules.{rules}
 use Rattle.parts.proofs.Laws.{put_free, put_paid, cell_reads}
 use Rattle.parts.proofs.set_credit.Goals as goal
 

@@ -1,7 +1,6 @@
 -- `ranges::below` meets its contract: the element is read, and compared. Assumes nothing.
 use mathlib.Core.Path.{ap}
 use Prim.Native.Nat.{ℕ}
-use borrow.Author.Rules.{rules}
 use lib.Dec.{ltb}
 use Rattle.ranges.proofs.below.Goals as goal
 

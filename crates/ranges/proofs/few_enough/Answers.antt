@@ -1,6 +1,5 @@
 -- `ranges::few_enough` meets its contract. Assumes nothing.
 use Prim.Native.Nat.{◌+◌}
-use borrow.Author.Rules.{rules}
 use borrow.Author.Tests.{lt-ltb, le-ltb}
 use Rattle.ranges.specs.Ranges.{few_at}
 use Rattle.ranges.proofs.few_enough.Goals as goal

@@ -1,11 +1,8 @@
 -- `ranges::first_outside` meets its contract: what is found from item i on is what is found of all. Assumes nothing.
 use mathlib.Core.Path.{sym, ◌∙◌}
-use Prim.Native.Nat.{◌-◌}
 use native.Mathlib.Omega.{arith}
 use borrow.Author.Tests.{not-true, not-false}
-use Rattle.layout.specs.Tables.{settings_of}
-use Rattle.ranges.specs.Ranges.{fits_at}
-use Rattle.ranges.proofs.First.{Searching, search_from, search_next, search_at, search_none}
+use Rattle.ranges.proofs.First.{search_from, search_next, search_at, search_none}
 use Rattle.ranges.proofs.first_outside.Goals as goal
 
 pub loop-i-init : goal.loop-i-init

@@ -1,8 +1,6 @@
 -- `ranges::highest_entry` meets its contract. The loop's invariant: the highest so far is that of the entries passed. Assumes nothing.
 use mathlib.Core.Path.{◌≡◌, refl, ap, ◌∙◌}
-use Prim.Native.Nat.{◌-◌, ◌≤◌}
 use native.Mathlib.Omega.{arith}
-use borrow.Author.Rules.{rules}
 use Rattle.ledger.specs.Settings.{ids}
 use Rattle.layout.specs.declared.Table.TheVariants.{Mapped}
 use Rattle.layout.specs.Tables.{get, settings_of}

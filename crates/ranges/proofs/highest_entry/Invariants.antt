@@ -1,13 +1,10 @@
 -- What the loop of `ranges::highest_entry` keeps.
-use mathlib.Core.Path.{◌≡◌, refl, ap, ◌∙◌}
+use mathlib.Core.Path.{◌≡◌}
 use Prim.Native.Nat.{◌-◌, ◌≤◌}
-use native.Mathlib.Omega.{arith}
-use borrow.Author.Rules.{rules}
 use Rattle.ledger.specs.Settings.{ids}
 use Rattle.layout.specs.declared.Table.TheVariants.{Mapped}
 use Rattle.layout.specs.Tables.{get, settings_of}
-use Rattle.ranges.specs.Ranges.{higher, highest}
-use Rattle.ranges.proofs.Highest.{highest_none, highest_next}
+use Rattle.ranges.specs.Ranges.{highest}
 use Rattle.ranges.proofs.highest_entry.Given as goal
 
 abbrev pub invariant-loop-i : goal.invariant-loop-i

@@ -2,7 +2,6 @@
 use mathlib.Core.Path.{refl, sym, ◌∙◌}
 use mathlib.Core.List.{[], ◌∷◌}
 use native.Mathlib.Omega.{arith}
-use borrow.Author.Rules.{rules}
 use Rattle.ledger.specs.Ledger.{last, mapped}
 use Rattle.layout.specs.Tables.{settings_of}
 use Rattle.ranges.proofs.Items.{fits_number}

@@ -2,7 +2,6 @@
 use mathlib.Core.Path.{◌≡◌, sym, ap, ◌∙◌}
 use mathlib.Core.Bool.{true}
 use native.Mathlib.Omega.{arith}
-use borrow.Author.Rules.{rules}
 use Rattle.ledger.specs.Settings.{setting_count, in_rows, first_out, size}
 use Rattle.ledger.proofs.Tests.{eqb_is}
 use Rattle.ledger.proofs.Rows.{roomy, rows_out}

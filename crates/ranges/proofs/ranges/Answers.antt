@@ -2,7 +2,6 @@
 use mathlib.Core.Path.{sym, ap, ◌∙◌}
 use Prim.Native.Nat.{ℕ, ◌+◌, ◌*◌}
 use native.Mathlib.Omega.{arith}
-use borrow.Author.Rules.{rules}
 use Rattle.layout.specs.Tables.{settings_of}
 use Rattle.ranges.specs.First.{first}
 use Rattle.ranges.specs.Ranges.{fits_at, ranges_found}

@@ -1,6 +1,5 @@
 -- `ranges::read` meets its contract. The needs of the settings differ in nothing but their numbers, so they are answered in the order of the
 -- code, without names. Assumes nothing.
-use borrow.Author.Rules.{rules}
 use Rattle.layout.specs.Picture.{settings_in}
 use Rattle.ranges.proofs.read.Goals as goal
 

@@ -1,6 +1,5 @@
 -- `records::packet` meets its contract. Assumes nothing.
 use mathlib.Core.Path.{refl}
-use borrow.Author.Rules.{rules}
 use Rattle.layout.specs.Picture.{packet_at}
 use Rattle.records.specs.Records.{InSlots}
 use Rattle.records.proofs.Laws.{node_slot, slot_reads}

@@ -1,5 +1,4 @@
 -- `records::record_wide` meets its contract. Assumes nothing.
-use borrow.Author.Rules.{rules}
 use Rattle.records.proofs.record_wide.Goals as goal
 
 pub returns : goal.returns

@@ -1,12 +1,9 @@
 -- `repairs::keep` meets its contract. The loop's invariant: the places passed hold their entries, mended. The measure is how many are left. Assumes nothing.
 use mathlib.Core.Path.{refl, ap, ◌∙◌}
-use Prim.Native.Nat.{◌-◌}
 use native.Mathlib.Omega.{arith}
-use Rattle.ledger.specs.Settings.{ids}
 use Rattle.ledger.specs.Repair.{mended}
-use Rattle.layout.specs.declared.Table.TheVariants.{Mapped}
-use Rattle.layout.specs.Tables.{get, settings_of}
-use Rattle.repairs.proofs.Keeping.{Keeping, keeping_none, keeping_next}
+use Rattle.layout.specs.Tables.{settings_of}
+use Rattle.repairs.proofs.Keeping.{keeping_none, keeping_next}
 use Rattle.repairs.proofs.keep.Goals as goal
 
 pub loop-i-init : goal.loop-i-init

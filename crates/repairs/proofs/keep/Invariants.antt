@@ -1,12 +1,10 @@
 -- What the loop of `repairs::keep` keeps.
-use mathlib.Core.Path.{refl, ap, ◌∙◌}
 use Prim.Native.Nat.{◌-◌}
-use native.Mathlib.Omega.{arith}
 use Rattle.ledger.specs.Settings.{ids}
 use Rattle.ledger.specs.Repair.{mended}
 use Rattle.layout.specs.declared.Table.TheVariants.{Mapped}
 use Rattle.layout.specs.Tables.{get, settings_of}
-use Rattle.repairs.proofs.Keeping.{Keeping, keeping_none, keeping_next}
+use Rattle.repairs.proofs.Keeping.{Keeping}
 use Rattle.repairs.proofs.keep.Given as goal
 
 abbrev pub invariant-loop-i : goal.invariant-loop-i

@@ -1,13 +1,7 @@
 -- `repairs::put_back` meets its contract. The loop's invariant: the entries passed are in their places. The measure is how many are left. Assumes nothing.
 use mathlib.Core.Path.{refl}
-use Prim.Native.Nat.{◌-◌}
 use native.Mathlib.Omega.{arith}
-use lib.ListN.{get_or}
-use Rattle.ledger.specs.Settings.{ids}
-use Rattle.layout.specs.declared.Table.TheVariants.{Mapped}
-use Rattle.layout.specs.Tables.{settings_of}
-use Rattle.memory.specs.Image.{fill}
-use Rattle.fills.proofs.Fills.{Partly, partly_all, fill_none, fill_next}
+use Rattle.fills.proofs.Fills.{partly_all, fill_none, fill_next}
 use Rattle.repairs.proofs.put_back.Goals as goal
 
 pub loop-i-init : goal.loop-i-init

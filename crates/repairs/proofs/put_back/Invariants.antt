@@ -1,13 +1,11 @@
 -- What the loop of `repairs::put_back` keeps.
-use mathlib.Core.Path.{refl}
 use Prim.Native.Nat.{◌-◌}
-use native.Mathlib.Omega.{arith}
 use lib.ListN.{get_or}
 use Rattle.ledger.specs.Settings.{ids}
 use Rattle.layout.specs.declared.Table.TheVariants.{Mapped}
 use Rattle.layout.specs.Tables.{settings_of}
 use Rattle.memory.specs.Image.{fill}
-use Rattle.fills.proofs.Fills.{Partly, partly_all, fill_none, fill_next}
+use Rattle.fills.proofs.Fills.{Partly}
 use Rattle.repairs.proofs.put_back.Given as goal
 
 abbrev pub invariant-loop-i : goal.invariant-loop-i

@@ -1,6 +1,5 @@
 -- `repairs::repair` meets its contract: each answer by the law of its case. Assumes nothing.
 use mathlib.Core.Path.{sym, ◌∙◌}
-use borrow.Author.Rules.{rules}
 use Rattle.ranges.specs.Opening.{Open}
 use Rattle.ranges.proofs.Opening.{opened_fine}
 use Rattle.repairs.proofs.Answers.{of_wrong, open_room, of_fine}

@@ -1,5 +1,4 @@
 -- `repairs::restart` meets its contract. Assumes nothing.
-use borrow.Author.Rules.{rules}
 use Rattle.repairs.proofs.Keeping.{put_back_repairs}
 use Rattle.repairs.proofs.restart.Goals as goal
 

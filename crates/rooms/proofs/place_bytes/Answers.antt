@@ -1,5 +1,4 @@
 -- `rooms::place_bytes` meets its contract: the eight bytes, two of each number and three from the list. Assumes nothing.
-use borrow.Author.Rules.{rules}
 use Rattle.ledger.specs.Audit.{place_bytes}
 use Rattle.rooms.proofs.place_bytes.Goals as goal
 

@@ -1,5 +1,4 @@
 -- `rooms::plain` meets its contract: by the answer's cases. Assumes nothing.
-use borrow.Author.Rules.{rules}
 use Rattle.rooms.proofs.plain.Goals as goal
 
 pub returns-in-No : goal.returns-in-No

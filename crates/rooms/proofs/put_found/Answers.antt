@@ -1,5 +1,4 @@
 -- `rooms::put_found` meets its contract: both numbers of the answer. Assumes nothing.
-use borrow.Author.Rules.{rules}
 use Rattle.rooms.proofs.put_found.Goals as goal
 
 pub returns : goal.returns

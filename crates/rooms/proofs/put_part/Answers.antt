@@ -1,6 +1,5 @@
 -- `rooms::put_part` meets its contract: by the answer's cases. Assumes nothing.
 use mathlib.Core.Path.{refl}
-use borrow.Author.Rules.{rules}
 use Rattle.rooms.proofs.put_part.Goals as goal
 
 pub returns-in-Part : goal.returns-in-Part

@@ -1,5 +1,4 @@
 -- `rooms::put_place` meets its contract: by the answer's cases. Assumes nothing.
-use borrow.Author.Rules.{rules}
 use Rattle.rooms.proofs.put_place.Goals as goal
 
 pub returns-in-Found : goal.returns-in-Found

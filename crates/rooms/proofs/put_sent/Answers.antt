@@ -1,5 +1,4 @@
 -- `rooms::put_sent` meets its contract: by the answer's cases. Assumes nothing.
-use borrow.Author.Rules.{rules}
 use Rattle.rooms.proofs.put_sent.Goals as goal
 
 pub returns-in-Idle : goal.returns-in-Idle

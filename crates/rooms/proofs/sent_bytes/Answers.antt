@@ -1,5 +1,4 @@
 -- `rooms::sent_bytes` meets its contract: the sixteen bytes, the parts of five numbers among them. Assumes nothing.
-use borrow.Author.Rules.{rules}
 use Rattle.rooms.specs.Rooms.{sent_bytes}
 use Rattle.rooms.proofs.sent_bytes.Goals as goal
 

@@ -1,5 +1,4 @@
 -- `rooms::side_byte` meets its contract: by the side's cases. Assumes nothing.
-use borrow.Author.Rules.{rules}
 use Rattle.rooms.proofs.side_byte.Goals as goal
 
 pub returns-in-Inside : goal.returns-in-Inside

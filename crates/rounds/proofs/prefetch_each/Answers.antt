@@ -1,11 +1,10 @@
 -- `rounds::prefetch_each` meets its contract. The loop's invariant: the ports passed have had their prefetches. The measure is how many are left.
 -- Assumes nothing.
 use mathlib.Core.List.{List, [], ◌∷◌}
-use Prim.Native.Nat.{ℕ, ◌-◌}
-use native.Mathlib.Omega.{arith}
+use Prim.Native.Nat.{ℕ}
 use Rattle.ledger.specs.Calls.{Act, prefetch}
 use Rattle.ledger.specs.Rounds.{each}
-use Rattle.rounds.proofs.Rounds.{Passed, passed_none, passed_next, passed_all}
+use Rattle.rounds.proofs.Rounds.{passed_none, passed_next, passed_all}
 use Rattle.rounds.proofs.prefetch_each.Goals as goal
 
 -- the prefetches of a port

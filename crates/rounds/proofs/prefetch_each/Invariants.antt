@@ -1,10 +1,9 @@
 -- What the loop of `rounds::prefetch_each` keeps.
 use mathlib.Core.List.{List, [], ◌∷◌}
 use Prim.Native.Nat.{ℕ, ◌-◌}
-use native.Mathlib.Omega.{arith}
 use Rattle.ledger.specs.Calls.{Act, prefetch}
 use Rattle.ledger.specs.Rounds.{each}
-use Rattle.rounds.proofs.Rounds.{Passed, passed_none, passed_next, passed_all}
+use Rattle.rounds.proofs.Rounds.{Passed}
 use Rattle.rounds.proofs.prefetch_each.Given as goal
 
 abbrev all : ℕ → ℕ → List Act

@@ -2,11 +2,10 @@
 -- Assumes nothing.
 use mathlib.Core.Path.{ap}
 use mathlib.Core.List.{List, [], ◌∷◌}
-use Prim.Native.Nat.{ℕ, ◌-◌}
+use Prim.Native.Nat.{ℕ}
 use native.Mathlib.Omega.{arith}
-use borrow.Author.Rules.{rules}
 use Rattle.ledger.specs.Calls.{Act, Reply, prefetch}
-use Rattle.rounds.proofs.Rounds.{Passed, passed_none, passed_next, passed_all}
+use Rattle.rounds.proofs.Rounds.{passed_none, passed_next, passed_all}
 use Rattle.rounds.proofs.prefetch_port.Goals as goal
 
 abbrev one : ℕ → ℕ → List Act

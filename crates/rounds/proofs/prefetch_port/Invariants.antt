@@ -1,11 +1,8 @@
 -- What the loop of `rounds::prefetch_port` keeps.
-use mathlib.Core.Path.{ap}
 use mathlib.Core.List.{List, [], ◌∷◌}
 use Prim.Native.Nat.{ℕ, ◌-◌}
-use native.Mathlib.Omega.{arith}
-use borrow.Author.Rules.{rules}
-use Rattle.ledger.specs.Calls.{Act, Reply, prefetch}
-use Rattle.rounds.proofs.Rounds.{Passed, passed_none, passed_next, passed_all}
+use Rattle.ledger.specs.Calls.{Act, prefetch}
+use Rattle.rounds.proofs.Rounds.{Passed}
 use Rattle.rounds.proofs.prefetch_port.Given as goal
 
 abbrev one : ℕ → ℕ → List Act

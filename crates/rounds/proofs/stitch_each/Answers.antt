@@ -1,10 +1,9 @@
 -- `rounds::stitch_each` meets its contract. The loop's invariant: the ports passed are stitched. The measure is how many are left. Assumes nothing.
 use mathlib.Core.Path.{ap}
 use mathlib.Core.List.{List, [], ◌∷◌}
-use Prim.Native.Nat.{ℕ, ◌-◌}
-use native.Mathlib.Omega.{arith}
+use Prim.Native.Nat.{ℕ}
 use Rattle.ledger.specs.Calls.{Act, Reply, stitch}
-use Rattle.rounds.proofs.Rounds.{Passed, passed_none, passed_next, passed_all}
+use Rattle.rounds.proofs.Rounds.{passed_none, passed_next, passed_all}
 use Rattle.rounds.proofs.stitch_each.Goals as goal
 
 abbrev one : ℕ → List Act

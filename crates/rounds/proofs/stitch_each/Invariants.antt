@@ -1,10 +1,8 @@
 -- What the loop of `rounds::stitch_each` keeps.
-use mathlib.Core.Path.{ap}
 use mathlib.Core.List.{List, [], ◌∷◌}
 use Prim.Native.Nat.{ℕ, ◌-◌}
-use native.Mathlib.Omega.{arith}
-use Rattle.ledger.specs.Calls.{Act, Reply, stitch}
-use Rattle.rounds.proofs.Rounds.{Passed, passed_none, passed_next, passed_all}
+use Rattle.ledger.specs.Calls.{Act, stitch}
+use Rattle.rounds.proofs.Rounds.{Passed}
 use Rattle.rounds.proofs.stitch_each.Given as goal
 
 abbrev one : ℕ → List Act

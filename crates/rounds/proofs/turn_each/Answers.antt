@@ -1,8 +1,7 @@
 -- `rounds::turn_each` meets its contract. The loop's invariant: the ports passed have had their turn, and it is told in the room. The measure is how
 -- many are left. Assumes nothing.
-use Prim.Native.Nat.{◌-◌}
 use native.Mathlib.Omega.{arith}
-use Rattle.rounds.proofs.Rounds.{Telling, told_none, told_one, told_all}
+use Rattle.rounds.proofs.Rounds.{told_none, told_one, told_all}
 use Rattle.rounds.proofs.turn_each.Goals as goal
 
 pub loop-p-init : goal.loop-p-init

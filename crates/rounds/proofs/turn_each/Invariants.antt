@@ -1,7 +1,6 @@
 -- What the loop of `rounds::turn_each` keeps.
 use Prim.Native.Nat.{◌-◌}
-use native.Mathlib.Omega.{arith}
-use Rattle.rounds.proofs.Rounds.{Telling, told_none, told_one, told_all}
+use Rattle.rounds.proofs.Rounds.{Telling}
 use Rattle.rounds.proofs.turn_each.Given as goal
 
 abbrev pub invariant-loop-p : goal.invariant-loop-p

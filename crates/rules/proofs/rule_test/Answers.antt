@@ -1,6 +1,5 @@
 -- `rules::rule_test` meets its contract, by the cases of what is told. Assumes nothing.
 use mathlib.Core.Path.{sym, ap, ◌∙◌}
-use borrow.Author.Rules.{rules}
 use Rattle.rules.specs.Numbers.{test_number}
 use Rattle.rules.proofs.rule_test.Goals as goal
 

@@ -1,18 +1,15 @@
 -- `runs::run` meets its contract. The loop's invariant: what was done, and that the whole is that and the rest from here. The measure is how many
 -- bytes of the fields are left. Assumes nothing.
 use mathlib.Core.Path.{◌≡◌, refl, sym, ap, ◌∙◌, subst}
-use mathlib.Core.List.{[], ◌∷◌}
 use Prim.Native.Nat.{◌+◌, ◌-◌, ◌^◌, ◌≤◌, ◌<◌}
 use native.Mathlib.Omega.{arith}
-use types.Run.{miss}
-use borrow.Author.Rules.{rules}
 use lib.ListN.{length}
 use Rattle.ledger.specs.Header.{form, header_size, least_length}
 use Rattle.ledger.proofs.Header.{narrow, header_small}
 use Rattle.layout.specs.Tables.{settings_of}
 use Rattle.memory.proofs.Stretch.{asked_end}
 use Rattle.asks.specs.Asks.{ask_of, Within}
-use Rattle.runs.proofs.Along.{Along, start_along, next_along, ended_along, full_along, no_call_along}
+use Rattle.runs.proofs.Along.{start_along, next_along, ended_along, full_along, no_call_along}
 use Rattle.runs.proofs.run.Goals as goal
 use Rattle.runs.proofs.run.Goals.{At-loop-at, Start}
 

@@ -1,17 +1,7 @@
 -- What the loop of `runs::run` keeps.
-use mathlib.Core.Path.{◌≡◌, refl, sym, ap, ◌∙◌, subst}
-use mathlib.Core.List.{[], ◌∷◌}
-use Prim.Native.Nat.{◌+◌, ◌-◌, ◌^◌, ◌≤◌, ◌<◌}
-use native.Mathlib.Omega.{arith}
-use types.Run.{miss}
-use borrow.Author.Rules.{rules}
+use Prim.Native.Nat.{◌-◌}
 use lib.ListN.{length}
-use Rattle.ledger.specs.Header.{form, header_size, least_length}
-use Rattle.ledger.proofs.Header.{narrow, header_small}
-use Rattle.layout.specs.Tables.{settings_of}
-use Rattle.memory.proofs.Stretch.{asked_end}
-use Rattle.asks.specs.Asks.{ask_of, Within}
-use Rattle.runs.proofs.Along.{Along, start_along, next_along, ended_along, full_along, no_call_along}
+use Rattle.runs.proofs.Along.{Along}
 use Rattle.runs.proofs.run.Given as goal
 
 abbrev pub invariant-loop-at : goal.invariant-loop-at

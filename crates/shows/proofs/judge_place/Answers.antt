@@ -1,6 +1,5 @@
 -- `shows::judge_place` meets its contract: each return is a law of what the judgement is there. Assumes nothing.
 use mathlib.Core.Path.{◌≡◌, sym, ap, ◌∙◌}
-use borrow.Author.Rules.{rules}
 use Rattle.ledger.specs.Ledger.{prefetched, place#}
 use Rattle.layout.specs.declared.Table.TheVariants.{Count}
 use Rattle.layout.specs.Tables.{settings_of, get}

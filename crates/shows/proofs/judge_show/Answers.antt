@@ -1,7 +1,6 @@
 -- `shows::judge_show` meets its contract: the kind, the sizes, then the rest. Assumes nothing.
 use mathlib.Core.Path.{◌≡◌, sym, ap, ◌∙◌}
 use mathlib.Core.Bool.{not, false}
-use borrow.Author.Rules.{rules}
 use Rattle.ledger.specs.Settings.{keeps_packets}
 use Rattle.layout.specs.Tables.{settings_of}
 use Rattle.shows.proofs.Laws as laws

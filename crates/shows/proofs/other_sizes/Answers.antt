@@ -1,7 +1,6 @@
 -- `shows::other_sizes` meets its contract: the first memory of another size, or none. Assumes nothing.
 use mathlib.Core.Path.{◌≡◌, sym, ◌∙◌}
 use mathlib.Core.Bool.{false}
-use borrow.Author.Rules.{rules}
 use Rattle.ledger.specs.Calls.{other_size}
 use Rattle.layout.specs.Tables.{settings_of}
 use Rattle.shows.proofs.Laws.{or_false}

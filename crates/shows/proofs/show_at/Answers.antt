@@ -2,7 +2,6 @@
 use mathlib.Core.Path.{◌≡◌, refl, sym, ap, ◌∙◌}
 use mathlib.Core.List.{List, [], ◌∷◌}
 use Prim.Native.Nat.{ℕ}
-use borrow.Author.Rules.{rules}
 use Rattle.ledger.specs.Ledger.{Packet, prefetched}
 use Rattle.ledger.specs.Calls.{Reply, part, show}
 use Rattle.layout.specs.declared.Table.TheVariants.{Head}

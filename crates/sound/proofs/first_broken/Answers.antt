@@ -1,6 +1,5 @@
 -- `sound::first_broken` meets its contract. Assumes nothing.
 use mathlib.Core.Path.{sym, ◌∙◌}
-use borrow.Author.Rules.{rules}
 use Rattle.ranges.specs.Opening.{Open}
 use Rattle.ranges.proofs.Opening.{opened_fine}
 use Rattle.sound.proofs.Walks.{opened_broken, wrong_broken}

@@ -1,6 +1,5 @@
 -- `sound::marks_broken` meets its contract. Assumes nothing.
 use mathlib.Core.Path.{sym, ◌∙◌}
-use borrow.Author.Rules.{rules}
 use Rattle.ranges.proofs.Opening.{open_held}
 use Rattle.sound.proofs.marks_broken.Goals as goal
 

@@ -1,7 +1,6 @@
 -- `sound::nodes_broken` meets its contract: a rule that finds nothing leaves the answer to the next. Assumes nothing.
 use mathlib.Core.Path.{◌≡◌, refl, sym, ◌∙◌}
 use native.Mathlib.Omega.{arith}
-use borrow.Author.Rules.{rules}
 use Rattle.ledger.specs.declared.Finding.{Finding}
 use Rattle.ledger.specs.declared.Finding.TheVariants.{Whole}
 use Rattle.layout.specs.Tables.{settings_of}

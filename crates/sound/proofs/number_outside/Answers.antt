@@ -1,5 +1,4 @@
 -- `sound::number_outside` meets its contract. Assumes nothing.
-use borrow.Author.Rules.{rules}
 use Rattle.ranges.proofs.Opening.{open_held}
 use Rattle.sound.proofs.number_outside.Goals as goal
 

@@ -1,5 +1,4 @@
 -- `sound::once_among_all` meets its contract: the marks that are lent are enough, and clear. Assumes nothing.
-use borrow.Author.Rules.{rules}
 use Rattle.sound.proofs.Lent.{most, blank}
 use Rattle.sound.proofs.once_among_all.Goals as goal
 

@@ -1,6 +1,5 @@
 -- `sound::open_broken` meets its contract: the numbers, then what the one walk tells, then the marks. Assumes nothing.
 use mathlib.Core.Path.{sym, subst, ◌∙◌}
-use borrow.Author.Rules.{rules}
 use Rattle.layout.specs.Tables.{settings_of}
 use Rattle.ranges.proofs.Slots.{Low, low_found}
 use Rattle.whole.specs.Whole.{Tells}

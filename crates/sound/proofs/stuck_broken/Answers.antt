@@ -1,6 +1,5 @@
 -- `sound::stuck_broken` meets its contract: a rule that finds nothing leaves the answer to the next. Assumes nothing.
 use mathlib.Core.Path.{◌≡◌, sym, ◌∙◌}
-use borrow.Author.Rules.{rules}
 use Rattle.ledger.specs.declared.Finding.TheVariants.{Whole}
 use Rattle.layout.specs.Tables.{settings_of}
 use Rattle.ranges.specs.Ranges.{ranges_found}

@@ -1,6 +1,5 @@
 -- `sound::test` meets its contract: a memory that opens is a switch state exactly if the rules after (a) are kept. Assumes nothing.
 use mathlib.Core.Path.{sym, ◌∙◌}
-use borrow.Author.Rules.{rules}
 use Rattle.ranges.specs.Opening.{Open}
 use Rattle.ranges.proofs.Opening.{opened_fine}
 use Rattle.sound.proofs.Means.{clean_tested, unclean_tested, unopened_tested}

@@ -1,5 +1,4 @@
 -- `sound::whole_among_few` meets its contract: the marks that are lent are enough, and clear. Assumes nothing.
-use borrow.Author.Rules.{rules}
 use Rattle.sound.proofs.Lent.{blank}
 use Rattle.sound.proofs.whole_among_few.Goals as goal
 

@@ -1,9 +1,6 @@
 -- `sound::whole_in` meets its contract: the numbers, the marks, and then what one walk decides. Assumes nothing.
 use mathlib.Core.Path.{◌≡◌, sym, subst, ◌∙◌}
 use mathlib.Core.Bool.{false≢true}
-use mathlib.Core.List.{[], ◌∷◌}
-use types.Run.{miss}
-use borrow.Author.Rules.{rules}
 use Rattle.ledger.specs.declared.Finding.TheVariants.{Whole}
 use Rattle.layout.specs.Tables.{settings_of}
 use Rattle.ranges.proofs.Opening.{open_held}

@@ -1,6 +1,5 @@
 -- `sound::whole_with_few` meets its contract: the part that is lent is as long as it has to be, and 0. Assumes nothing.
 use mathlib.Core.Path.{sym}
-use borrow.Author.Rules.{rules}
 use Rattle.sound.proofs.Lent.{part_long, all_lent}
 use Rattle.sound.proofs.whole_with_few.Goals as goal
 

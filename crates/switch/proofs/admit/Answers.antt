@@ -1,6 +1,5 @@
 -- `switch::admit` meets its contract: where the test says a state, the act on it is the call; else refusal 3. Assumes nothing.
 use mathlib.Core.Path.{sym, ◌∙◌}
-use borrow.Author.Rules.{rules}
 use Rattle.ledger.specs.Calls.{arrive}
 use Rattle.ledger.specs.Answers.{load_of}
 use Rattle.sound.proofs.Means.{tested_state}

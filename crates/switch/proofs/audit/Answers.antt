@@ -1,6 +1,5 @@
 -- `switch::audit` meets its contract: where the test says a state, the audit of it; else refusal 3. Assumes nothing.
 use mathlib.Core.Path.{sym, ◌∙◌}
-use borrow.Author.Rules.{rules}
 use Rattle.sound.proofs.Means.{tested_state}
 use Rattle.switch.proofs.Laws.{audit_on_state, audit_off_state}
 use Rattle.switch.proofs.audit.Goals as goal

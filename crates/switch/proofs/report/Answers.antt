@@ -2,7 +2,6 @@
 use mathlib.Core.Path.{sym, ap, ◌∙◌}
 use mathlib.Core.List.{List}
 use Prim.Native.Nat.{ℕ}
-use borrow.Author.Rules.{rules}
 use Rattle.ledger.specs.Calls.{Reply, report}
 use Rattle.sound.proofs.Means.{tested_state}
 use Rattle.switch.proofs.Laws.{on_state, off_state}

@@ -1,6 +1,5 @@
 -- `switch::round` meets its contract: where the test says a state, the round on it; else refusal 3. Assumes nothing.
 use mathlib.Core.Path.{sym, ◌∙◌}
-use borrow.Author.Rules.{rules}
 use Rattle.sound.proofs.Means.{tested_state}
 use Rattle.switch.proofs.Laws.{round_on_state, round_off_state}
 use Rattle.switch.proofs.round.Goals as goal

@@ -1,6 +1,5 @@
 -- `switch::run` meets its contract: where the test says a state, the run on it; else refusal 3. Assumes nothing.
 use mathlib.Core.Path.{sym, ◌∙◌}
-use borrow.Author.Rules.{rules}
 use Rattle.sound.proofs.Means.{tested_state}
 use Rattle.switch.proofs.Laws.{run_on_state, run_off_state}
 use Rattle.switch.proofs.run.Goals as goal

@@ -1,6 +1,5 @@
 -- `switch::stitch` meets its contract: where the test says a state, the act on it is the call; else refusal 3. Assumes nothing.
 use mathlib.Core.Path.{sym, ap, ◌∙◌}
-use borrow.Author.Rules.{rules}
 use Rattle.ledger.specs.Calls.{stitch}
 use Rattle.ledger.specs.Answers.{record_in}
 use Rattle.ledger.specs.Calls.{Reply}

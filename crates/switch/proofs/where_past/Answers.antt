@@ -2,7 +2,6 @@
 use mathlib.Core.Path.{sym, ap, ◌∙◌}
 use mathlib.Core.List.{List}
 use Prim.Native.Nat.{ℕ}
-use borrow.Author.Rules.{rules}
 use Rattle.ledger.specs.Calls.{Reply, where_is}
 use Rattle.switch.proofs.Laws.{past_state, off_state}
 use Rattle.switch.proofs.where_past.Goals as goal

@@ -2,7 +2,6 @@
 use mathlib.Core.Path.{refl, sym, ap, ◌∙◌}
 use mathlib.Core.List.{List}
 use Prim.Native.Nat.{ℕ}
-use borrow.Author.Rules.{rules}
 use Rattle.ledger.specs.Header.{alone}
 use Rattle.ledger.specs.Calls.{arrive}
 use Rattle.asks.specs.Asks.{task_act}

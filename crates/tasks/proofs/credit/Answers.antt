@@ -1,6 +1,5 @@
 -- `tasks::credit` meets its contract: refused, or done and the bit made again. Assumes nothing.
 use mathlib.Core.Path.{refl, ap}
-use borrow.Author.Rules.{rules}
 use Rattle.ledger.specs.Answers.{plain_reply}
 use Rattle.ledger.specs.Calls as calls
 use Rattle.ledger.specs.Calls.{credit}

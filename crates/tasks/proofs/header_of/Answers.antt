@@ -1,11 +1,8 @@
 -- `tasks::header_of` meets its contract: by whether the task is an arrival, of which what it requires speaks. Assumes nothing.
 use mathlib.Core.Path.{subst}
-use mathlib.Core.List.{[], ◌∷◌}
 use Prim.Native.Nat.{◌+◌, ◌≤◌}
 use native.Mathlib.Omega.{arith}
 use lib.ListN.{length}
-use types.Run.{miss}
-use borrow.Author.Rules.{rules}
 use Rattle.asks.specs.Asks.{HeaderIn}
 use Rattle.tasks.proofs.Laws.{same_header}
 use Rattle.tasks.proofs.header_of.Goals as goal

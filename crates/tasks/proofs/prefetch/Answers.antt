@@ -1,6 +1,5 @@
 -- `tasks::prefetch` meets its contract: refused, or done and the bit made again. Assumes nothing.
 use mathlib.Core.Path.{ap}
-use borrow.Author.Rules.{rules}
 use Rattle.ledger.specs.Answers.{entry_reply}
 use Rattle.ledger.specs.Calls.{prefetch, entry}
 use Rattle.tasks.proofs.Laws.{prefetch_stale, done_refused, done_renewed}

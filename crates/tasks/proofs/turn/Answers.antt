@@ -2,7 +2,6 @@
 use mathlib.Core.Path.{◌≡◌, refl, sym, ap, ◌∙◌}
 use mathlib.Core.List.{List}
 use Prim.Native.Nat.{ℕ}
-use borrow.Author.Rules.{rules}
 use Rattle.ledger.specs.Buckets.{untimed}
 use Rattle.ledger.specs.Ledger.{prefetched}
 use Rattle.ledger.specs.Calls.{Reply, turn, entry, leaves, side_of}

@@ -1,7 +1,6 @@
 -- `turns::next_queue` meets its contract: the word is the port's, and the queue that it gives is ready. Assumes nothing.
 use mathlib.Core.Path.{◌≡◌, ap₂, ◌∙◌}
 use native.Mathlib.Omega.{arith}
-use borrow.Author.Rules.{rules}
 use Rattle.ledger.specs.Ledger.{last_of, last}
 use Rattle.ledger.specs.Ready.{ready_word, pick}
 use Rattle.layout.specs.Tables.{settings_of}

@@ -1,7 +1,6 @@
 -- `turns::pick` meets its contract: the shifts clear the bits up to the mark. Assumes nothing.
 use mathlib.Core.Path.{◌≡◌, sym, ◌∙◌}
 use Prim.Native.Nat.{◌*◌, ◌/◌, ◌%◌, ◌^◌}
-use borrow.Author.Rules.{rules}
 use Rattle.ledger.specs.Ready.{masked_above, pick}
 use Rattle.ledger.proofs.Tests.{eqb_is, eqb_not}
 use Rattle.turns.proofs.Laws.{masked_is}

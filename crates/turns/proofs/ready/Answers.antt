@@ -2,7 +2,6 @@
 use mathlib.Core.Path.{ap, ◌∙◌}
 use Prim.Native.Nat.{ℕ}
 use lib.Count.{ones}
-use borrow.Author.Rules.{rules}
 use Rattle.ledger.specs.Calls.{word}
 use Rattle.layout.specs.Tables.{settings_of}
 use Rattle.turns.proofs.Laws.{ready_no_port, ready_is}

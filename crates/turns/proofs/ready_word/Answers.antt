@@ -1,8 +1,8 @@
 -- `turns::ready_word` meets its contract. The loop's invariant: the word so far has a bit for each queue from q on. Assumes nothing.
 use mathlib.Core.Path.{◌≡◌, ◌∙◌}
-use Prim.Native.Nat.{◌+◌, ◌-◌, ◌^◌, ◌≤◌, ◌<◌}
+use Prim.Native.Nat.{◌-◌, ◌^◌, ◌<◌}
 use native.Mathlib.Omega.{arith}
-use Rattle.ledger.specs.Ready.{is_ready, word_of, ready_word}
+use Rattle.ledger.specs.Ready.{is_ready, ready_word}
 use Rattle.ledger.proofs.Places.{bit_le}
 use Rattle.layout.specs.Tables.{settings_of}
 use Rattle.layout.specs.Picture.{ledger_in}

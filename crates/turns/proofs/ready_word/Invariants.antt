@@ -1,12 +1,9 @@
 -- What the loop of `turns::ready_word` keeps.
-use mathlib.Core.Path.{◌≡◌, ◌∙◌}
-use Prim.Native.Nat.{◌+◌, ◌-◌, ◌^◌, ◌≤◌, ◌<◌}
-use native.Mathlib.Omega.{arith}
-use Rattle.ledger.specs.Ready.{is_ready, word_of, ready_word}
-use Rattle.ledger.proofs.Places.{bit_le}
+use mathlib.Core.Path.{◌≡◌}
+use Prim.Native.Nat.{◌+◌, ◌-◌, ◌≤◌}
+use Rattle.ledger.specs.Ready.{is_ready, word_of}
 use Rattle.layout.specs.Tables.{settings_of}
 use Rattle.layout.specs.Picture.{ledger_in}
-use Rattle.turns.proofs.Laws.{word_down, word_start, word_end, word_room}
 use Rattle.turns.proofs.ready_word.Given as goal
 
 abbrev pub invariant-loop-q : goal.invariant-loop-q

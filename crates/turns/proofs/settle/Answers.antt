@@ -1,5 +1,4 @@
 -- `turns::settle` meets its contract: three writes, one after another. Assumes nothing.
-use borrow.Author.Rules.{rules}
 use Rattle.turns.proofs.settle.Goals as goal
 
 pub returns : goal.returns

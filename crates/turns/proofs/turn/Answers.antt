@@ -1,6 +1,5 @@
 -- `turns::turn` meets its contract: refused, idle, or the picked queue's oldest packet leaves. Assumes nothing.
 use mathlib.Core.Path.{sym, ◌∙◌}
-use borrow.Author.Rules.{rules}
 use Rattle.layout.specs.Tables.{settings_of}
 use Rattle.turns.proofs.Laws as laws
 use Rattle.turns.proofs.turn.Goals as goal

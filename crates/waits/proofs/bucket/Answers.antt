@@ -1,5 +1,5 @@
 -- `waits::bucket` meets its contract: refused, or the bucket is read. Assumes nothing.
-use Rattle.std.proofs.Common.{ap, ◌∙◌, rules}
+use Rattle.std.proofs.Common.{ap, ◌∙◌}
 use Rattle.ledger.specs.Calls.{counted}
 use Rattle.waits.proofs.Laws.{bucket_no_port, no_bucket, reads}
 use Rattle.waits.proofs.bucket.Goals as goal

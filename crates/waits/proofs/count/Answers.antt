@@ -1,5 +1,4 @@
 -- `waits::count` meets its contract: the wait's bucket is read, and written with one more. Assumes nothing.
-use Rattle.std.proofs.Common.{rules}
 use Rattle.parts.proofs.Laws.{bucket_is}
 use Rattle.layout.specs.Tables.{settings_of}
 use Rattle.waits.proofs.Laws.{bucket_here}

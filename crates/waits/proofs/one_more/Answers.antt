@@ -1,5 +1,5 @@
 -- `waits::one_more` meets its contract. Assumes nothing.
-use Rattle.std.proofs.Common.{arith, rules}
+use Rattle.std.proofs.Common.{arith}
 use Rattle.waits.proofs.Laws.{more, no_more}
 use Rattle.waits.proofs.one_more.Goals as goal
 

@@ -1,13 +1,9 @@
 -- `waits::timed_turn` meets its contract: it is the turn, and where a packet left its wait is counted. Assumes nothing.
-use Rattle.std.proofs.Common.{◌≡◌, ℕ, List, [], ◌∷◌, length, sym, ap, ◌∙◌, arith, rules}
-use types.Run.{miss}
+use Rattle.std.proofs.Common.{◌≡◌, ℕ, List, length, sym, ap, ◌∙◌, arith}
 use Rattle.ledger.specs.Buckets.{untimed}
 use Rattle.ledger.specs.Calls.{Reply, leaves, turn}
 use Rattle.ledger.specs.Answers.{sent_of, exit_of, turn_reply}
 use Rattle.ledger.specs.declared.Turned.{Turned}
-use Rattle.ledger.specs.declared.Turned.TheVariants.{Leaves}
-use Rattle.ledger.specs.declared.Sent.{Sent}
-use Rattle.ledger.specs.declared.Exit.{Exit}
 use Rattle.layout.specs.Tables.{settings_of}
 use Rattle.memory.specs.Writes.{tick_mem}
 use Rattle.memory.specs.Memory.{acted}

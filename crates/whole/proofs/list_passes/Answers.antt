@@ -20,7 +20,7 @@ use Rattle.once.specs.Once.{is_new}
 use Rattle.once.proofs.Bits.{marks_length}
 use Rattle.once.proofs.Walk.{walk_start}
 use Rattle.nodes.specs.Nodes.{fits_here}
-use Rattle.whole.proofs.Walking.{Passing, pass_start, pass_held, pass_lent, pass_not, pass_step, pass_end}
+use Rattle.whole.proofs.Walking.{pass_start, pass_held, pass_lent, pass_not, pass_step, pass_end}
 use Rattle.whole.proofs.list_passes.Goals as goal
 use Rattle.whole.proofs.list_passes.Goals.{After-get2-next, After-node_passes, At-loop-left, Else-not-is_node}
 

@@ -1,15 +1,13 @@
 -- `whole::whole` meets its contract. The loop's invariant: the walk stands at the first list of the port. Assumes nothing.
 use mathlib.Core.Path.{◌≡◌, refl, sym, ap, ◌∙◌}
-use Prim.Native.Nat.{◌-◌, ◌*◌, ◌≤◌}
+use Prim.Native.Nat.{◌*◌, ◌≤◌}
 use native.Mathlib.Nat.{mul-le-mul_right}
 use native.Mathlib.Omega.{arith}
-use borrow.Author.Rules.{rules}
 use borrow.Author.Tests.{not-true, not-false}
 use lib.ListN.{length}
 use Rattle.ledger.specs.declared.Finding.TheVariants.{Whole}
 use Rattle.ledger.specs.Settings.{row}
 use Rattle.layout.specs.Tables.{lists, settings_of}
-use Rattle.once.specs.Bits.{marks_in}
 use Rattle.once.specs.Once.{once_found}
 use Rattle.fits.specs.declared.NodeRule.{NodeRule}
 use Rattle.fits.specs.declared.NodeRule.TheVariants.{Record}
@@ -17,7 +15,6 @@ use Rattle.fits.specs.Fits.{fits_found}
 use Rattle.paid.specs.Paid.{sums_of, due_found, paid_found}
 use Rattle.paid.proofs.Passing.{sums_held}
 use Rattle.whole.specs.Whole.{Listed, FitsUpTo}
-use Rattle.whole.specs.Walks.{AtList}
 use Rattle.whole.proofs.Lists.{lists_start, end_fits, end_sums, end_slots, end_once, end_left, payable}
 use Rattle.whole.proofs.whole.Goals as goal
 use Rattle.whole.proofs.whole.Goals.{After-first_due, After-struct_known-1, At-loop-port, Else-met-s}

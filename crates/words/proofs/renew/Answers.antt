@@ -3,7 +3,6 @@ use mathlib.Core.Path.{◌≡◌}
 use Prim.Native.Nat.{ℕ, ◌<◌, ◌^◌}
 use native.Mathlib.Omega.{arith}
 use native.Mathlib.Decide.{ℕ_discrete}
-use borrow.Author.Rules.{rules}
 use lib.Pow.{pow_mono}
 use Rattle.ledger.specs.Ready.{is_ready, ready_word}
 use Rattle.ledger.proofs.Places.{bit_le}

@@ -1,6 +1,5 @@
 -- `words::with_bit` meets its contract: the bit that was there is taken off, and the new one put on. Assumes nothing.
 use native.Mathlib.Omega.{arith}
-use borrow.Author.Rules.{rules}
 use Rattle.words.proofs.Laws.{shifted, old_bit, old_part}
 use Rattle.words.proofs.with_bit.Goals as goal
 

@@ -1,6 +1,5 @@
 -- `words::word_of` meets its contract: a word that is made is as kept, and one that is made now is right. Assumes nothing.
 use mathlib.Core.Path.{sym, ◌∙◌}
-use borrow.Author.Rules.{rules}
 use lib.ListN.{set, length-set}
 use lib.Seq.{get_or-set_other}
 use Rattle.words.proofs.Laws.{kept_put}
