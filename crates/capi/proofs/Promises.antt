@@ -66,7 +66,9 @@ never_zero ShortRoom = omega arith
 abbrev Keeps : {A : Type 0} → (Reply → A → A) → Type 0
 Keeps {A} room = (n : ℕ) (old : A) → room (refused n) old ≡ old
 
-pub rooms_kept : Keeps entry_room × Keeps record_room × Keeps sent_room × Keeps ready_room × Keeps mark_room × Keeps part_room × ((y : ℕ) → Keeps (place_room y))
+pub rooms_kept :
+    Keeps entry_room × Keeps record_room × Keeps sent_room × Keeps ready_room × Keeps mark_room × Keeps part_room
+    × ((y : ℕ) → Keeps (place_room y))
 rooms_kept = (λ n old. refl, λ n old. refl, λ n old. refl, λ n old. refl, λ n old. refl, λ n old. refl, λ y n old. refl)
 
 -- where the answer is not 0, no byte that was lent differs, but the mark of the port at which an arrival was refused (paper 02, Q-9)
@@ -130,7 +132,8 @@ pub room_tells_part : (x n : ℕ) (old : ℕ × ℕ × ℕ) (a b c d : List ℕ)
 room_tells_part x n old a b c d = refl
 
 -- and of a round, neither memory nor room
-pub nothing_differs_round : (m room : List ℕ) → (number_in (round_on m room).0 ≡ 0 → ⊥) → told_round (round_on m room) ≡ (number_in (round_on m room).0, m, room)
+pub nothing_differs_round : (m room : List ℕ) → (number_in (round_on m room).0 ≡ 0 → ⊥)
+    → told_round (round_on m room) ≡ (number_in (round_on m room).0, m, room)
 nothing_differs_round m room h =
     let l = refused_round_keeps m room (refusal_only (λ x old. old) (λ n old. refl) (round_on m room).0 room h).0 in
     rw (l.0, l.1)

@@ -12,7 +12,8 @@ use Rattle.codec.specs.Writer.{holds, body_for, header_for}
 use Rattle.codec.specs.Cards.{Holds, cards}
 
 pub cards_hold : All Holds cards
-unfolding number digits bits crc_bit crc_bits crc_byte crc_from crc8 ports_in queues_in count_leading_zeros width_of form_of front_bits front_bytes spare body_size
+unfolding number digits bits crc_bit crc_bits crc_byte crc_from crc8 ports_in queues_in count_leading_zeros width_of form_of front_bits front_bytes spare
+    body_size
     header_size least_length fields_of counts_in holds body_for header_for
 cards_hold = (
   (refl, refl),

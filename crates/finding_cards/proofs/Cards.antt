@@ -30,14 +30,16 @@ unfolding ones number store is_beat ports_in queues_in packets_in in_rows first_
 tables_quick = ((refl, refl, refl), ((refl, refl, refl), ((refl, refl, refl), ((refl, refl, refl), ((refl, refl, refl), ((refl, refl, refl), tt))))))
 
 packets_quick : All Quick packets
-unfolding ones count_leading_zeros number store is_beat ports_in queues_in packets_in in_rows row size width_of form_of front_bits front_bytes body_size header_size least_length
+unfolding ones count_leading_zeros number store is_beat ports_in queues_in packets_in in_rows row size width_of form_of front_bits front_bytes body_size
+    header_size least_length
     price is_node place# cell credit_at set_credit start_of get put settings_in slot chain nodes_of packet_at fill all_linked written image first_from
     prefetch_at fits_at is_new mark all_new mark_all ends right unmarked scan once_found range_test fields_test proper_test rule_test first_bad fits_from
     fits_found add_price add_node add_all add_list add_from sums_of settled_at due_found nodes_broken halting is_mark marks_found
 packets_quick = ((refl, refl, refl), ((refl, refl, refl), ((refl, refl, refl), ((refl, refl, refl), ((refl, refl, refl), tt)))))
 
 marks_buckets_quick : All Quick marks_buckets
-unfolding ones count_leading_zeros number store is_beat ports_in queues_in packets_in in_rows row size width_of form_of front_bits front_bytes body_size header_size least_length
+unfolding ones count_leading_zeros number store is_beat ports_in queues_in packets_in in_rows row size width_of form_of front_bits front_bytes body_size
+    header_size least_length
     price is_node place# cell credit_at set_credit start_of get put settings_in slot chain nodes_of packet_at fill all_linked written image first_from
     prefetch_at fits_at is_new mark all_new mark_all ends right unmarked scan once_found range_test fields_test proper_test rule_test first_bad fits_from
     fits_found add_price add_node add_all add_list add_from sums_of settled_at due_found nodes_broken halting is_mark marks_found

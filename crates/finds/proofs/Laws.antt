@@ -130,7 +130,8 @@ module _ (S : Settings) (m : List ℕ) (x : ℕ) where
       (k (le_of_suc-le-suc h) ∙ ap (λ (j : ℕ). In j (position x (get_or ls (which x ls) []))) d)
 
   search_is : (l n : ℕ) → which x (tabulate (shown S m) l n) < n
-      → searched S m x l n ≡ In (l + which x (tabulate (shown S m) l n)) (position x (get_or (tabulate (shown S m) l n) (which x (tabulate (shown S m) l n)) []))
+      → searched S m x l n ≡ In (l + which x (tabulate (shown S m) l n))
+      (position x (get_or (tabulate (shown S m) l n) (which x (tabulate (shown S m) l n)) []))
   unfolding searched
   search_is l zero h = absurd (not-suc-le-zero h)
   search_is l (suc n) h = search_step l n (tabulate (shown S m) (suc l) n) (searched S m x (suc l) n) (search_is (suc l) n) _ refl h

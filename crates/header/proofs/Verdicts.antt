@@ -22,7 +22,8 @@ use Rattle.header.proofs.Reading.{header_of_injective, parsed_size, parsed_field
 -- ---- rules one after another
 
 -- what the first of them refuse is refused, whatever comes after them
-pub first_bad_lem : {X : Type 0} (rs ts : List Rule) (f : Fields) (r : ℕ) (no' : ℕ → X) (out : X) → bad r ≡ guard rs bad (good f) → no' r ≡ guard (rs ++ ts) no' out
+pub first_bad_lem : {X : Type 0} (rs ts : List Rule) (f : Fields) (r : ℕ) (no' : ℕ → X) (out : X) → bad r ≡ guard rs bad (good f)
+    → no' r ≡ guard (rs ++ ts) no' out
 first_bad_lem [] ts f r no' out e = absurd (let z : ◌≡◌ {A = ℕ} 0 1 = cc in omega arith)
 first_bad_lem (refuse n true ∷ rs) ts f r no' out e = cc
 first_bad_lem (refuse n false ∷ rs) ts f r no' out e = first_bad_lem rs ts f r no' out e

@@ -93,7 +93,8 @@ pub fn filled<R: Read>(reader: &mut R, bytes: &mut [u8; 4096], input: Input) -> 
     requires { (input.from ≤ input.to) × (input.to ≤ 4096) }
     ensures from_le_to { (result.from ≤ result.to) × (result.to ≤ 4096) }
     ensures kept { Kept bytes.old input.from input.to bytes.new result.from result.to }
-    ensures read { IsNoneLost (unread bytes.old input.from input.to) (R.remaining reader.old) (unread bytes.new result.from result.to) (R.remaining reader.new) }
+    ensures read { IsNoneLost (unread bytes.old input.from input.to) (R.remaining reader.old)
+        (unread bytes.new result.from result.to) (R.remaining reader.new) }
     ensures whole { result.ended ≡ false → LONGEST ≤ result.to - result.from }
 {
     if input.ended || LONGEST <= input.to - input.from {

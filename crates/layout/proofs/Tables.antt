@@ -162,7 +162,8 @@ get_put_behind S m t i v r j hi h =
     number_apart (width r) (width t) m (place S t i) v (place S r j) (inr (omega (arith, element_within S t i hi, tables_apart S t r h)))
 
 -- what is read goes by the bytes below the size
-pub get_same : (S : Settings) (m n : List ℕ) (t : Table) (i : ℕ) → i < many S t → ((j : ℕ) → j < size S → get_or m j 0 ≡ get_or n j 0) → get S m t i ≡ get S n t i
+pub get_same : (S : Settings) (m n : List ℕ) (t : Table) (i : ℕ) → i < many S t → ((j : ℕ) → j < size S → get_or m j 0 ≡ get_or n j 0)
+    → get S m t i ≡ get S n t i
 unfolding get
 get_same S m n t i h same = number_same (width t) m n (place S t i) (λ j low high. same j (omega (arith, within S t i h)))
 

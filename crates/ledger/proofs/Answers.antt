@@ -5,7 +5,8 @@ use mathlib.Core.List.{List, [], ◌∷◌}
 use Prim.Native.Nat.{ℕ}
 use native.Mathlib.Omega.{arith}
 use lib.ListN.{get_or}
-use Rattle.ledger.specs.Answers.{number_of, kind_of, exit_of, sent_of, plain_reply, stitch_reply, entry_reply, turn_reply, ready_reply, where_reply, report_reply}
+use Rattle.ledger.specs.Answers.{number_of, kind_of, exit_of, sent_of, plain_reply, stitch_reply, entry_reply, turn_reply, ready_reply, where_reply}
+use Rattle.ledger.specs.Answers.{report_reply}
 use Rattle.ledger.specs.Answers.{bucket_reply, show_reply}
 use Rattle.ledger.specs.declared.Refusal.{Refusal}
 use Rattle.ledger.specs.declared.Refusal.TheVariants.{ShortMemory, BadSetting, NoState, NoPort, NoQueue, HeaderSize, Checksum, Source}

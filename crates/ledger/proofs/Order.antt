@@ -233,7 +233,8 @@ module _ {X : Type 0} (call : X → Call → Reply × X) (shows : X → Desk) (l
       let same : (step S L a).0 ≡ r = sym (act_answer call shows long faithful S x L e a) in
       let one : Line (ids_at S L u) (came_by u (movement a r)) (left_by u (movement a r)) (ids_at S N u) =
       subst (λ (t : Reply). Line (ids_at S L u) (came_by u (movement a t)) (left_by u (movement a t)) (ids_at S N u)) same (act_moved S ok L s a u hu) in
-      line_then (ids_at S L u) (ids_at S N u) (ids_at S (run S N (acts_in cs)) u) (came_by u (movement a r)) (came_to u cs (answers_of call (call x (act a)).1 cs))
+      line_then (ids_at S L u) (ids_at S N u) (ids_at S (run S N (acts_in cs)) u) (came_by u (movement a r))
+      (came_to u cs (answers_of call (call x (act a)).1 cs))
       (left_by u (movement a r)) (left_from u cs (answers_of call (call x (act a)).1 cs))
       one
       (in_line u hu (call x (act a)).1 N (act_shows call shows long faithful S x L e a) (keep_step S ok L s a) cs f.1)

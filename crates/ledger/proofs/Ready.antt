@@ -154,7 +154,8 @@ unfolding pick
 pick_is r m n f h = rw (masked, word_zero) (go (ltb (least (above r m) n) n) refl)
   where
     go : (b : Bool) → ltb (least (above r m) n) n ≡ b
-        → cond (not b) (count_trailing_zeros word_bits (word_of r n)) (count_trailing_zeros word_bits (word_of (above r m) n)) ≡ cond b (least (above r m) n) (least r n)
+        → cond (not b) (count_trailing_zeros word_bits (word_of r n)) (count_trailing_zeros word_bits (word_of (above r m) n)) ≡ cond b (least (above r m) n)
+        (least r n)
     go true e = trailing_least (above r m) n word_bits f (ltb_yes (least (above r m) n) n e)
     go false e = trailing_least r n word_bits f h
 

@@ -173,14 +173,16 @@ abbrev pub leaks : ℕ → Desk → Call → Reply × Desk
 leaks n D c = ((desk n D c).0, relisted (cond (is_refused (desk n D c).0) (pop 0) (λ ls. ls)) (desk n D c).1)
 
 pub pool_leaked : (n : ℕ) → PoolKept (leaks n) (λ D. D) two (start two) 0 (has two (start two)) (act (arrive 0 (alone [])) ∷ []) → ⊥
-unfolding oldest_free start row place# pop on_refusal marked_for halts marks width_of form_of front_bits front_bytes body_size header_size lib.Count.count_leading_zeros
+unfolding oldest_free start row place# pop on_refusal marked_for halts marks width_of form_of front_bits front_bytes body_size header_size
+    lib.Count.count_leading_zeros
 pool_leaked n k =
     let e : ◌≡◌ {A = ℕ} 1 0 = ap oldest_free k.shown ∙ ap (λ (xs : List ℕ). get_or xs 0 0) k.is_in_order.stays_behind in
     omega arith
 
 -- and had port 0's refused arrival never been sent, it would have that node: more than its mark differs
 pub more_than_a_mark : (n : ℕ) → OwnMarkAlone (leaks n) (λ D. D) two 0 (has two (start two)) (act (arrive 0 (alone [])) ∷ []) → ⊥
-unfolding oldest_free start row place# pop on_refusal marked_for halts marks width_of form_of front_bits front_bytes body_size header_size lib.Count.count_leading_zeros
+unfolding oldest_free start row place# pop on_refusal marked_for halts marks width_of form_of front_bits front_bytes body_size header_size
+    lib.Count.count_leading_zeros
 more_than_a_mark n k =
     let e : ◌≡◌ {A = ℕ} 1 0 =
     ap oldest_free k.shown
@@ -356,8 +358,10 @@ prefetched_first none = []
 prefetched_first (has S L) = ids_at S L (prefetched 0 0)
 
 pub shown_another : (n : ℕ) → ShownAsArrivedFrom (shows_next n) (λ D. D) keeping (has keeping (start keeping)) → ⊥
-unfolding prefetched_first number bits crc_bit crc_bits crc_byte crc_from crc8 row packet_room width_of form_of front_bits front_bytes spare body_size header_size
-    least_length fields_of price recorded place# cell credit_at set_credit pop push move change start arrived stitch_record lib.Count.count_leading_zeros held_up
+unfolding prefetched_first number bits crc_bit crc_bits crc_byte crc_from crc8 row packet_room width_of form_of front_bits front_bytes spare body_size
+    header_size
+    least_length fields_of price recorded place# cell credit_at set_credit pop push move change start arrived stitch_record lib.Count.count_leading_zeros
+    held_up
 shown_another n f =
     let o =
     f (zeroed keeping) (all_sized keeping) 0 16384 (twelve ++ (0 ∷ 0 ∷ [])) 0 refl (act (stitch 0) ∷ act (prefetch 0 0) ∷ [])

@@ -168,7 +168,8 @@ set_up_wide p q n k = setup (record { ports = p; queues = q; nodes = n; beat = 6
 -- the rows of ports, queues, edition and packets; the map's last id, and the first that it hasn't
 abbrev pub wide_rows : Card
 wide_rows =
-    lent 900000 (set_up_wide 1 2 1 0 ∷ set_up_wide 33 2 1 0 ∷ set_up_wide 2 1 1 0 ∷ set_up_wide 2 65 1 0 ∷ set_up_wide 2 2 1 0 ∷ act (map_to 4095 1) ∷ act (map_to 4096 1)
+    lent 900000 (set_up_wide 1 2 1 0 ∷ set_up_wide 33 2 1 0 ∷ set_up_wide 2 1 1 0 ∷ set_up_wide 2 65 1 0 ∷ set_up_wide 2 2 1 0 ∷ act (map_to 4095 1) ∷ act
+    (map_to 4096 1)
     ∷ set_up_wide 32 64 1 0
     ∷ setup (record { ports = 5; queues = 24; nodes = 1; beat = 64; slots = 2; credit = 0; edition = ten_bytes; packets = 0 })
     ∷ setup (record { ports = 4; queues = 24; nodes = 1; beat = 64; slots = 2; credit = 0; edition = 2; packets = 0 })

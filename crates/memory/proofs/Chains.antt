@@ -301,7 +301,8 @@ module _ (S : Settings) (m : List ℕ) (P : Tidy S m) where
   head_is_node l h k = (rw (nodes_front S m l k) at (members l h)).0
 
   -- the end of a list that is not empty is its tail, which stands there alone
-  pub nodes_end : (l : ℕ) → l < lists S → 0 < get S m Count l → last_d (chain S m (suc (get S m Count l - 1)) (get S m Head l)) (get S m Tail l) ≡ get S m Tail l
+  pub nodes_end : (l : ℕ) → l < lists S → 0 < get S m Count l
+      → last_d (chain S m (suc (get S m Count l - 1)) (get S m Head l)) (get S m Tail l) ≡ get S m Tail l
   nodes_end l h k = rw (nodes_full S m l k) at (P.hangs l h)
 
   pub tail_times : (l : ℕ) → l < lists S → 0 < get S m Count l

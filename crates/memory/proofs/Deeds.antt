@@ -203,7 +203,8 @@ module _ (S : Settings) (p q : ℕ) (k : Packet) where
         before : List ℕ → List Call
         before y = calls_in y (take w.deed ds)
 
-        fewer : n - turns_in p (calls_by m d) - turns_in p (before (left_by m d)) ≡ n - turns_in p (calls_by m d ++ before (after_calls on_memory m (calls_by m d)))
+        fewer : n - turns_in p (calls_by m d) - turns_in p (before (left_by m d)) ≡ n - turns_in p
+            (calls_by m d ++ before (after_calls on_memory m (calls_by m d)))
         fewer =
             omega (arith, turns_append p (calls_by m d) (before (after_calls on_memory m (calls_by m d))), ap (λ (y : List ℕ). turns_in p (before y)) is)
 

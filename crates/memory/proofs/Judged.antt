@@ -35,7 +35,8 @@ judged_clear S L a e = clear_of (rules S L a) e
 pub acted_good : (S : Settings) (m : List ℕ) (a : Act) → judged S (ledger_in S m) a ≡ good → acted S m a ≡ ((result S (ledger_in S m) a).0, write S m a)
 unfolding acted
 acted_good S m a e =
-    cleared (rules S (ledger_in S m) a) (λ n. (refused n, refused_mem S n a m)) ((result S (ledger_in S m) a).0, write S m a) (judged_clear S (ledger_in S m) a e)
+    cleared (rules S (ledger_in S m) a) (λ n. (refused n, refused_mem S n a m)) ((result S (ledger_in S m) a).0, write S m a)
+    (judged_clear S (ledger_in S m) a e)
 
 -- else it is refused, and what that writes is written
 pub acted_refused : (S : Settings) (m : List ℕ) (a : Act) (n : ℕ) → judged S (ledger_in S m) a ≡ bad n → acted S m a ≡ (refused n, refused_mem S n a m)

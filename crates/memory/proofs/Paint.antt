@@ -262,7 +262,9 @@ module _ (S : Settings) (ok : Roomy S) (m : List ℕ) (t : Tidy S m) where
         ∙ get_put S m₃ Dest i k.dest l₃ (slot_in Dest (omega arith)) (omega (arith, good.dest_in, (port_width S ok).least, ok.few_ports))
 
     f₃ : get S m₇ Queue i ≡ k.queue
-    f₃ = s₃ Queue (omega arith) (omega arith) ∙ get_put S m₂ Queue i k.queue l₂ (slot_in Queue (omega arith)) (omega (arith, good.queue_in_range, ok.few_queues))
+    f₃ =
+        s₃ Queue (omega arith) (omega arith)
+        ∙ get_put S m₂ Queue i k.queue l₂ (slot_in Queue (omega arith)) (omega (arith, good.queue_in_range, ok.few_queues))
 
     f₂ : get S m₇ Stamp i ≡ k.stamp
     f₂ =

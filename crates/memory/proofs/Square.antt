@@ -13,7 +13,8 @@ use Rattle.ledger.specs.Settings.{Settings, in_rows, ids, row, size}
 use Rattle.ledger.specs.Rules.{Rule, refuse, guard, Clear}
 use Rattle.ledger.specs.Header.{form, fields_of, price, Load, bytes_in}
 use Rattle.ledger.specs.Ledger.{owner, is_node, Packet, bare, recorded, Place, free, ingress, egress, prefetched, place#, column, port_of, Ledger}
-use Rattle.ledger.specs.Ledger.{list_at, arrival_of, outward_of, last_of, map_of, mark_of, push, move, put_credit, put_in, start, arrival, outward, last, mapped}
+use Rattle.ledger.specs.Ledger.{list_at, arrival_of, outward_of, last_of, map_of, mark_of, push, move, put_credit, put_in, start, arrival, outward, last}
+use Rattle.ledger.specs.Ledger.{mapped}
 use Rattle.ledger.specs.Ledger.{halted, buckets, bucket_at, tall, change}
 use Rattle.ledger.specs.Halt.{halts, marks}
 use Rattle.ledger.specs.Ready.{ready_word, pick}
@@ -480,7 +481,8 @@ pub square : (c : Call) (m : List ℕ) → pictured (M c m) ≡ desk (length m) 
 unfolding M
 square (setup T) m =
     guard_map pictured (setup_rules (length m) T) (λ r. (refused r, m)) (done, setup_mem T m)
-    ∙ guard_same (setup_rules (length m) T) (λ r. pictured (refused r, m)) (λ r. (refused r, picture m)) (pictured (done, setup_mem T m)) (done, has T (start T))
+    ∙ guard_same (setup_rules (length m) T) (λ r. pictured (refused r, m)) (λ r. (refused r, picture m)) (pictured (done, setup_mem T m))
+    (done, has T (start T))
     (λ r. refl)
     (λ c. ap (λ (E : Desk). (done, E)) (setup_picture T (not_yes (in_rows T) c.0) m))
 square (act a) m = go (state_dec m)

@@ -17,7 +17,8 @@ use Rattle.ledger.specs.Desk.{Desk, none, has, Call, act, after_calls, answers_o
 use Rattle.ledger.specs.Sound.{All}
 use Rattle.ledger.specs.Repair.{mended}
 use Rattle.ledger.specs.Audit.{node_at, place_room, audit_rules}
-use Rattle.ledger.specs.Rounds.{each, stitches, prefetches, turns, round_acts, round_rules, round_reply, answers_in, round, Carried, nothing, whole_round, done_by}
+use Rattle.ledger.specs.Rounds.{each, stitches, prefetches, turns, round_acts, round_rules, round_reply, answers_in, round, Carried, nothing, whole_round}
+use Rattle.ledger.specs.Rounds.{done_by}
 use Rattle.ledger.specs.Rounds.{turn_answers, runs}
 use Rattle.ledger.specs.Header.{form, header_size}
 use Rattle.ledger.specs.Tally.{AgreeBut, both_none, both_have, is_reading, is_reading_call, AlikeBut}
@@ -109,7 +110,8 @@ rounds_unread m n same o room =
     let w = waits_unread_in_memory m n same o cs in
     let told = same_answers m n cs w.answers (unreading (picture m) k) in
     subst (λ (out : Reply × List ℕ × List ℕ). Same out (round_on n room)) (sym (round_is_calls m room))
-    (subst (Same (round_reply (picture m) k, after_calls on_memory m cs, answers_in (turn_answers cs (answers_of on_memory m cs)) room)) (sym (round_is_calls n room))
+    (subst (Same (round_reply (picture m) k, after_calls on_memory m cs, answers_in (turn_answers cs (answers_of on_memory m cs)) room))
+    (sym (round_is_calls n room))
     (subst
     (λ (es : List Call).
     (round_reply (picture m) k ≡ round_reply (picture n) k)
@@ -252,4 +254,5 @@ repairs_unread m i v hi = rw (same, length_put S Buckets i v m, mended_alike) (t
     mended_alike : repair_mem S n ≡ repair_mem S m
     mended_alike =
         rw (drop_put S Buckets i v m hi)
-        (fill_ext S Mapped (λ d. d) (λ d. mended S (get S n Mapped d)) (λ d. mended S (get S m Mapped d)) ids (setup_mem S m) (λ d h. ap (mended S) (entry d h)))
+        (fill_ext S Mapped (λ d. d) (λ d. mended S (get S n Mapped d)) (λ d. mended S (get S m Mapped d)) ids (setup_mem S m)
+        (λ d h. ap (mended S) (entry d h)))

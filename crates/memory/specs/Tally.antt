@@ -41,7 +41,8 @@ WaitsUnreadInMemory =
 unfoldable pub RoundsUnread : Type 0
 RoundsUnread =
     (m n : List ℕ) → length m ≡ length n → AgreeBut (picture m) (picture n) → (room : List ℕ)
-    → ((round_on m room).0 ≡ (round_on n room).0) × ((round_on m room).2 ≡ (round_on n room).2) × AgreeBut (picture (round_on m room).1) (picture (round_on n room).1)
+    → ((round_on m room).0 ≡ (round_on n room).0) × ((round_on m room).2 ≡ (round_on n room).2) × AgreeBut (picture (round_on m room).1)
+    (picture (round_on n room).1)
 
 -- nor does a run: its report and its room are one
 unfoldable pub RunsUnread : Type 0

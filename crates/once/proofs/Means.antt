@@ -74,7 +74,8 @@ module _ (S : Settings) where
       ms' : List ℕ
       ms' = set ms (slot S x) 1
 
-      go : Dec (x ≡ y) → (b : Bool) → is_node S y ≡ b → (seen ms' y ≡ seen ms y + bit (eqb x y)) × (seen ms y ≤ bit (is_node S y) → seen ms' y ≤ bit (is_node S y))
+      go : Dec (x ≡ y) → (b : Bool) → is_node S y ≡ b
+          → (seen ms' y ≡ seen ms y + bit (eqb x y)) × (seen ms y ≤ bit (is_node S y) → seen ms' y ≤ bit (is_node S y))
       go (yes p) b e =
           let node : is_node S y ≡ true = rw p at n.node in
           let same : slot S y ≡ slot S x = ap (slot S) (sym p) in

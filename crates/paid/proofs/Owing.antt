@@ -62,7 +62,8 @@ module _ (S : Settings) (m : List ℕ) (p q : ℕ) (hp : p < S.ports) (some : 0 
       home = (node_from S x c.node).home
 
       go : Dec (owner x ≡ p) → Dec (get S m Queue (slot S x) ≡ q)
-          → credit_at S (add_node S m sums x) p q ≡ credit_at S sums p q + cond (eqb (owner x) p && eqb (get S m Queue (slot S x)) q) (get S m Price (slot S x)) 0
+          → credit_at S (add_node S m sums x) p q ≡ credit_at S sums p q + cond (eqb (owner x) p && eqb (get S m Queue (slot S x)) q)
+          (get S m Price (slot S x)) 0
       go (yes a) (yes b) =
           credit_at_lem S sums (owner x) (get S m Queue (slot S x)) _ e home c.queue_in_range p q a b some
           ∙ rw (eqb_is (owner x) p a, eqb_is (get S m Queue (slot S x)) q b, a, b)
@@ -138,7 +139,8 @@ AllPaid S m = (p q : ℕ) → p < S.ports → 0 < q → q < S.queues → Paid S 
 module _ (S : Settings) (m : List ℕ) (R : Roomy S) (P : Payable S m) where
   -- what is said of port p and queue r + 1 is what is tested at its cell
   at_cell : (p r : ℕ) → p < S.ports → suc r < S.queues
-      → arrival_of S (ledger_in S m) p (suc r) + weigh (owed S p (suc r)) (ledger_in S m).lists ≡ get S m Arrival (cell S p r) + get_or (sums_of S m) (cell S p r) 0
+      → arrival_of S (ledger_in S m) p (suc r) + weigh (owed S p (suc r)) (ledger_in S m).lists ≡ get S m Arrival (cell S p r) + get_or (sums_of S m)
+      (cell S p r) 0
   unfolding credit_at ledger_in
   at_cell p r hp hr =
       omega (arith, get_d_table (get S m Arrival) (cells S) (cell S p r) 0 (cell_lt S p r hp hr), sums_owe S m p (suc r) hp (omega arith) hr P)

@@ -43,4 +43,5 @@ pub returns-in-Good : goal.returns-in-Good
 returns-in-Good c =
     let a = c.args in
     c.admit.ensures
-    ∙ laws.good_header (settings_of a.s) a.m.now a.port (load_of a.load a.h.now) c.if-ports-p.false (header_of c.in-Good.f) (passed (goal.at.returns-in-Good c).In-Good)
+    ∙ laws.good_header (settings_of a.s) a.m.now a.port (load_of a.load a.h.now) c.if-ports-p.false (header_of c.in-Good.f)
+    (passed (goal.at.returns-in-Good c).In-Good)

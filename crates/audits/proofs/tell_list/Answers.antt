@@ -47,7 +47,8 @@ tell-x-requires c =
 pub loop-i-preserved : goal.loop-i-preserved
 loop-i-preserved c =
     let out = c.tell-x.ensures in
-    rw out.after (tell_goes _ _ _ _ c.loop-i.invariant (inside (goal.at.loop-i-preserved c).In-loop-i) _ c.room-1.given (rw (← c.kind_of-kind.ensures) out.told))
+    rw out.after (tell_goes _ _ _ _ c.loop-i.invariant (inside (goal.at.loop-i-preserved c).In-loop-i) _ c.room-1.given
+    (rw (← c.kind_of-kind.ensures) out.told))
 
 pub shape_of-room : goal.shape_of-room
 shape_of-room c = c.loop-i.invariant.same_length

@@ -49,8 +49,11 @@ credit_fits c = (fit c).1.1.1.1.1.1.1.0
 
 pub join-credit-requires : goal.join-credit-requires
 join-credit-requires c =
-    let s = shape (goal.at.join-credit-requires c).Start in
-    (omega arith, join_word (offer_bits (goal.at.join-credit-requires c).Start) (zeros (goal.at.join-credit-requires c).Start) c.args.v.credit 0 (credit_fits (goal.at.join-credit-requires c).Start) (pow_pos (zeros (goal.at.join-credit-requires c).Start)) (omega arith))
+    let s = shape (goal.at.join-credit-requires c).Start in (
+      omega arith,
+      join_word (offer_bits (goal.at.join-credit-requires c).Start) (zeros (goal.at.join-credit-requires c).Start) c.args.v.credit 0
+          (credit_fits (goal.at.join-credit-requires c).Start) (pow_pos (zeros (goal.at.join-credit-requires c).Start)) (omega arith),
+    )
 
 pub overflow_cast-credit : goal.overflow_cast-credit
 overflow_cast-credit c =
@@ -58,7 +61,8 @@ overflow_cast-credit c =
     let bits : offer_bits (goal.at.overflow_cast-credit c).Start + zeros (goal.at.overflow_cast-credit c).Start ≡ 16 = omega arith in
     omega (
       arith,
-      joined_lt (offer_bits (goal.at.overflow_cast-credit c).Start) (zeros (goal.at.overflow_cast-credit c).Start) c.args.v.credit 0 c.join-credit.result c.join-credit.ensures
+      joined_lt (offer_bits (goal.at.overflow_cast-credit c).Start) (zeros (goal.at.overflow_cast-credit c).Start) c.args.v.credit 0 c.join-credit.result
+          c.join-credit.ensures
           (credit_fits (goal.at.overflow_cast-credit c).Start) (pow_pos (zeros (goal.at.overflow_cast-credit c).Start)),
       ap (λ (n : ℕ). 2 ^ n) bits,
     )

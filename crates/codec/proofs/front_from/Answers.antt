@@ -28,19 +28,22 @@ narrow_ports c =
     joined_lt a.form.port a.form.port a.v.destination a.v.source c.join-ports.result c.join-ports.ensures
     (fit (goal.at.After-join-ports c).Start).0 (fit (goal.at.After-join-ports c).Start).1.0
 
-narrow_queue : (c : After-join-queue) → c.join-queue.result < 2 ^ (port (goal.at.After-join-queue c).Start + port (goal.at.After-join-queue c).Start + c.args.form.queue)
+narrow_queue : (c : After-join-queue)
+    → c.join-queue.result < 2 ^ (port (goal.at.After-join-queue c).Start + port (goal.at.After-join-queue c).Start + c.args.form.queue)
 narrow_queue c =
     let a = c.args in
     joined_lt (a.form.port + a.form.port) a.form.queue c.join-ports.result a.v.queue
     c.join-queue.result c.join-queue.ensures (narrow_ports (goal.at.After-join-queue c).After-join-ports) (fit (goal.at.After-join-queue c).Start).1.1.0
 
-narrow_length : (c : After-join-length) → c.join-length.result < 2 ^ (port (goal.at.After-join-length c).Start + port (goal.at.After-join-length c).Start + c.args.form.queue + 13)
+narrow_length : (c : After-join-length)
+    → c.join-length.result < 2 ^ (port (goal.at.After-join-length c).Start + port (goal.at.After-join-length c).Start + c.args.form.queue + 13)
 narrow_length c =
     let a = c.args in
     joined_lt (a.form.port + a.form.port + a.form.queue) 13 c.join-queue.result a.v.length
     c.join-length.result c.join-length.ensures (narrow_queue (goal.at.After-join-length c).After-join-queue) (fit (goal.at.After-join-length c).Start).1.1.1.0
 
-narrow_flag : (c : After-join-flag) → c.join-flag.result < 2 ^ (port (goal.at.After-join-flag c).Start + port (goal.at.After-join-flag c).Start + c.args.form.queue + 13 + 1)
+narrow_flag : (c : After-join-flag)
+    → c.join-flag.result < 2 ^ (port (goal.at.After-join-flag c).Start + port (goal.at.After-join-flag c).Start + c.args.form.queue + 13 + 1)
 narrow_flag c =
     let a = c.args in
     joined_lt (a.form.port + a.form.port + a.form.queue + 13) 1 c.join-length.result a.v.poisoned

@@ -31,11 +31,13 @@ pub returns-in-Good : goal.returns-in-Good
 returns-in-Good c =
     let a = c.args in
     ap gives c.label_of.ensures
-    ∙ reads_good a.edition a.ports a.queues a.h.now (counted (goal.at.returns-in-Good c).Else-not-counts_in) (form_in c.form_of-form.result) c.form_of-form.ensures.form_is
+    ∙ reads_good a.edition a.ports a.queues a.h.now (counted (goal.at.returns-in-Good c).Else-not-counts_in) (form_in c.form_of-form.result)
+    c.form_of-form.ensures.form_is
     (header_of c.in-Good.f) (sym (ap verdict_of c.in-Good.is) ∙ c.judge_read.ensures)
 
 pub returns-in-No : goal.returns-in-No
 returns-in-No c =
     let a = c.args in
-    reads_bad a.edition a.ports a.queues a.h.now (counted (goal.at.returns-in-No c).Else-not-counts_in) (form_in c.form_of-form.result) c.form_of-form.ensures.form_is
+    reads_bad a.edition a.ports a.queues a.h.now (counted (goal.at.returns-in-No c).Else-not-counts_in) (form_in c.form_of-form.result)
+    c.form_of-form.ensures.form_is
     (number_of c.in-No.r) (sym (ap verdict_of c.in-No.is) ∙ c.judge_read.ensures)

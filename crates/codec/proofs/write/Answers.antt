@@ -57,7 +57,8 @@ returns c =
     let F = form_in c.form_of-form.result in
     let w : Written = record { answer = Done; size = c.form_of-form.result.size; bytes = c.seal.result } in
     subst (λ (x : Answer (List ℕ)). Answers w x)
-    (written a.edition a.ports a.queues (label_in a.label) (counted (goal.at.returns c).Else-not-counts_in) F c.form_of-form.ensures.form_is (can (goal.at.returns c).Else-not-can_say))
+    (written a.edition a.ports a.queues (label_in a.label) (counted (goal.at.returns c).Else-not-counts_in) F c.form_of-form.ensures.form_is
+    (can (goal.at.returns c).Else-not-can_say))
     (record {
       answer = refl;
       size = c.form_of-form.ensures.formed.size_is ∙ sym (length_header F (label_in a.label));

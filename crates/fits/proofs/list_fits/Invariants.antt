@@ -7,7 +7,8 @@ use Rattle.fits.proofs.list_fits.Given as goal
 
 abbrev pub invariant-loop-left : goal.invariant-loop-left
 invariant-loop-left l =
-    Left (λ y. rule_test l.rule (settings_of l.s) l.port l.column (packet_at (settings_of l.s) l.m y)) (settings_of l.s) l.m (list_found l.rule (settings_of l.s) l.m l.l) l.left l.x
+    Left (λ y. rule_test l.rule (settings_of l.s) l.port l.column (packet_at (settings_of l.s) l.m y)) (settings_of l.s) l.m
+    (list_found l.rule (settings_of l.s) l.m l.l) l.left l.x
 
 abbrev pub decreases-loop-left : goal.decreases-loop-left
 decreases-loop-left l = l.left

@@ -23,13 +23,16 @@ found c = sym (ap verdict_of c.in-Good.is) ∙ c.open.ensures
 pub returns-then-source-port : goal.returns-then-source-port
 returns-then-source-port c =
     let a = c.args in
-    of_source (form_in a.form) a.queues a.port (load (goal.at.returns-then-source-port c).Start) (header_of c.in-Good.f) (found (goal.at.returns-then-source-port c).In-Good) c.if-source-port.true
+    of_source (form_in a.form) a.queues a.port (load (goal.at.returns-then-source-port c).Start) (header_of c.in-Good.f)
+    (found (goal.at.returns-then-source-port c).In-Good) c.if-source-port.true
 
 counted : (c : After-miscounted) → c.miscounted.result ≡ miscounted (form_in c.args.form) (load (goal.at.After-miscounted c).Start)
 counted c =
     let a = c.args in
     let F = form_in a.form in
-    let is = (first_good (byte_rules F (load (goal.at.After-miscounted c).Start)) (fields_of F (bytes_in (load (goal.at.After-miscounted c).Start))) (header_of c.in-Good.f) (found (goal.at.After-miscounted c).In-Good)).0 in
+    let is =
+    (first_good (byte_rules F (load (goal.at.After-miscounted c).Start)) (fields_of F (bytes_in (load (goal.at.After-miscounted c).Start)))
+    (header_of c.in-Good.f) (found (goal.at.After-miscounted c).In-Good)).0 in
     c.miscounted.ensures
     ∙ ap (other a.load (length a.h.now)) (ap (λ (g : Fields). g.len) is ∙ ap (λ (b : List ℕ). (fields_of F b).len) (bytes_are a.load a.h.now))
     ∙ sym (other_is F a.load a.h.now)
@@ -38,7 +41,8 @@ pub returns-else-source-port : goal.returns-else-source-port
 returns-else-source-port c =
     let a = c.args in
     c.settle.ensures
-    ∙ of_settled (form_in a.form) a.queues a.port (load (goal.at.returns-else-source-port c).Start) (header_of c.in-Good.f) (found (goal.at.returns-else-source-port c).In-Good) c.miscounted.result
+    ∙ of_settled (form_in a.form) a.queues a.port (load (goal.at.returns-else-source-port c).Start) (header_of c.in-Good.f)
+    (found (goal.at.returns-else-source-port c).In-Good) c.miscounted.result
     (counted (goal.at.returns-else-source-port c).After-miscounted) c.if-source-port.false
 
 pub returns-in-No : goal.returns-in-No

@@ -36,7 +36,8 @@ returns-then-miscounted c =
 pub returns-then-queues-queue : goal.returns-then-queues-queue
 returns-then-queues-queue c =
     let a = c.args in
-    of_queue (form_in a.form) a.queues a.miscounted (header_of a.f) (long (goal.at.returns-then-queues-queue c).Else-short) c.if-miscounted.false c.if-queues-queue.true
+    of_queue (form_in a.form) a.queues a.miscounted (header_of a.f) (long (goal.at.returns-then-queues-queue c).Else-short) c.if-miscounted.false
+    c.if-queues-queue.true
 
 pub returns : goal.returns
 returns c =

@@ -58,10 +58,12 @@ pub returns-then-slots-used : goal.returns-then-slots-used
 returns-then-slots-used c =
     let a = c.args in
     laws.slots_in_use (settings_of a.s) a.m.now a.port a.queue c.if-ports-p.false c.if-queues-q.false
-    (λ z. c.if-waiting-eq0.false (waiting_is (goal.at.returns-then-slots-used c).After-count-waiting ∙ z)) (rw (used_is (goal.at.returns-then-slots-used c).After-count-used) at c.if-slots-used.true)
+    (λ z. c.if-waiting-eq0.false (waiting_is (goal.at.returns-then-slots-used c).After-count-waiting ∙ z))
+    (rw (used_is (goal.at.returns-then-slots-used c).After-count-used) at c.if-slots-used.true)
 
 pub returns : goal.returns
 returns c =
     let a = c.args in
     laws.goes (settings_of a.s) a.m.now a.port a.queue c.if-ports-p.false c.if-queues-q.false
-    (λ z. c.if-waiting-eq0.false (waiting_is (goal.at.returns c).After-count-waiting ∙ z)) (rw (used_is (goal.at.returns c).After-count-used) at c.if-slots-used.false)
+    (λ z. c.if-waiting-eq0.false (waiting_is (goal.at.returns c).After-count-waiting ∙ z))
+    (rw (used_is (goal.at.returns c).After-count-used) at c.if-slots-used.false)

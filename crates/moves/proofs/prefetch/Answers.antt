@@ -26,7 +26,12 @@ pub egress_list-from-requires : goal.egress_list-from-requires
 egress_list-from-requires c = record { laid = c.requires.laid; port = (went c).port; queue = (went c).queue }
 
 pub prefetch_list-to-requires : goal.prefetch_list-to-requires
-prefetch_list-to-requires c = record { laid = c.requires.laid; port = (went (goal.at.prefetch_list-to-requires c).In-Go).port; queue = (went (goal.at.prefetch_list-to-requires c).In-Go).queue }
+prefetch_list-to-requires c =
+    record {
+      laid = c.requires.laid;
+      port = (went (goal.at.prefetch_list-to-requires c).In-Go).port;
+      queue = (went (goal.at.prefetch_list-to-requires c).In-Go).queue;
+    }
 
 -- the oldest egress node can go to the prefetch list
 can : (c : In-Go) → let a = c.args in

@@ -40,7 +40,9 @@ went : (c : In-Go) → good ≡ judged (S (goal.at.In-Go c).Start) (ledger_in (S
 went c = sym (ap judgement_of c.in-Go.is) ∙ c.judge_stitch-verdict.ensures
 
 -- so what is first in the list is a packet that can be stitched
-first_goes : (c : In-Go) → Stitches (S (goal.at.In-Go c).Start) (m (goal.at.In-Go c).Start) c.args.port (packet (goal.at.In-Go c).Start) (map_of (ledger_in (S (goal.at.In-Go c).Start) (m (goal.at.In-Go c).Start)) (packet (goal.at.In-Go c).Start).dest)
+first_goes : (c : In-Go)
+    → Stitches (S (goal.at.In-Go c).Start) (m (goal.at.In-Go c).Start) c.args.port (packet (goal.at.In-Go c).Start)
+    (map_of (ledger_in (S (goal.at.In-Go c).Start) (m (goal.at.In-Go c).Start)) (packet (goal.at.In-Go c).Start).dest)
 first_goes c = stitched_on (S (goal.at.In-Go c).Start) (m (goal.at.In-Go c).Start) c.requires.state c.args.port (went c) _ refl _ refl
 
 pub ingress_list-from-requires : goal.ingress_list-from-requires
@@ -48,7 +50,8 @@ ingress_list-from-requires c = record { laid = c.requires.laid; port = (first_go
 
 from_in : (c : After-ingress_list-from) → c.ingress_list-from.result < lists (S (goal.at.After-ingress_list-from c).Start)
 from_in c =
-    rw c.ingress_list-from.ensures (ingress_in (S (goal.at.After-ingress_list-from c).Start) (m (goal.at.After-ingress_list-from c).Start) c.args.port c.requires.laid.roomy (first_goes (goal.at.After-ingress_list-from c).In-Go).port)
+    rw c.ingress_list-from.ensures (ingress_in (S (goal.at.After-ingress_list-from c).Start) (m (goal.at.After-ingress_list-from c).Start) c.args.port
+    c.requires.laid.roomy (first_goes (goal.at.After-ingress_list-from c).In-Go).port)
 
 pub first-requires : goal.first-requires
 first-requires c =
@@ -63,26 +66,40 @@ packet-k-requires c =
     record { laid = c.requires.laid; long = c.requires.state.long; node = rw (node_is c) (first_goes (goal.at.packet-k-requires c).In-Go).node }
 
 packet_is : (c : After-packet-k) → sent_of c.packet-k.result ≡ packet (goal.at.After-packet-k c).Start
-packet_is c = c.packet-k.ensures ∙ ap (packet_at (S (goal.at.After-packet-k c).Start) (m (goal.at.After-packet-k c).Start)) (node_is (goal.at.After-packet-k c).After-first)
+packet_is c =
+    c.packet-k.ensures ∙ ap (packet_at (S (goal.at.After-packet-k c).Start) (m (goal.at.After-packet-k c).Start))
+    (node_is (goal.at.After-packet-k c).After-first)
 
 dest_is : (c : After-packet-k) → c.packet-k.result.destination ≡ (packet (goal.at.After-packet-k c).Start).dest
 dest_is c = ap (λ (k : Packet). k.dest) (packet_is c)
 
 pub mapped-to-requires : goal.mapped-to-requires
 mapped-to-requires c =
-    record { laid = c.requires.laid; long = c.requires.state.long; id = rw (dest_is (goal.at.mapped-to-requires c).After-packet-k) (first_goes (goal.at.mapped-to-requires c).In-Go).dest_in }
+    record {
+      laid = c.requires.laid;
+      long = c.requires.state.long;
+      id = rw (dest_is (goal.at.mapped-to-requires c).After-packet-k) (first_goes (goal.at.mapped-to-requires c).In-Go).dest_in;
+    }
 
 -- all of it together, of the packet and the port as the code holds them
-goes : (c : After-mapped-to) → Stitches (S (goal.at.After-mapped-to c).Start) (m (goal.at.After-mapped-to c).Start) c.args.port (sent_of c.packet-k.result) c.mapped-to.result
+goes : (c : After-mapped-to)
+    → Stitches (S (goal.at.After-mapped-to c).Start) (m (goal.at.After-mapped-to c).Start) c.args.port (sent_of c.packet-k.result) c.mapped-to.result
 goes c =
-    stitched_on (S (goal.at.After-mapped-to c).Start) (m (goal.at.After-mapped-to c).Start) c.requires.state c.args.port (went (goal.at.After-mapped-to c).In-Go) _ (packet_is (goal.at.After-mapped-to c).After-packet-k) _ c.mapped-to.ensures
+    stitched_on (S (goal.at.After-mapped-to c).Start) (m (goal.at.After-mapped-to c).Start) c.requires.state c.args.port
+    (went (goal.at.After-mapped-to c).In-Go) _ (packet_is (goal.at.After-mapped-to c).After-packet-k) _ c.mapped-to.ensures
 
 pub egress_list-at-requires : goal.egress_list-at-requires
 egress_list-at-requires c =
-    record { laid = c.requires.laid; port = (goes (goal.at.egress_list-at-requires c).After-mapped-to).to_in; queue = (goes (goal.at.egress_list-at-requires c).After-mapped-to).queue_in_range }
+    record {
+      laid = c.requires.laid;
+      port = (goes (goal.at.egress_list-at-requires c).After-mapped-to).to_in;
+      queue = (goes (goal.at.egress_list-at-requires c).After-mapped-to).queue_in_range;
+    }
 
 -- the oldest ingress node can go to the egress list
-can : (c : After-mapped-to) → CanShift c.args.s (place# (S (goal.at.After-mapped-to c).Start) (ingress c.args.port)) (place# (S (goal.at.After-mapped-to c).Start) (egress c.mapped-to.result c.packet-k.result.queue)) (m (goal.at.After-mapped-to c).Start)
+can : (c : After-mapped-to)
+    → CanShift c.args.s (place# (S (goal.at.After-mapped-to c).Start) (ingress c.args.port))
+    (place# (S (goal.at.After-mapped-to c).Start) (egress c.mapped-to.result c.packet-k.result.queue)) (m (goal.at.After-mapped-to c).Start)
 can c =
     let g = goes c in
     record {
@@ -104,7 +121,9 @@ push-requires c =
 
 pub returns-in-No : goal.returns-in-No
 returns-in-No c =
-    let e = acted_bad (S (goal.at.returns-in-No c).Start) (m (goal.at.returns-in-No c).Start) (stitch c.args.port) refl _ (sym c.judge_stitch-verdict.ensures ∙ ap judgement_of c.in-No.is) in
+    let e =
+    acted_bad (S (goal.at.returns-in-No c).Start) (m (goal.at.returns-in-No c).Start) (stitch c.args.port) refl _
+    (sym c.judge_stitch-verdict.ensures ∙ ap judgement_of c.in-No.is) in
     record { acted = sym e; told = sym (ap (λ (out : Reply × List ℕ). record_in out.0) e) }
 
 pub returns-in-Go : goal.returns-in-Go

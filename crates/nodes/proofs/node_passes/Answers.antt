@@ -49,7 +49,8 @@ returns-then-not-fresh c = record {
 pub returns-then-not-port_fits : goal.returns-then-not-port_fits
 returns-then-not-port_fits c =
     record {
-      answer = rw (new_here (goal.at.returns-then-not-port_fits c).Else-not-fresh) (other_port _ _ _ _ _ (sym c.port_fits.ensures ∙ not-true _ c.if-not-port_fits.true-raw));
+      answer = rw (new_here (goal.at.returns-then-not-port_fits c).Else-not-fresh)
+          (other_port _ _ _ _ _ (sym c.port_fits.ensures ∙ not-true _ c.if-not-port_fits.true-raw));
       marks = λ e. absurd (false≢true e);
       added = λ e. absurd (false≢true e);
     }
@@ -58,7 +59,8 @@ pub returns-then-column-eq0 : goal.returns-then-column-eq0
 unfolding add_here
 returns-then-column-eq0 c =
     record {
-      answer = rw (new_here (goal.at.returns-then-column-eq0 c).Else-not-fresh) (sym (ported (goal.at.returns-then-column-eq0 c).Else-not-port_fits) ∙ free_fits _ _ _ _ _ c.if-column-eq0.true);
+      answer = rw (new_here (goal.at.returns-then-column-eq0 c).Else-not-fresh)
+          (sym (ported (goal.at.returns-then-column-eq0 c).Else-not-port_fits) ∙ free_fits _ _ _ _ _ c.if-column-eq0.true);
       marks = λ e. (met (goal.at.returns-then-column-eq0 c).After-slice_known-3-1).1 c.if-not-fresh.false;
       added = λ e. rw c.if-column-eq0.true;
     }
@@ -67,7 +69,8 @@ pub returns : goal.returns
 unfolding add_here
 returns c =
     record {
-      answer = rw (new_here (goal.at.returns c).Else-not-fresh) (c.packet_passes.ensures.answer ∙ packet_fits_lem _ _ _ _ _ c.if-column-eq0.false (ported (goal.at.returns c).Else-not-port_fits));
+      answer = rw (new_here (goal.at.returns c).Else-not-fresh)
+          (c.packet_passes.ensures.answer ∙ packet_fits_lem _ _ _ _ _ c.if-column-eq0.false (ported (goal.at.returns c).Else-not-port_fits));
       marks = λ e. (met (goal.at.returns c).After-slice_known-3-1).1 c.if-not-fresh.false;
       added = λ e. rw (ne_eqb _ 0 c.if-column-eq0.false) (c.packet_passes.ensures.added e);
     }

@@ -45,15 +45,28 @@ pub returns-then-not-note_proper : goal.returns-then-not-note_proper
 returns-then-not-note_proper c =
     let queue = sym c.queue_fits.ensures ∙ not-false _ c.if-not-queue_fits.false-raw in
     let proper = sym c.note_proper.ensures ∙ not-true _ c.if-not-note_proper.true-raw in
-    record { answer = note_fits _ _ _ _ (read (goal.at.returns-then-not-note_proper c).After-noted-n) true false queue proper; added = λ e. absurd (false≢true e) }
+    record {
+      answer = note_fits _ _ _ _ (read (goal.at.returns-then-not-note_proper c).After-noted-n) true false queue proper;
+      added = λ e. absurd (false≢true e);
+    }
 
 pub add_price-requires : goal.add_price-requires
 add_price-requires c =
     record {
       laid = c.requires.laid;
       home = (node_from _ c.args.x.0 c.requires.node).home;
-      inside = omega (arith, (read (goal.at.add_price-requires c).After-noted-n).queue_is, fits_queue _ _ _ _ (fitted (goal.at.add_price-requires c).Else-not-note_proper));
-      cheap = omega (arith, (read (goal.at.add_price-requires c).After-noted-n).price_is, get_lt (settings_of c.args.s) c.args.m.now Price (slot (settings_of c.args.s) c.args.x.0));
+      inside = omega (
+        arith,
+        (read (goal.at.add_price-requires c).After-noted-n).queue_is,
+        fits_queue _ _ _ _
+            (fitted (goal.at.add_price-requires c).Else-not-note_proper),
+      );
+      cheap = omega (
+        arith,
+        (read (goal.at.add_price-requires c).After-noted-n).price_is,
+        get_lt (settings_of c.args.s) c.args.m.now Price
+            (slot (settings_of c.args.s) c.args.x.0),
+      );
       held = c.requires.held;
     }
 
@@ -64,5 +77,6 @@ returns c =
     record {
       answer = sym (fitted (goal.at.returns c).Else-not-note_proper);
       added = λ e.
-          c.add_price.ensures ∙ ap₂ (add_price (settings_of a.s) a.sums.now a.x.0) (read (goal.at.returns c).After-noted-n).queue_is (read (goal.at.returns c).After-noted-n).price_is;
+          c.add_price.ensures ∙ ap₂ (add_price (settings_of a.s) a.sums.now a.x.0) (read (goal.at.returns c).After-noted-n).queue_is
+          (read (goal.at.returns c).After-noted-n).price_is;
     }

@@ -48,7 +48,8 @@ returns-then-mark_at-eq0 c =
     let a = c.args in
     let in_all = c.loop-i-test.true in
     let ms = marks_of a.marks.now a.s.all in
-    sym (are (goal.at.returns-then-mark_at-eq0 c).Start ∙ c.loop-i.invariant.1 ∙ mark_clear a.s.lists ms c.loop-i.i (rw length_tabulate in_all) (read (goal.at.returns-then-mark_at-eq0 c).After-mark_at ∙ c.if-mark_at-eq0.true))
+    sym (are (goal.at.returns-then-mark_at-eq0 c).Start ∙ c.loop-i.invariant.1
+    ∙ mark_clear a.s.lists ms c.loop-i.i (rw length_tabulate in_all) (read (goal.at.returns-then-mark_at-eq0 c).After-mark_at ∙ c.if-mark_at-eq0.true))
 
 pub loop-i-preserved : goal.loop-i-preserved
 loop-i-preserved c =
@@ -56,7 +57,8 @@ loop-i-preserved c =
     let in_all = c.loop-i-test.true in
     let ms = marks_of a.marks.now a.s.all in (
       omega arith,
-      c.loop-i.invariant.1 ∙ mark_set a.s.lists ms c.loop-i.i (rw length_tabulate in_all) (λ e. c.if-mark_at-eq0.false (sym (read (goal.at.loop-i-preserved c).After-mark_at) ∙ e)),
+      c.loop-i.invariant.1 ∙ mark_set a.s.lists ms c.loop-i.i (rw length_tabulate in_all)
+          (λ e. c.if-mark_at-eq0.false (sym (read (goal.at.loop-i-preserved c).After-mark_at) ∙ e)),
     )
 
 pub returns : goal.returns

@@ -8,7 +8,8 @@ use Rattle.once.specs.Once.{unmarked}
 use Rattle.once.proofs.first_unmarked.Given as goal
 
 abbrev pub invariant-loop-i : goal.invariant-loop-i
-invariant-loop-i l = (l.i ≤ l.all) × (unmarked l.lists (tabulate (mark_at l.marks) 0 l.all) ≡ unmarked (l.lists + l.i) (drop l.i (tabulate (mark_at l.marks) 0 l.all)))
+invariant-loop-i l =
+    (l.i ≤ l.all) × (unmarked l.lists (tabulate (mark_at l.marks) 0 l.all) ≡ unmarked (l.lists + l.i) (drop l.i (tabulate (mark_at l.marks) 0 l.all)))
 
 abbrev pub decreases-loop-i : goal.decreases-loop-i
 decreases-loop-i l = l.all - l.i

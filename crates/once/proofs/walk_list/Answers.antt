@@ -42,7 +42,12 @@ returns-then-not-meet c =
 
 pub get2-x-requires-in-loop-left : goal.get2-x-requires-in-loop-left
 get2-x-requires-in-loop-left c =
-    record { laid = search rules; long = search rules; wide = refl; inside = rw c.slot_of.ensures (slot_lt _ _ (new _ _ _ (new_here (goal.at.get2-x-requires-in-loop-left c).Else-not-meet)).node) }
+    record {
+      laid = search rules;
+      long = search rules;
+      wide = refl;
+      inside = rw c.slot_of.ensures (slot_lt _ _ (new _ _ _ (new_here (goal.at.get2-x-requires-in-loop-left c).Else-not-meet)).node);
+    }
 
 pub loop-left-preserved : goal.loop-left-preserved
 loop-left-preserved c = (

@@ -41,7 +41,8 @@ shape_of-s-requires c = roomy _ (passed c)
 
 pub returns-then-m-size : goal.returns-then-m-size
 returns-then-m-size c =
-    sym (opened_short _ (omega arith) (none_out (goal.at.returns-then-m-size c).Else-out-ne8) (omega (arith, c.size_of-size.ensures, ap size (told (goal.at.returns-then-m-size c).After-shape_of-s))))
+    sym (opened_short _ (omega arith) (none_out (goal.at.returns-then-m-size c).Else-out-ne8)
+    (omega (arith, c.size_of-size.ensures, ap size (told (goal.at.returns-then-m-size c).After-shape_of-s))))
 
 pub returns : goal.returns
 returns c =

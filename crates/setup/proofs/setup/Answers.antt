@@ -25,7 +25,8 @@ pub shape_of-s-requires : goal.shape_of-s-requires
 shape_of-s-requires c = roomy _ (passed c)
 
 pub returns-then-m-n : goal.returns-then-m-n
-returns-then-m-n c = let e = sized (goal.at.returns-then-m-n c).After-size_of-n in of_memory _ _ (passed (goal.at.returns-then-m-n c).Else-not-in_rows) (omega arith)
+returns-then-m-n c =
+    let e = sized (goal.at.returns-then-m-n c).After-size_of-n in of_memory _ _ (passed (goal.at.returns-then-m-n c).Else-not-in_rows) (omega arith)
 
 pub returns : goal.returns
 returns c =

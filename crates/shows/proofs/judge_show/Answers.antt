@@ -18,7 +18,8 @@ returns-then-not-keeps c =
 pub returns-then-other_sizes : goal.returns-then-other_sizes
 returns-then-other_sizes c =
     let a = c.args in
-    laws.other_size_lem (settings_of a.s) a.m.now a.port a.queue _ (kept (goal.at.returns-then-other_sizes c).Else-not-keeps) (sym c.other_sizes.ensures ∙ c.if-other_sizes.true)
+    laws.other_size_lem (settings_of a.s) a.m.now a.port a.queue _ (kept (goal.at.returns-then-other_sizes c).Else-not-keeps)
+    (sym c.other_sizes.ensures ∙ c.if-other_sizes.true)
 
 pub returns : goal.returns
 returns c =

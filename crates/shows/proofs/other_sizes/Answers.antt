@@ -24,7 +24,13 @@ pub returns-then-other_size-2 : goal.returns-then-other_size-2
 returns-then-other_size-2 c = rw (first (goal.at.returns-then-other_size-2 c).Else-other_size, sym c.other_size-2.ensures ∙ c.if-other_size-2.true)
 
 pub returns-then-other_size-3 : goal.returns-then-other_size-3
-returns-then-other_size-3 c = rw (first (goal.at.returns-then-other_size-3 c).Else-other_size, second (goal.at.returns-then-other_size-3 c).Else-other_size-2, sym c.other_size-3.ensures ∙ c.if-other_size-3.true)
+returns-then-other_size-3 c =
+    rw (
+      first (goal.at.returns-then-other_size-3 c).Else-other_size,
+      second (goal.at.returns-then-other_size-3 c).Else-other_size-2,
+      sym
+          c.other_size-3.ensures ∙ c.if-other_size-3.true,
+    )
 
 pub returns : goal.returns
 returns c =

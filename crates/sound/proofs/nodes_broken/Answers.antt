@@ -59,7 +59,12 @@ fits-requires-3 c = walkable c.requires
 pub returns-in-At-fits-2 : goal.returns-in-At-fits-2
 unfolding nodes_broken
 returns-in-At-fits-2 c =
-    rw (own_port (goal.at.returns-in-At-fits-2 c).In_default, own_queue (goal.at.returns-in-At-fits-2 c).In_default-fits, sym (of_record (goal.at.returns-in-At-fits-2 c).After-fits-3) ∙ c.in-At-fits-2.is)
+    rw (
+      own_port (goal.at.returns-in-At-fits-2 c).In_default,
+      own_queue (goal.at.returns-in-At-fits-2 c).In_default-fits,
+      sym
+          (of_record (goal.at.returns-in-At-fits-2 c).After-fits-3) ∙ c.in-At-fits-2.is,
+    )
 
 -- one of them has found something
 pub returns : goal.returns

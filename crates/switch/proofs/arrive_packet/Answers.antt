@@ -24,7 +24,9 @@ told c =
 pub keep-requires : goal.keep-requires
 keep-requires c =
     let a = c.args in
-    let w = memory_kept_within a.m.now a.port (length a.kept.now) a.packet.now _ (sym (ap (λ (out : Reply × List ℕ). out.0) (told (goal.at.keep-requires c).In-Node))) in
+    let w =
+    memory_kept_within a.m.now a.port (length a.kept.now) a.packet.now _
+    (sym (ap (λ (out : Reply × List ℕ). out.0) (told (goal.at.keep-requires c).In-Node))) in
     (w.slot, omega (arith, w.short))
 
 pub returns-in-Node : goal.returns-in-Node

@@ -54,7 +54,10 @@ first_is c = c.first-x.ensures ∙ ap (get (S (goal.at.After-first-x c).Start) (
 
 node : (c : After-first-x) → is_node (S (goal.at.After-first-x c).Start) c.first-x.result.0 ≡ true
 node c =
-    ap (is_node (S (goal.at.After-first-x c).Start)) (first_is c) ∙ head_is_node (S (goal.at.After-first-x c).Start) (m (goal.at.After-first-x c).Start) (state_tidy (S (goal.at.After-first-x c).Start) (m (goal.at.After-first-x c).Start) c.requires.works.state) _ (place_in_lem (goal.at.After-first-x c).Start) c.requires.some
+    ap (is_node (S (goal.at.After-first-x c).Start)) (first_is c)
+    ∙ head_is_node (S (goal.at.After-first-x c).Start) (m (goal.at.After-first-x c).Start)
+    (state_tidy (S (goal.at.After-first-x c).Start) (m (goal.at.After-first-x c).Start) c.requires.works.state) _
+    (place_in_lem (goal.at.After-first-x c).Start) c.requires.some
 
 home_is : (c : After-port-home) → c.port-home.result ≡ owner (oldest (goal.at.After-port-home c).Start)
 home_is c = c.port-home.ensures ∙ ap owner (first_is (goal.at.After-port-home c).After-first-x)
@@ -70,7 +73,8 @@ price-cost-requires c =
 
 price_is : (c : After-price-cost) → c.price-cost.result ≡ (packet (goal.at.After-price-cost c).Start).price
 price_is c =
-    c.price-cost.ensures ∙ ap (λ (x : ℕ). (packet_at (S (goal.at.After-price-cost c).Start) (m (goal.at.After-price-cost c).Start) x).price) (first_is (goal.at.After-price-cost c).After-first-x)
+    c.price-cost.ensures ∙ ap (λ (x : ℕ). (packet_at (S (goal.at.After-price-cost c).Start) (m (goal.at.After-price-cost c).Start) x).price)
+    (first_is (goal.at.After-price-cost c).After-first-x)
 
 pub arrival-requires : goal.arrival-requires
 arrival-requires c =
@@ -79,7 +83,8 @@ arrival-requires c =
 
 arrival_is : (c : After-arrival) → c.arrival.result ≡ credit (goal.at.After-arrival c).Start
 arrival_is c =
-    c.arrival.ensures ∙ ap (λ (o : ℕ). arrival_of (S (goal.at.After-arrival c).Start) (ledger_in (S (goal.at.After-arrival c).Start) (m (goal.at.After-arrival c).Start)) o c.args.q) (home_is (goal.at.After-arrival c).After-port-home)
+    c.arrival.ensures ∙ ap (λ (o : ℕ). arrival_of (S (goal.at.After-arrival c).Start)
+    (ledger_in (S (goal.at.After-arrival c).Start) (m (goal.at.After-arrival c).Start)) o c.args.q) (home_is (goal.at.After-arrival c).After-port-home)
 
 small : (st : Start) → credit st + (packet st).price < 65536
 small st = given_small (S st) (m st) st.requires.works.state st.args.p st.args.q st.requires.port st.requires.queue st.requires.some
@@ -102,7 +107,9 @@ free_list-to-requires c =
     record { laid = c.requires.works.laid; port = home (goal.at.free_list-to-requires c).After-port-home }
 
 -- the oldest node can go home
-can : (c : After-port-home) → CanShift c.args.s (place# (S (goal.at.After-port-home c).Start) (prefetched c.args.p c.args.q)) (place# (S (goal.at.After-port-home c).Start) (free c.port-home.result)) (m (goal.at.After-port-home c).Start)
+can : (c : After-port-home)
+    → CanShift c.args.s (place# (S (goal.at.After-port-home c).Start) (prefetched c.args.p c.args.q))
+    (place# (S (goal.at.After-port-home c).Start) (free c.port-home.result)) (m (goal.at.After-port-home c).Start)
 can c =
     record {
       take = record {
@@ -138,7 +145,10 @@ returns c =
     record {
       node = first_is (goal.at.returns c).After-first-x;
       memory =
-          serve_mem_lem (S (goal.at.returns c).Start) (m (goal.at.returns c).Start) c.requires.works.state c.args.p c.args.q c.requires.port c.requires.queue c.requires.some
-          (home_is (goal.at.returns c).After-port-home) (ap₂ ◌+◌ (arrival_is (goal.at.returns c).After-arrival) (price_is (goal.at.returns c).After-price-cost)) (ap₂ (λ (x y : ℕ). x - y) c.outward.ensures (price_is (goal.at.returns c).After-price-cost))
+          serve_mem_lem (S (goal.at.returns c).Start) (m (goal.at.returns c).Start) c.requires.works.state c.args.p c.args.q c.requires.port c.requires.queue
+          c.requires.some
+          (home_is (goal.at.returns c).After-port-home)
+          (ap₂ ◌+◌ (arrival_is (goal.at.returns c).After-arrival) (price_is (goal.at.returns c).After-price-cost))
+          (ap₂ (λ (x y : ℕ). x - y) c.outward.ensures (price_is (goal.at.returns c).After-price-cost))
           (shifted c.prefetch_list-from.ensures c.free_list-to.ensures c.pop-y.ensures c.push.ensures).memory c.settle.ensures;
     }

@@ -43,7 +43,11 @@ at_in st = l_in (S st) (m st) st.requires.works.state st.args.p st.args.q st.req
 in_list : (c : After-prefetch_list-at) → InList c.args.s c.prefetch_list-at.result (m (goal.at.After-prefetch_list-at c).Start)
 in_list c =
     let p = c.requires in
-    record { laid = p.works.laid; long = p.works.state.long; inside = omega (arith, c.prefetch_list-at.ensures, at_in (goal.at.After-prefetch_list-at c).Start) }
+    record {
+      laid = p.works.laid;
+      long = p.works.state.long;
+      inside = omega (arith, c.prefetch_list-at.ensures, at_in (goal.at.After-prefetch_list-at c).Start);
+    }
 
 pub count-requires : goal.count-requires
 count-requires c = in_list c
@@ -54,12 +58,16 @@ count_is c = c.count.ensures ∙ ap (get (S (goal.at.After-count c).Start) (m (g
 pub returns-then-count-eq0 : goal.returns-then-count-eq0
 returns-then-count-eq0 c =
     let none = sym (count_is (goal.at.returns-then-count-eq0 c).After-count) ∙ c.if-count-eq0.true in
-    ap bit (sym (none_ready (S (goal.at.returns-then-count-eq0 c).Start) (m (goal.at.returns-then-count-eq0 c).Start) c.requires.works.state c.args.p c.args.q c.requires.port c.requires.queue none))
+    ap bit (sym (none_ready (S (goal.at.returns-then-count-eq0 c).Start) (m (goal.at.returns-then-count-eq0 c).Start) c.requires.works.state c.args.p
+    c.args.q c.requires.port c.requires.queue none))
 
 -- with something there, the oldest packet's price decides
-decides : (c : Else-count-eq0) → is_ready (S (goal.at.Else-count-eq0 c).Start) (ledger_in (S (goal.at.Else-count-eq0 c).Start) (m (goal.at.Else-count-eq0 c).Start)) c.args.p c.args.q ≡ (eqb c.args.q 0 || leb (oldest (goal.at.Else-count-eq0 c).Start).price (credit (goal.at.Else-count-eq0 c).Start))
+decides : (c : Else-count-eq0)
+    → is_ready (S (goal.at.Else-count-eq0 c).Start) (ledger_in (S (goal.at.Else-count-eq0 c).Start) (m (goal.at.Else-count-eq0 c).Start)) c.args.p c.args.q ≡
+    (eqb c.args.q 0 || leb (oldest (goal.at.Else-count-eq0 c).Start).price (credit (goal.at.Else-count-eq0 c).Start))
 decides c =
-    some_ready (S (goal.at.Else-count-eq0 c).Start) (m (goal.at.Else-count-eq0 c).Start) c.requires.works.state c.args.p c.args.q c.requires.port c.requires.queue
+    some_ready (S (goal.at.Else-count-eq0 c).Start) (m (goal.at.Else-count-eq0 c).Start) c.requires.works.state c.args.p c.args.q c.requires.port
+    c.requires.queue
     (λ z. c.if-count-eq0.false (count_is (goal.at.Else-count-eq0 c).After-count ∙ z))
 
 pub returns-then-q-eq0 : goal.returns-then-q-eq0
@@ -74,11 +82,15 @@ first_is c =
 
 pub price-cost-requires : goal.price-cost-requires
 price-cost-requires c =
-    let held : 0 < get (S (goal.at.price-cost-requires c).Start) (m (goal.at.price-cost-requires c).Start) Count (l (goal.at.price-cost-requires c).Start) = omega (arith, c.if-count-eq0.false, count_is (goal.at.price-cost-requires c).After-count) in
+    let held : 0 < get (S (goal.at.price-cost-requires c).Start) (m (goal.at.price-cost-requires c).Start) Count (l (goal.at.price-cost-requires c).Start) =
+    omega (arith, c.if-count-eq0.false, count_is (goal.at.price-cost-requires c).After-count) in
     record {
       laid = c.requires.works.laid;
       long = c.requires.works.state.long;
-      node = rw (first_is c) (head_is_node (S (goal.at.price-cost-requires c).Start) (m (goal.at.price-cost-requires c).Start) (state_tidy (S (goal.at.price-cost-requires c).Start) (m (goal.at.price-cost-requires c).Start) c.requires.works.state) (l (goal.at.price-cost-requires c).Start) (at_in (goal.at.price-cost-requires c).Start) held);
+      node = rw (first_is c)
+          (head_is_node (S (goal.at.price-cost-requires c).Start) (m (goal.at.price-cost-requires c).Start)
+          (state_tidy (S (goal.at.price-cost-requires c).Start) (m (goal.at.price-cost-requires c).Start) c.requires.works.state)
+          (l (goal.at.price-cost-requires c).Start) (at_in (goal.at.price-cost-requires c).Start) held);
     }
 
 pub outward-credit-requires : goal.outward-credit-requires
@@ -89,9 +101,12 @@ outward-credit-requires c =
 -- the test of the price, as the memory has it
 price_is : (c : After-price-cost) → c.price-cost.result ≡ (oldest (goal.at.After-price-cost c).Start).price
 price_is c =
-    c.price-cost.ensures ∙ ap (λ (x : ℕ). (packet_at (S (goal.at.After-price-cost c).Start) (m (goal.at.After-price-cost c).Start) x).price) (first_is (goal.at.After-price-cost c).After-first)
+    c.price-cost.ensures ∙ ap (λ (x : ℕ). (packet_at (S (goal.at.After-price-cost c).Start) (m (goal.at.After-price-cost c).Start) x).price)
+    (first_is (goal.at.After-price-cost c).After-first)
 
-tested : (c : After-outward-credit) → is_ready (S (goal.at.After-outward-credit c).Start) (ledger_in (S (goal.at.After-outward-credit c).Start) (m (goal.at.After-outward-credit c).Start)) c.args.p c.args.q ≡ leb c.price-cost.result c.outward-credit.result
+tested : (c : After-outward-credit)
+    → is_ready (S (goal.at.After-outward-credit c).Start) (ledger_in (S (goal.at.After-outward-credit c).Start) (m (goal.at.After-outward-credit c).Start))
+    c.args.p c.args.q ≡ leb c.price-cost.result c.outward-credit.result
 tested c =
     rw (
       decides (goal.at.After-outward-credit c).Else-count-eq0,

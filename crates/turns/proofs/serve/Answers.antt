@@ -34,14 +34,21 @@ prefetch_list-from-requires c = let p = c.requires in record { laid = p.works.la
 pub first-requires : goal.first-requires
 first-requires c =
     let p = c.requires in
-    record { laid = p.works.laid; long = p.works.state.long; inside = omega (arith, c.prefetch_list-from.ensures, place_in_lem (goal.at.first-requires c).Start) }
+    record {
+      laid = p.works.laid;
+      long = p.works.state.long;
+      inside = omega (arith, c.prefetch_list-from.ensures, place_in_lem (goal.at.first-requires c).Start);
+    }
 
 first_is : (c : After-first) → c.first.result.0 ≡ oldest (goal.at.After-first c).Start
 first_is c = c.first.ensures ∙ ap (get (S (goal.at.After-first c).Start) (m (goal.at.After-first c).Start) Head) c.prefetch_list-from.ensures
 
 node : (c : After-first) → is_node (S (goal.at.After-first c).Start) c.first.result.0 ≡ true
 node c =
-    ap (is_node (S (goal.at.After-first c).Start)) (first_is c) ∙ head_is_node (S (goal.at.After-first c).Start) (m (goal.at.After-first c).Start) (state_tidy (S (goal.at.After-first c).Start) (m (goal.at.After-first c).Start) c.requires.works.state) _ (place_in_lem (goal.at.After-first c).Start) c.requires.some
+    ap (is_node (S (goal.at.After-first c).Start)) (first_is c)
+    ∙ head_is_node (S (goal.at.After-first c).Start) (m (goal.at.After-first c).Start)
+    (state_tidy (S (goal.at.After-first c).Start) (m (goal.at.After-first c).Start) c.requires.works.state) _ (place_in_lem (goal.at.After-first c).Start)
+    c.requires.some
 
 pub packet-k-requires : goal.packet-k-requires
 packet-k-requires c =
@@ -53,4 +60,7 @@ depart-requires c = c.requires
 
 pub returns : goal.returns
 returns c =
-    record { packet = c.packet-k.ensures ∙ ap (packet_at (S (goal.at.returns c).Start) (m (goal.at.returns c).Start)) (first_is (goal.at.returns c).After-first); memory = c.depart.ensures.memory }
+    record {
+      packet = c.packet-k.ensures ∙ ap (packet_at (S (goal.at.returns c).Start) (m (goal.at.returns c).Start)) (first_is (goal.at.returns c).After-first);
+      memory = c.depart.ensures.memory;
+    }

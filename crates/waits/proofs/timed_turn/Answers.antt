@@ -10,7 +10,7 @@ use Rattle.memory.specs.Memory.{acted}
 use Rattle.memory.proofs.Rounds.{works_after}
 use Rattle.waits.proofs.Laws.{sends_port, timed_leaves, timed_else}
 use Rattle.waits.proofs.timed_turn.Goals as goal
-use Rattle.waits.proofs.timed_turn.Goals.{In-Leaves, In_default}
+use Rattle.waits.proofs.timed_turn.Goals.{In-Leaves}
 
 -- the packet that left, as the turn answers it
 sent : (c : In-Leaves) → let a = c.args in

@@ -115,7 +115,8 @@ returns-then-not-node_passes c =
     record {
       answer = record {
         yes = λ e. absurd (false≢true e);
-        no = λ e. pass_not c.loop-left.invariant.1 (omega arith) (told (goal.at.returns-then-not-node_passes c).After-node_passes ∙ not-true _ c.if-not-node_passes.true-raw);
+        no = λ e. pass_not c.loop-left.invariant.1 (omega arith)
+            (told (goal.at.returns-then-not-node_passes c).After-node_passes ∙ not-true _ c.if-not-node_passes.true-raw);
       };
       marks = λ e. absurd (false≢true e);
       added = λ e. absurd (false≢true e);
@@ -127,7 +128,8 @@ loop-left-preserved c =
     let yes = not-false _ c.if-not-node_passes.false-raw in
     let t = c.node_passes.ensures in (
       c.node_passes.auto.marks ∙ (kept (goal.at.loop-left-preserved c).At-loop-left).0,
-      pass_step c.loop-left.invariant.1 (omega arith) (told (goal.at.loop-left-preserved c).After-node_passes ∙ yes) c.requires.column_is (t.marks yes) (t.added yes)
+      pass_step c.loop-left.invariant.1 (omega arith) (told (goal.at.loop-left-preserved c).After-node_passes ∙ yes) c.requires.column_is (t.marks yes)
+          (t.added yes)
           (next_is (goal.at.loop-left-preserved c).After-get2-next),
     )
 

@@ -9,7 +9,8 @@ use Rattle.whole.proofs.list_passes.Given as goal
 abbrev pub invariant-loop-left : goal.invariant-loop-left
 invariant-loop-left l =
     (length l.marks ≡ length l.initial.marks)
-    × Passing (settings_of l.s) l.m (marks_in (settings_of l.s) l.initial.marks) l.initial.sums l.l (marks_in (settings_of l.s) l.marks) l.sums l.left l.x l.last
+    × Passing (settings_of l.s) l.m (marks_in (settings_of l.s) l.initial.marks) l.initial.sums l.l (marks_in (settings_of l.s) l.marks) l.sums l.left l.x
+    l.last
 
 abbrev pub decreases-loop-left : goal.decreases-loop-left
 decreases-loop-left l = l.left

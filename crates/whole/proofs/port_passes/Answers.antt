@@ -84,7 +84,8 @@ pub returns-then-not-few_enough : goal.returns-then-not-few_enough
 returns-then-not-few_enough c =
     record {
       yes = λ e. absurd (false≢true e);
-      no = λ e. lists_many c.loop-column.invariant.2 (inside (goal.at.returns-then-not-few_enough c).In-loop-column).0 (sym (answered (goal.at.returns-then-not-few_enough c).After-few_enough) ∙ not-true _ c.if-not-few_enough.true-raw);
+      no = λ e. lists_many c.loop-column.invariant.2 (inside (goal.at.returns-then-not-few_enough c).In-loop-column).0
+          (sym (answered (goal.at.returns-then-not-few_enough c).After-few_enough) ∙ not-true _ c.if-not-few_enough.true-raw);
     }
 
 pub list_passes-requires : goal.list_passes-requires
@@ -115,16 +116,19 @@ pub returns-then-not-list_passes : goal.returns-then-not-list_passes
 returns-then-not-list_passes c =
     record {
       yes = λ e. absurd (false≢true e);
-      no = λ e. lists_no c.loop-column.invariant.2 (inside (goal.at.returns-then-not-list_passes c).In-loop-column).0 (c.list_passes.ensures.answer.no (not-true _ c.if-not-list_passes.true-raw));
+      no = λ e. lists_no c.loop-column.invariant.2 (inside (goal.at.returns-then-not-list_passes c).In-loop-column).0
+          (c.list_passes.ensures.answer.no (not-true _ c.if-not-list_passes.true-raw));
     }
 
 -- the walk stands at the next list
 went : (c : Else-not-list_passes)
     → let a = c.args in
-    AtList (settings_of a.s) a.m.now (marks_in (settings_of a.s) (marks_after (goal.at.Else-not-list_passes c).After-list_passes)) (sums_after (goal.at.Else-not-list_passes c).After-list_passes)
+    AtList (settings_of a.s) a.m.now (marks_in (settings_of a.s) (marks_after (goal.at.Else-not-list_passes c).After-list_passes))
+    (sums_after (goal.at.Else-not-list_passes c).After-list_passes)
     (a.port * a.s.row + (c.loop-column.column + 1)) (c.loop-column.met + c.get4-count.result)
 went c =
-    lists_next c.loop-column.invariant.2 (inside (goal.at.Else-not-list_passes c).In-loop-column).0 (sym (answered (goal.at.Else-not-list_passes c).After-few_enough) ∙ not-false _ c.if-not-few_enough.false-raw)
+    lists_next c.loop-column.invariant.2 (inside (goal.at.Else-not-list_passes c).In-loop-column).0
+    (sym (answered (goal.at.Else-not-list_passes c).After-few_enough) ∙ not-false _ c.if-not-few_enough.false-raw)
     (marks_length _ _ ∙ sym (marks_length _ _)) c.list_passes.ensures (not-false _ c.if-not-list_passes.false-raw) (omega arith) c.get4-count.ensures
 
 -- no more nodes were met than there are
@@ -144,8 +148,12 @@ overflow_add-column c =
     omega (arith, (inside (goal.at.overflow_add-column c).In-loop-column).0, few _ c.requires.marks.laid.roomy)
 
 pub loop-column-preserved : goal.loop-column-preserved
-loop-column-preserved c =
-    (omega arith, c.list_passes.auto.marks ∙ (kept (goal.at.loop-column-preserved c).At-loop-column).0, went (goal.at.loop-column-preserved c).Else-not-list_passes)
+loop-column-preserved c = (
+  omega arith,
+  c.list_passes.auto.marks
+      ∙ (kept (goal.at.loop-column-preserved c).At-loop-column).0,
+  went (goal.at.loop-column-preserved c).Else-not-list_passes,
+)
 
 pub shape_of-marks : goal.shape_of-marks
 shape_of-marks c = (kept (goal.at.shape_of-marks c).At-loop-column).0

@@ -9,7 +9,8 @@ use Rattle.whole.proofs.port_passes.Given as goal
 
 abbrev pub invariant-loop-column : goal.invariant-loop-column
 invariant-loop-column l =
-    (l.column ≤ l.row) × (length l.marks ≡ length l.initial.marks) × AtList (settings_of l.s) l.m (marks_in (settings_of l.s) l.marks) l.sums (l.first + l.column) l.met
+    (l.column ≤ l.row) × (length l.marks ≡ length l.initial.marks) × AtList (settings_of l.s) l.m (marks_in (settings_of l.s) l.marks) l.sums
+    (l.first + l.column) l.met
 
 abbrev pub decreases-loop-column : goal.decreases-loop-column
 decreases-loop-column l = l.row - l.column

@@ -88,8 +88,12 @@ pub overflow_add-port : goal.overflow_add-port
 overflow_add-port c = omega (arith, c.requires.blank.marks.laid.roomy)
 
 pub loop-port-preserved : goal.loop-port-preserved
-loop-port-preserved c =
-    (omega arith, c.port_passes.auto.marks ∙ (kept (goal.at.loop-port-preserved c).At-loop-port).0, c.port_passes.ensures.yes (not-false _ c.if-not-port_passes.false-raw))
+loop-port-preserved c = (
+  omega arith,
+  c.port_passes.auto.marks
+      ∙ (kept (goal.at.loop-port-preserved c).At-loop-port).0,
+  c.port_passes.ensures.yes (not-false _ c.if-not-port_passes.false-raw),
+)
 
 pub shape_of-marks-then-met-s : goal.shape_of-marks-then-met-s
 shape_of-marks-then-met-s c = (kept (goal.at.shape_of-marks-then-met-s c).At-loop-port).0
@@ -99,8 +103,11 @@ shape_of-sums-then-met-s c = (kept (goal.at.shape_of-sums-then-met-s c).At-loop-
 
 pub returns-then-met-s : goal.returns-then-met-s
 returns-then-met-s c =
-    let all_are = c.requires.blank.marks.laid.all_are in
-    (end_left c.loop-port.invariant.2 (past (goal.at.returns-then-met-s c).After-struct_known-1) (λ d. c.if-met-s.true (d ∙ sym all_are)), up_to (goal.at.returns-then-met-s c).At-loop-port)
+    let all_are = c.requires.blank.marks.laid.all_are in (
+      end_left c.loop-port.invariant.2 (past (goal.at.returns-then-met-s c).After-struct_known-1) (λ d. c.if-met-s.true (d ∙ sym all_are)),
+      up_to
+          (goal.at.returns-then-met-s c).At-loop-port,
+    )
 
 pub first_due-requires : goal.first_due-requires
 first_due-requires c =
