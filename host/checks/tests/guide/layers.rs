@@ -6,21 +6,15 @@ use crate::page::GUIDE;
 
 const CRATES: &str = include_str!("../../../../crates.txt");
 
-/// What stands outside of the project.
-const SUPPLIED: [&str; 2] = ["io", "libc"];
-
 /// Each crate with those that it stands on.
 fn edges() -> Vec<(&'static str, Vec<&'static str>)> {
     let lines = CRATES
         .lines()
         .map(|line| line.split('#').next().unwrap_or(line));
     let read = |line: &'static str| {
-        let (name, below) = line.split_once(':')?;
-        let below = below.split_whitespace();
-        Some((
-            name,
-            below.filter(|name| !SUPPLIED.contains(name)).collect(),
-        ))
+        let (kind, below) = line.split_once(':')?;
+        let name = kind.split(' ').next().unwrap_or(kind);
+        Some((name, below.split_whitespace().collect()))
     };
     lines.filter_map(read).collect()
 }

@@ -14,7 +14,7 @@ fn files(folder: &Path) -> Vec<PathBuf> {
     let entries = fs::read_dir(folder).unwrap_or_else(|why| panic!("{folder:?}: {why}"));
     let paths = entries.map(|entry| entry.unwrap().path());
     let below = |path: PathBuf| match path.is_dir() {
-        true if path.ends_with("target") => Vec::new(),
+        true if path.ends_with("target") || path.ends_with("out") => Vec::new(),
         true => files(&path),
         false => vec![path],
     };
