@@ -13,6 +13,7 @@ use layout::Shape;
 use ledger::{Plain, Refusal, Verdict};
 
 // The first refusal of a credit that applies. Amounts have 32 bits, so the sum is made in 64.
+#[tactic(auto, using(crate::proofs::Laws::queue_free, crate::proofs::Laws::too_much, crate::proofs::Laws::goes))]
 pub fn judge_credit(m: &[u8], s: Shape, port: u32, queue: u32, amount: u32) -> Verdict
     requires { Works s m.now }
     ensures { judgement_of result ≡ judged (settings_of s) (ledger_in (settings_of s) m.now) (credit port queue amount) }

@@ -1,8 +1,7 @@
 -- `header::settle` meets its contract: each way out by the law of its verdict. Assumes nothing.
-use Prim.Native.Nat.{◌+◌, ◌≤◌}
+use Prim.Native.Nat.{◌≤◌}
 use native.Mathlib.Omega.{arith}
 use Rattle.ledger.specs.Header.{least_length}
-use Rattle.ledger.proofs.Tests.{ltb_yes, ltb_no}
 use Rattle.forms.specs.Formed.{form_in}
 use Rattle.header.specs.Parse.{header_of}
 use Rattle.header.proofs.Shapes.{Shaped, shaped}
@@ -20,13 +19,13 @@ pub returns-then-short : goal.returns-then-short
 returns-then-short c =
     let a = c.args in
     let s = shape (goal.at.returns-then-short c).Start in
-    of_length (form_in a.form) a.queues a.miscounted (header_of a.f) (omega (arith, ltb_yes a.f.len (a.form.size + 2) c.if-short.true-raw))
+    of_length (form_in a.form) a.queues a.miscounted (header_of a.f) (omega (arith, c.if-short.true))
 
 -- the length was enough
 long : (c : Else-short) → let a = c.args in least_length (form_in a.form) ≤ a.f.len
 long c =
     let s = shape (goal.at.Else-short c).Start in
-    omega (arith, ltb_no c.args.f.len (c.args.form.size + 2) c.if-short.false-raw)
+    omega (arith, c.if-short.false)
 
 pub returns-then-miscounted : goal.returns-then-miscounted
 returns-then-miscounted c =
