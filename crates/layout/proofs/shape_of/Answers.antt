@@ -1,5 +1,5 @@
--- `layout::shape_of` meets its contract: no number wraps, since a switch's settings are small. The needs are answered in the order of the
--- code, without names. Assumes nothing.
+-- `layout::shape_of` meets its contract: no number wraps, since a switch's settings are small. Assumes
+-- nothing.
 use mathlib.Core.Path.{refl}
 use native.Mathlib.Omega.{arith}
 use Rattle.ledger.specs.Settings.{row}

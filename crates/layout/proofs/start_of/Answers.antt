@@ -1,5 +1,4 @@
--- `layout::start_of` meets its contract: by the table, and no sum wraps, since a shape's numbers are small. The needs of the arms differ in
--- nothing but their numbers, so they are answered in the order of the arms, without names. Assumes nothing.
+-- `layout::start_of` meets its contract: by the table, and no sum wraps, since a shape's numbers are small. Assumes nothing.
 use native.Mathlib.Omega.{arith}
 use Rattle.layout.specs.Tables.{start_of}
 use Rattle.layout.proofs.Shapes.{Small, small}

@@ -1,5 +1,4 @@
--- `ranges::read` meets its contract. The needs of the settings differ in nothing but their numbers, so they are answered in the order of the
--- code, without names. Assumes nothing.
+-- `ranges::read` meets its contract: each setting is what its read ensures. Assumes nothing.
 use Rattle.layout.specs.Picture.{settings_in}
 use Rattle.ranges.proofs.read.Goals as goal
 
