@@ -190,7 +190,7 @@ module _ (m : List ℕ) (port : ℕ) where
 
 -- the first alone would not do: beside a refusal any ten bytes might stand
 abbrev pub first_alone : Contract stitch.ended
-first_alone κs a r left = AllOf (stitch_says.ensures-acted-read κs a tt r left).owes
+first_alone κs a r left = AllOf (stitch_says.ensures-acted-read κs a tt r left).tells
 
 pub second_needed : OneOutcome stitch.ended first_alone → ⊥
 second_needed one =

@@ -9,12 +9,18 @@ use crate::page::{tables, top, words};
 /// Names of what a gate makes, not of what the tree has.
 const MADE: [&str; 2] = ["target/", "dist/"];
 
+/// Whether rt builds there: `crates/NAME/out`.
+fn built(path: &Path) -> bool {
+    let above = path.parent().and_then(Path::parent);
+    path.ends_with("out") && above.is_some_and(|above| above.ends_with("crates"))
+}
+
 /// The files below a folder.
 fn files(folder: &Path) -> Vec<PathBuf> {
     let entries = fs::read_dir(folder).unwrap_or_else(|why| panic!("{folder:?}: {why}"));
     let paths = entries.map(|entry| entry.unwrap().path());
     let below = |path: PathBuf| match path.is_dir() {
-        true if path.ends_with("target") || path.ends_with("out") => Vec::new(),
+        true if path.ends_with("target") || built(&path) => Vec::new(),
         true => files(&path),
         false => vec![path],
     };
