@@ -12,7 +12,7 @@ const MADE: [&str; 2] = ["target/", "dist/"];
 /// Whether rt builds there: `crates/NAME/out`.
 fn built(path: &Path) -> bool {
     let above = path.parent().and_then(Path::parent);
-    path.ends_with("out") && above.is_some_and(|above| above.ends_with("crates"))
+    path.ends_with("out") && matches!(above, Some(above) if above.ends_with("crates"))
 }
 
 /// The files below a folder.
