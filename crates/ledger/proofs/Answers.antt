@@ -3,11 +3,10 @@
 use mathlib.Core.Path.{◌≡◌, refl, sym, ap, ◌∙◌}
 use mathlib.Core.List.{List, [], ◌∷◌}
 use Prim.Native.Nat.{ℕ}
-use native.Mathlib.Omega.{arith}
 use lib.ListN.{get_or}
-use Rattle.ledger.specs.Answers.{number_of, kind_of, exit_of, sent_of, plain_reply, stitch_reply, entry_reply, turn_reply, ready_reply, where_reply}
-use Rattle.ledger.specs.Answers.{report_reply}
-use Rattle.ledger.specs.Answers.{bucket_reply, show_reply}
+use Rattle.std.specs.Prelude.{Result, Ok, Err, Option, None, Some}
+use Rattle.ledger.specs.Answers.{number_of, kind_of, exit_of, sent_of, reply_by, plain_reply, stitch_reply, entry_reply, left_reply, turn_reply}
+use Rattle.ledger.specs.Answers.{ready_reply, where_reply, report_reply, bucket_reply, show_reply}
 use Rattle.ledger.specs.declared.Refusal.{Refusal}
 use Rattle.ledger.specs.declared.Refusal.TheVariants.{ShortMemory, BadSetting, NoState, NoPort, NoQueue, HeaderSize, Checksum, Source}
 use Rattle.ledger.specs.declared.Refusal.TheVariants.{TooShort, NoCredit, NoFreeNode, NothingThere, SlotsInUse, TooMuchCredit, NoSuchId}
@@ -17,23 +16,9 @@ use Rattle.ledger.specs.declared.ListKind.TheVariants.{Free, Ingress, Egress, Pr
 use Rattle.ledger.specs.declared.Exit.{Exit}
 use Rattle.ledger.specs.declared.Exit.TheVariants.{Inside, Outside}
 use Rattle.ledger.specs.declared.Sent.{Sent}
-use Rattle.ledger.specs.declared.Plain.{Plain}
-use Rattle.ledger.specs.declared.Plain.TheVariants as plain
-use Rattle.ledger.specs.declared.Entry.{Entry}
-use Rattle.ledger.specs.declared.Entry.TheVariants as entries
-use Rattle.ledger.specs.declared.Turned.{Turned}
-use Rattle.ledger.specs.declared.Turned.TheVariants as turns
+use Rattle.ledger.specs.declared.EntryId.{EntryId}
 use Rattle.ledger.specs.declared.Readiness.{Readiness}
-use Rattle.ledger.specs.declared.Readiness.TheVariants as words
-use Rattle.ledger.specs.declared.Whereabouts.{Whereabouts}
-use Rattle.ledger.specs.declared.Whereabouts.TheVariants as places
-use Rattle.ledger.specs.declared.Reported.{Reported}
-use Rattle.ledger.specs.declared.Reported.TheVariants as reports
-use Rattle.ledger.specs.declared.Bucketed.{Bucketed}
-use Rattle.ledger.specs.declared.Bucketed.TheVariants as counts
-use Rattle.ledger.specs.declared.Shown.{Shown}
-use Rattle.ledger.specs.declared.Shown.TheVariants as parts
-use Rattle.ledger.specs.Calls.{refused, leaves, found, Side}
+use Rattle.ledger.specs.Calls.{Reply, refused, done, entry, stitched, leaves, word, found, reported, counted, part, Side}
 use Rattle.ledger.specs.Ledger.{Packet, Place}
 
 -- the refusals by their numbers; where there is none, any
@@ -133,73 +118,78 @@ found_right v w i j e = cc
 same_refusal : (r s : Refusal) → refused (number_of r) ≡ refused (number_of s) → r ≡ s
 same_refusal r s e = number_inj r s (refused_inj (number_of r) (number_of s) e)
 
-pub plain_inj : (a b : Plain) → plain_reply a ≡ plain_reply b → a ≡ b
-plain_inj plain.Done plain.Done e = refl
-plain_inj plain.Done (plain.No s) e = cc
-plain_inj (plain.No r) plain.Done e = cc
-plain_inj (plain.No r) (plain.No s) e = ap plain.No (same_refusal r s e)
+-- what holds of every answer: the refusal is told by its number, and what is said otherwise is no refusal
+reply_inj : {T : Type 0} (said : T → Reply)
+    → ((x y : T) → said x ≡ said y → x ≡ y) → ((x : T) (n : ℕ) → said x ≡ refused n → ⊥)
+    → (a b : Result T Refusal) → reply_by said a ≡ reply_by said b → a ≡ b
+reply_inj said inj apart (Ok x) (Ok y) e = ap Ok (inj x y e)
+reply_inj said inj apart (Ok x) (Err s) e = absurd (apart x (number_of s) e)
+reply_inj said inj apart (Err r) (Ok y) e = absurd (apart y (number_of r) (sym e))
+reply_inj said inj apart (Err r) (Err s) e = ap Err (same_refusal r s e)
 
--- of stitch: the answer, and where it isn't a refusal the room
-pub stitch_inj : (a b : Plain) (x y : List ℕ) → stitch_reply a x ≡ stitch_reply b y → (a ≡ b) × (a ≡ plain.Done → x ≡ y)
-stitch_inj plain.Done plain.Done x y e = (refl, λ d. cc)
-stitch_inj plain.Done (plain.No s) x y e = (cc, λ d. absurd (let z : ◌≡◌ {A = ℕ} 0 1 = cc in omega arith))
-stitch_inj (plain.No r) plain.Done x y e = (cc, λ d. absurd (let z : ◌≡◌ {A = ℕ} 0 1 = cc in omega arith))
-stitch_inj (plain.No r) (plain.No s) x y e = (ap plain.No (same_refusal r s e), λ d. absurd (let z : ◌≡◌ {A = ℕ} 0 1 = cc in omega arith))
+pair_same : {A B : Type 0} (x y : A × B) → x.0 ≡ y.0 → x.1 ≡ y.1 → x ≡ y
+pair_same x y p q = ap (λ a. (a, x.1)) p ∙ ap (λ b. (y.0, b)) q
 
-pub entry_inj : (a b : Entry) → entry_reply a ≡ entry_reply b → a ≡ b
-entry_inj (entries.Node x) (entries.Node y) e =
+pub plain_inj : (a b : Result Unit Refusal) → plain_reply a ≡ plain_reply b → a ≡ b
+plain_inj a b e = reply_inj (λ u. done) (λ x y e. refl) (λ x n e. cc) a b e
+
+pub stitch_inj : (a b : Result (List ℕ) Refusal) → stitch_reply a ≡ stitch_reply b → a ≡ b
+stitch_inj a b e = reply_inj stitched (λ x y e. cc) (λ x n e. cc) a b e
+
+entry_id_inj : (x y : EntryId) → entry x.0 ≡ entry y.0 → x ≡ y
+entry_id_inj x y e =
     let p : x.0 ≡ y.0 = cc in
-    ap (λ (n : ℕ). entries.Node (record { 0 = n })) p
-entry_inj (entries.Node x) (entries.No s) e = cc
-entry_inj (entries.No r) (entries.Node y) e = cc
-entry_inj (entries.No r) (entries.No s) e = ap entries.No (same_refusal r s e)
+    ap {B = EntryId} (λ (n : ℕ). record { 0 = n }) p
 
-pub turn_inj : (a b : Turned) → turn_reply a ≡ turn_reply b → a ≡ b
-turn_inj turns.Idle turns.Idle e = refl
-turn_inj turns.Idle (turns.Leaves j t) e = cc
-turn_inj turns.Idle (turns.No s) e = cc
-turn_inj (turns.Leaves k s) turns.Idle e = cc
-turn_inj (turns.Leaves k s) (turns.Leaves j t) e =
-    let a : k ≡ j = sent_inj k j (leaves_left (sent_of k) (sent_of j) (exit_of s) (exit_of t) e) in
-    let b : s ≡ t = exit_inj s t (leaves_right (sent_of k) (sent_of j) (exit_of s) (exit_of t) e) in
-    cc
-turn_inj (turns.Leaves k s) (turns.No r) e = cc
-turn_inj (turns.No r) turns.Idle e = cc
-turn_inj (turns.No r) (turns.Leaves j t) e = cc
-turn_inj (turns.No r) (turns.No s) e = ap turns.No (same_refusal r s e)
+pub entry_inj : (a b : Result EntryId Refusal) → entry_reply a ≡ entry_reply b → a ≡ b
+entry_inj a b e = reply_inj (λ x. entry x.0) entry_id_inj (λ x n e. cc) a b e
 
-pub ready_inj : (a b : Readiness) → ready_reply a ≡ ready_reply b → a ≡ b
-ready_inj (words.Word w m) (words.Word v n) e = cc
-ready_inj (words.Word w m) (words.No s) e = cc
-ready_inj (words.No r) (words.Word v n) e = cc
-ready_inj (words.No r) (words.No s) e = ap words.No (same_refusal r s e)
+left_inj : (a b : Option (Sent × Exit)) → left_reply a ≡ left_reply b → a ≡ b
+left_inj None None e = refl
+left_inj None (Some j) e = cc
+left_inj (Some k) None e = cc
+left_inj (Some k) (Some j) e =
+    let a : k.0 ≡ j.0 = sent_inj k.0 j.0 (leaves_left (sent_of k.0) (sent_of j.0) (exit_of k.1) (exit_of j.1) e) in
+    let b : k.1 ≡ j.1 = exit_inj k.1 j.1 (leaves_right (sent_of k.0) (sent_of j.0) (exit_of k.1) (exit_of j.1) e) in
+    ap Some (pair_same k j a b)
 
-pub where_inj : (a b : Whereabouts) → where_reply a ≡ where_reply b → a ≡ b
-where_inj (places.Found v i) (places.Found w j) e =
-    let a : v ≡ w = kind_inj v w (found_left (kind_of v) (kind_of w) i j e) in
-    let b : i ≡ j = found_right (kind_of v) (kind_of w) i j e in
-    cc
-where_inj (places.Found v i) (places.No s) e = cc
-where_inj (places.No r) (places.Found w j) e = cc
-where_inj (places.No r) (places.No s) e = ap places.No (same_refusal r s e)
+left_no : (a : Option (Sent × Exit)) (n : ℕ) → left_reply a ≡ refused n → ⊥
+left_no None n e = cc
+left_no (Some k) n e = cc
 
-pub report_inj : (a b : Reported) → report_reply a ≡ report_reply b → a ≡ b
-report_inj (reports.Mark v) (reports.Mark w) e = cc
-report_inj (reports.Mark v) (reports.No s) e = cc
-report_inj (reports.No r) (reports.Mark w) e = cc
-report_inj (reports.No r) (reports.No s) e = ap reports.No (same_refusal r s e)
+pub turn_inj : (a b : Result (Option (Sent × Exit)) Refusal) → turn_reply a ≡ turn_reply b → a ≡ b
+turn_inj a b e = reply_inj left_reply left_inj left_no a b e
 
-pub bucket_inj : (a b : Bucketed) → bucket_reply a ≡ bucket_reply b → a ≡ b
-bucket_inj (counts.Count v) (counts.Count w) e = cc
-bucket_inj (counts.Count v) (counts.No s) e = cc
-bucket_inj (counts.No r) (counts.Count w) e = cc
-bucket_inj (counts.No r) (counts.No s) e = ap counts.No (same_refusal r s e)
+ready_same : (v w : Readiness) → word v.word v.count ≡ word w.word w.count → v ≡ w
+ready_same v w e =
+    let p : v.word ≡ w.word = cc in
+    let q : v.count ≡ w.count = cc in
+    ap {B = Readiness} (λ (n : ℕ). record { word = n; count = v.count }) p ∙ ap {B = Readiness} (λ (n : ℕ). record { word = w.word; count = n }) q
 
-pub show_inj : (a b : Shown) → show_reply a ≡ show_reply b → a ≡ b
-show_inj (parts.Part x m) (parts.Part y n) e =
-    let p : x.0 ≡ y.0 = cc in
-    let q : m ≡ n = cc in
-    rw q (ap (λ (i : ℕ). parts.Part (record { 0 = i }) n) p)
-show_inj (parts.Part x m) (parts.No s) e = cc
-show_inj (parts.No r) (parts.Part y n) e = cc
-show_inj (parts.No r) (parts.No s) e = ap parts.No (same_refusal r s e)
+pub ready_inj : (a b : Result Readiness Refusal) → ready_reply a ≡ ready_reply b → a ≡ b
+ready_inj a b e = reply_inj (λ w. word w.word w.count) ready_same (λ x n e. cc) a b e
+
+place_same : (v w : ListKind × ℕ) → found (kind_of v.0) v.1 ≡ found (kind_of w.0) w.1 → v ≡ w
+place_same v w e =
+    let a : v.0 ≡ w.0 = kind_inj v.0 w.0 (found_left (kind_of v.0) (kind_of w.0) v.1 w.1 e) in
+    let b : v.1 ≡ w.1 = found_right (kind_of v.0) (kind_of w.0) v.1 w.1 e in
+    pair_same v w a b
+
+pub where_inj : (a b : Result (ListKind × ℕ) Refusal) → where_reply a ≡ where_reply b → a ≡ b
+where_inj a b e = reply_inj (λ v. found (kind_of v.0) v.1) place_same (λ x n e. cc) a b e
+
+pub report_inj : (a b : Result ℕ Refusal) → report_reply a ≡ report_reply b → a ≡ b
+report_inj a b e = reply_inj reported (λ x y e. cc) (λ x n e. cc) a b e
+
+pub bucket_inj : (a b : Result ℕ Refusal) → bucket_reply a ≡ bucket_reply b → a ≡ b
+bucket_inj a b e = reply_inj counted (λ x y e. cc) (λ x n e. cc) a b e
+
+part_same : (x y : EntryId × ℕ) → part x.0.0 x.1 ≡ part y.0.0 y.1 → x ≡ y
+part_same x y e =
+    let p : x.0.0 ≡ y.0.0 = cc in
+    let a : x.0 ≡ y.0 = ap {B = EntryId} (λ (n : ℕ). record { 0 = n }) p in
+    let q : x.1 ≡ y.1 = cc in
+    pair_same x y a q
+
+pub show_inj : (a b : Result (EntryId × ℕ) Refusal) → show_reply a ≡ show_reply b → a ≡ b
+show_inj a b e = reply_inj (λ x. part x.0.0 x.1) part_same (λ x n e. cc) a b e

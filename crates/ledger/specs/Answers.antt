@@ -1,5 +1,5 @@
 -- What each answer of the code means in paper 01: its number for a refusal, its values for anything else. Assumes nothing.
-use Rattle.std.specs.Prelude.{List, ℕ, replicate}
+use Rattle.std.specs.Prelude.{List, ℕ, replicate, Result, Ok, Err, Option, None, Some}
 use Rattle.ledger.specs.Header as header
 use Rattle.ledger.specs.Ledger.{Packet, Place, free, ingress, egress, prefetched}
 use Rattle.ledger.specs.Calls.{Side, inside, outside, Reply, refused, done, entry, stitched, idle, leaves, word, found, reported, counted, part}
@@ -12,24 +12,10 @@ use Rattle.ledger.specs.declared.ListKind.TheVariants.{Free, Ingress, Egress, Pr
 use Rattle.ledger.specs.declared.Exit.{Exit}
 use Rattle.ledger.specs.declared.Exit.TheVariants.{Inside, Outside}
 use Rattle.ledger.specs.declared.Sent.{Sent}
-use Rattle.ledger.specs.declared.Plain.{Plain}
-use Rattle.ledger.specs.declared.Plain.TheVariants as plain
-use Rattle.ledger.specs.declared.Entry.{Entry}
-use Rattle.ledger.specs.declared.Entry.TheVariants as entries
-use Rattle.ledger.specs.declared.Turned.{Turned}
-use Rattle.ledger.specs.declared.Turned.TheVariants as turns
+use Rattle.ledger.specs.declared.EntryId.{EntryId}
 use Rattle.ledger.specs.declared.Readiness.{Readiness}
-use Rattle.ledger.specs.declared.Readiness.TheVariants as words
-use Rattle.ledger.specs.declared.Whereabouts.{Whereabouts}
-use Rattle.ledger.specs.declared.Whereabouts.TheVariants as places
-use Rattle.ledger.specs.declared.Reported.{Reported}
-use Rattle.ledger.specs.declared.Reported.TheVariants as reports
-use Rattle.ledger.specs.declared.Bucketed.{Bucketed}
-use Rattle.ledger.specs.declared.Bucketed.TheVariants as counts
 use Rattle.ledger.specs.declared.Load.{Load}
 use Rattle.ledger.specs.declared.Load.TheVariants as loads
-use Rattle.ledger.specs.declared.Shown.{Shown}
-use Rattle.ledger.specs.declared.Shown.TheVariants as parts
 
 -- the number of a refusal in the table; 16 on are paper 02's, of which 18, 22, 23, 25 and 26 aren't given yet
 abbrev pub number_of : Refusal → ℕ
@@ -85,45 +71,47 @@ load_of (loads.Packet n) b = header.whole n b
 
 -- ---- the reply that each answer is
 
-abbrev pub plain_reply : Plain → Reply
-plain_reply plain.Done = done
-plain_reply (plain.No r) = refused (number_of r)
+-- a refusal by its number, and any other answer by what it says
+abbrev pub reply_by : {T : Type 0} → (T → Reply) → Result T Refusal → Reply
+reply_by said (Ok x) = said x
+reply_by said (Err r) = refused (number_of r)
 
--- stitch's record stands in lent room
-abbrev pub stitch_reply : Plain → List ℕ → Reply
-stitch_reply plain.Done room = stitched room
-stitch_reply (plain.No r) room = refused (number_of r)
+abbrev pub plain_reply : Result Unit Refusal → Reply
+plain_reply a = reply_by (λ u. done) a
 
-abbrev pub entry_reply : Entry → Reply
-entry_reply (entries.Node x) = entry x.0
-entry_reply (entries.No r) = refused (number_of r)
+-- the record
+abbrev pub stitch_reply : Result (List ℕ) Refusal → Reply
+stitch_reply a = reply_by stitched a
 
-abbrev pub turn_reply : Turned → Reply
-turn_reply turns.Idle = idle
-turn_reply (turns.Leaves k s) = leaves (sent_of k) (exit_of s)
-turn_reply (turns.No r) = refused (number_of r)
+abbrev pub entry_reply : Result EntryId Refusal → Reply
+entry_reply a = reply_by (λ x. entry x.0) a
 
-abbrev pub ready_reply : Readiness → Reply
-ready_reply (words.Word w n) = word w n
-ready_reply (words.No r) = refused (number_of r)
+-- with nothing ready a turn is idle
+abbrev pub left_reply : Option (Sent × Exit) → Reply
+left_reply None = idle
+left_reply (Some k) = leaves (sent_of k.0) (exit_of k.1)
 
-abbrev pub where_reply : Whereabouts → Reply
-where_reply (places.Found v i) = found (kind_of v) i
-where_reply (places.No r) = refused (number_of r)
+abbrev pub turn_reply : Result (Option (Sent × Exit)) Refusal → Reply
+turn_reply a = reply_by left_reply a
 
-abbrev pub report_reply : Reported → Reply
-report_reply (reports.Mark n) = reported n
-report_reply (reports.No r) = refused (number_of r)
+abbrev pub ready_reply : Result Readiness Refusal → Reply
+ready_reply a = reply_by (λ w. word w.word w.count) a
 
-abbrev pub bucket_reply : Bucketed → Reply
-bucket_reply (counts.Count n) = counted n
-bucket_reply (counts.No r) = refused (number_of r)
+-- the list, and the position in it
+abbrev pub where_reply : Result (ListKind × ℕ) Refusal → Reply
+where_reply a = reply_by (λ v. found (kind_of v.0) v.1) a
 
-abbrev pub show_reply : Shown → Reply
-show_reply (parts.Part x n) = part x.0 n
-show_reply (parts.No r) = refused (number_of r)
+abbrev pub report_reply : Result ℕ Refusal → Reply
+report_reply a = reply_by reported a
 
--- the ten bytes beside stitch's answer: the record, or zeros where there is none
+abbrev pub bucket_reply : Result ℕ Refusal → Reply
+bucket_reply a = reply_by counted a
+
+-- the node, and how many bytes of its slot
+abbrev pub show_reply : Result (EntryId × ℕ) Refusal → Reply
+show_reply a = reply_by (λ x. part x.0.0 x.1) a
+
+-- the ten bytes of a reply to a stitch: the record, or zeros where there is none
 abbrev pub record_in : Reply → List ℕ
 record_in (refused n) = replicate 10 0
 record_in done = replicate 10 0

@@ -1,5 +1,5 @@
 -- The judge of a call, apart from what the call does: the first rule that applies, or none. Assumes nothing.
-use Rattle.std.specs.Prelude.{◌≡◌, List, ℕ}
+use Rattle.std.specs.Prelude.{◌≡◌, List, ℕ, Result, Ok, Err}
 use Rattle.ledger.specs.Settings.{Settings}
 use Rattle.ledger.specs.Rules.{guard}
 use Rattle.ledger.specs.Ledger.{Ledger}
@@ -8,16 +8,15 @@ use Rattle.ledger.specs.Answers.{number_of}
 use Rattle.layout.specs.declared.Shape.{Shape}
 use Rattle.layout.specs.Tables.{settings_of, Laid}
 use Rattle.layout.specs.Picture.{settings_in, StateOf}
-use Rattle.ledger.specs.declared.Verdict.{Verdict}
-use Rattle.ledger.specs.declared.Verdict.TheVariants.{Go, No}
+use Rattle.ledger.specs.declared.Refusal.{Refusal}
 
 pub data Judgement : Type 0 where
   good : Judgement
   bad : ℕ → Judgement
 
-abbrev pub judgement_of : Verdict → Judgement
-judgement_of Go = good
-judgement_of (No r) = bad (number_of r)
+abbrev pub judgement_of : Result Unit Refusal → Judgement
+judgement_of (Ok u) = good
+judgement_of (Err r) = bad (number_of r)
 
 unfoldable pub judged : Settings → Ledger → Act → Judgement
 judged S L a = guard (rules S L a) bad good
