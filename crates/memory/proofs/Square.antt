@@ -293,11 +293,11 @@ module _ (S : Settings) (ok : Roomy S) (m : List ℕ) (s : StateOf S m) where
   -- a tick writes what it changes of the ledger
   tick_painted : (c : Clock) (p : ℕ) (k : Packet) (m' : List ℕ) (N : Ledger) → p < S.ports → Painted m' N → Painted (tick_mem S c p k m') (ticked c p k N)
   unfolding tick_mem ticked
-  tick_painted untimed p k m' N hp f = f
-  tick_painted (at time) p k m' N hp f =
+  tick_painted untimed p k m' N has_port f = f
+  tick_painted (at time) p k m' N has_port f =
       let b : ℕ = bucket_of (wait_of time k.stamp) in
       let i : ℕ = bucket# p b in
-      let h : i < tall S buckets = bucket_lt S p b hp (bucket_in (wait_of time k.stamp)) in
+      let h : i < tall S buckets = bucket_lt S p b has_port (bucket_in (wait_of time k.stamp)) in
       let v : get S m' Buckets i ≡ bucket_at N p b =
       unfold ledger_in in
       (sym (get_d_table (get S m' Buckets) (tall S buckets) i 0 h) ∙ ap (λ (L' : Ledger). bucket_at L' p b) f.shows) in
