@@ -8,8 +8,7 @@ use native.Mathlib.Decide.{ℕ_discrete}
 use native.Mathlib.Omega.{arith}
 use lib.ListN.{length, get_or}
 use lib.Dec.{ltb, leb}
-use Rattle.ledger.specs.declared.Finding.{Finding}
-use Rattle.ledger.specs.declared.Finding.TheVariants.{Whole, At}
+use Rattle.std.specs.Prelude.{Option, None, Some}
 use Rattle.ledger.specs.Settings.{Settings, setting_count, in_row, out_from, first_out, ids}
 use Rattle.ledger.specs.Ledger.{prefetched, Column, last, mapped, tall, bound, list_at, last_of, map_of}
 use Rattle.ledger.proofs.Tests.{true≢false, ltb_yes, ltb_is, leb_yes, leb_is}
@@ -30,7 +29,7 @@ record Stops (ok : ℕ → Bool) (i e x : ℕ) : Type 0 where
   wrong : ok x ≡ false
   before : (k : ℕ) → i ≤ k → k < x → ok k ≡ true
 
-from_stops : (ok : ℕ → Bool) (n i x : ℕ) → first_from ok i n ≡ At x → Stops ok i (i + n) x
+from_stops : (ok : ℕ → Bool) (n i x : ℕ) → first_from ok i n ≡ Some x → Stops ok i (i + n) x
 unfolding first_from
 from_stops ok zero i x e = absurd (let z : ◌≡◌ {A = ℕ} 0 1 = cc in omega arith)
 from_stops ok (suc n) i x e = go (ok i) refl e (from_stops ok n (suc i) x)
@@ -39,7 +38,7 @@ from_stops ok (suc n) i x e = go (ok i) refl e (from_stops ok n (suc i) x)
     later t s k below above (yes p) = ap ok p ∙ t
     later t s k below above (no p) = s.before k (omega arith) above
 
-    go : (b : Bool) → ok i ≡ b → cond b (first_from ok (suc i) n) (At i) ≡ At x → (first_from ok (suc i) n ≡ At x → Stops ok (suc i) (suc i + n) x)
+    go : (b : Bool) → ok i ≡ b → cond b (first_from ok (suc i) n) (Some i) ≡ Some x → (first_from ok (suc i) n ≡ Some x → Stops ok (suc i) (suc i + n) x)
         → Stops ok i (i + suc n) x
     go true t d rest =
         let s = rest d in
@@ -49,7 +48,7 @@ from_stops ok (suc n) i x e = go (ok i) refl e (from_stops ok n (suc i) x)
         record { low = omega arith; inside = omega arith; wrong = ap ok p ∙ t; before = λ k below above. absurd (omega arith) }
 
 -- so of n numbers, where to pass is to be right
-pub first_wrong : (ok : ℕ → Bool) (Right : ℕ → Type 0) (n : ℕ) → ((k : ℕ) → k < n → (ok k ≡ true) ↔ Right k) → (x : ℕ) → first ok n ≡ At x
+pub first_wrong : (ok : ℕ → Bool) (Right : ℕ → Type 0) (n : ℕ) → ((k : ℕ) → k < n → (ok k ≡ true) ↔ Right k) → (x : ℕ) → first ok n ≡ Some x
     → (x < n) × (Right x → ⊥) × ((k : ℕ) → k < x → Right k)
 first_wrong ok Right n means x e =
     let s = from_stops ok n 0 x e in
@@ -58,9 +57,9 @@ first_wrong ok Right n means x e =
 
 -- ---- rule (a): the first setting that is out of its row, or the number after them
 
-abbrev pub found_or : ℕ → Finding → ℕ
-found_or n Whole = n
-found_or n (At x) = x
+abbrev pub found_or : ℕ → Option ℕ → ℕ
+found_or n None = n
+found_or n (Some x) = x
 
 out_from_lem : (S : Settings) (n i : ℕ) → out_from S i n ≡ found_or (i + n) (first_from (in_row S) i n)
 unfolding first_from
@@ -71,7 +70,7 @@ out_from_lem S (suc n) i = go (in_row S i) (out_from_lem S n (suc i))
     next = omega arith
 
     go : (b : Bool) → out_from S (suc i) n ≡ found_or (suc i + n) (first_from (in_row S) (suc i) n)
-        → cond b (out_from S (suc i) n) i ≡ found_or (i + suc n) (cond b (first_from (in_row S) (suc i) n) (At i))
+        → cond b (out_from S (suc i) n) i ≡ found_or (i + suc n) (cond b (first_from (in_row S) (suc i) n) (Some i))
     go true e = e ∙ ap (λ (k : ℕ). found_or k (first_from (in_row S) (suc i) n)) next
     go false e = refl
 

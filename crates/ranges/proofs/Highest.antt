@@ -1,26 +1,19 @@
 -- The highest of some numbers, and what it says of the map. Assumes nothing.
-use mathlib.Core.Path.{◌≡◌, refl, sym, ◌∙◌}
+use mathlib.Core.Path.{◌≡◌, refl, sym, ap, ◌∙◌}
 use mathlib.Core.List.{List, [], ◌∷◌}
-use Prim.Native.Nat.{ℕ, zero, suc, ◌+◌, ◌-◌, ◌≤◌, ◌<◌}
+use Prim.Native.Nat.{ℕ, zero, suc, ◌+◌, ◌-◌, ◌≤◌, ◌<◌, max}
 use native.Mathlib.Numerals.{add-one}
-use native.Mathlib.Decide.{ℕ_discrete, dec_lt}
+use native.Mathlib.Decide.{ℕ_discrete}
 use native.Mathlib.Omega.{arith}
 use Rattle.ledger.specs.Settings.{Settings, ids}
 use Rattle.ledger.specs.Ledger.{last, mapped}
-use Rattle.ledger.proofs.Tests.{ltb_is, ltb_not}
+use Rattle.ledger.proofs.Tests.{ltb_is}
 use Rattle.layout.specs.declared.Table.TheVariants.{Mapped}
 use Rattle.layout.specs.Tables.{get}
 use Rattle.ranges.specs.First.{first}
-use Rattle.ranges.specs.Ranges.{low, higher, highest, fits_at}
+use Rattle.ranges.specs.Ranges.{low, highest, fits_at}
 use Rattle.ranges.proofs.First.{first_enough}
 use Rattle.ranges.proofs.Items.{fits_number}
-
-higher_le : (a b : ℕ) → (a ≤ higher a b) × (b ≤ higher a b)
-higher_le a b = go (dec_lt a b)
-  where
-    go : Dec (a < b) → (a ≤ higher a b) × (b ≤ higher a b)
-    go (yes h) = rw (ltb_is a b h) (omega arith, omega arith)
-    go (no h) = rw (ltb_not a b (omega arith)) (omega arith, omega arith)
 
 -- each is at most the highest
 each_le : (f : ℕ → ℕ) (n i : ℕ) → i < n → f i ≤ highest f n
@@ -28,11 +21,11 @@ unfolding highest
 each_le f zero i h = absurd (omega arith)
 each_le f (suc n) i h = go (ℕ_discrete i n) (each_le f n i)
   where
-    go : Dec (i ≡ n) → (i < n → f i ≤ highest f n) → f i ≤ higher (highest f n) (f n)
-    go (yes e) rest = rw e (higher_le (highest f n) (f n)).1
-    go (no e) rest = omega (arith, rest (omega arith), (higher_le (highest f n) (f n)).0)
+    go : Dec (i ≡ n) → (i < n → f i ≤ highest f n) → f i ≤ max (highest f n) (f n)
+    go (yes e) rest = omega (arith, ap f e)
+    go (no e) rest = omega (arith, rest (omega arith))
 
-pub highest_next : (f : ℕ → ℕ) (n top : ℕ) → top ≡ highest f n → higher top (f n) ≡ highest f (n + 1)
+pub highest_next : (f : ℕ → ℕ) (n top : ℕ) → top ≡ highest f n → max top (f n) ≡ highest f (n + 1)
 unfolding highest
 highest_next f n top e = rw (add-one n, e)
 

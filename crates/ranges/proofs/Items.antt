@@ -9,7 +9,7 @@ use native.Mathlib.Decide.{dec_lt}
 use native.Mathlib.Omega.{arith}
 use lib.ListN.{length, get_or}
 use lib.Dec.{ltb, leb}
-use Rattle.ledger.specs.declared.Finding.TheVariants.{Whole}
+use Rattle.std.specs.Prelude.{None}
 use Rattle.ledger.specs.Settings.{Settings}
 use Rattle.ledger.specs.Ledger.{prefetched, place#, Column, arrival, outward, last, mapped, halted, buckets, tall, bound, list_at}
 use Rattle.ledger.specs.Sound.{sum, InRange, Roomy}
@@ -122,6 +122,6 @@ module _ (S : Settings) (m : List ℕ) where
             by (yes a) f = rw (ltb_is k (tall S c) a) (ltb_is _ _ (rw (shown c k a) at (I.numbers_in c k a)))
             by (no a) f = rw (ltb_not k (tall S c) (omega arith)) (f (omega arith))
 
-    pub ranges_means : (ranges_found S m ≡ Whole) ↔ InRange S (ledger_in S m)
+    pub ranges_means : (ranges_found S m ≡ None) ↔ InRange S (ledger_in S m)
     unfolding ranges_found
     ranges_means = (λ e. means ((first_all (fits_at S m) (items S)).0 e), λ I. (first_all (fits_at S m) (items S)).1 (holds I))

@@ -13,7 +13,7 @@ use Rattle.layout.specs.declared.Shape.{Shape}
 use Rattle.layout.specs.Tables.{settings_of, Laid}
 use Rattle.layout.specs.Picture.{settings_in, opens}
 use Rattle.memory.proofs.Picture.{opens_means}
-use Rattle.ranges.specs.declared.Opened.TheVariants.{Fine, Wrong}
+use Rattle.std.specs.Prelude.{Ok, Err}
 use Rattle.ranges.specs.Opening.{shape_for, settings_bytes, out_at, opened, Open}
 use Rattle.ranges.specs.Ranges.{Held}
 
@@ -63,11 +63,11 @@ and_false false = refl
 
 module _ (m : List ℕ) where
   -- rule (a) is broken, and what shows it
-  shut : opens m ≡ false → opened m ≡ Wrong (out_at m)
+  shut : opens m ≡ false → opened m ≡ Err (out_at m)
   unfolding opened
   shut e = rw e
 
-  pub opened_outside : settings_bytes ≤ length m → (first_out (settings_in m) ≡ setting_count → ⊥) → opened m ≡ Wrong (first_out (settings_in m))
+  pub opened_outside : settings_bytes ≤ length m → (first_out (settings_in m) ≡ setting_count → ⊥) → opened m ≡ Err (first_out (settings_in m))
   unfolding out_at
   opened_outside h n =
       let rows : in_rows (settings_in m) ≡ false = rows_out (settings_in m) ∙ eqb_not (first_out (settings_in m)) setting_count n in
@@ -76,24 +76,24 @@ module _ (m : List ℕ) where
   short : length m < size (settings_in m) → opens m ≡ false
   short h = rw (leb_not (size (settings_in m)) (length m) h, and_false)
 
-  pub opened_short : settings_bytes ≤ length m → first_out (settings_in m) ≡ setting_count → length m < size (settings_in m) → opened m ≡ Wrong setting_count
+  pub opened_short : settings_bytes ≤ length m → first_out (settings_in m) ≡ setting_count → length m < size (settings_in m) → opened m ≡ Err setting_count
   unfolding out_at
   opened_short t e h = rw (ltb_not (length m) settings_bytes t, e) at (shut (short h))
 
   -- too short for the settings themselves
-  pub opened_tiny : length m < settings_bytes → opened m ≡ Wrong setting_count
+  pub opened_tiny : length m < settings_bytes → opened m ≡ Err setting_count
   unfolding out_at size
   opened_tiny h = rw (ltb_is (length m) settings_bytes h) at (shut (short (omega arith)))
 
-  pub opened_is : in_rows (settings_in m) ≡ true → size (settings_in m) ≤ length m → opened m ≡ Fine (shape_for (settings_in m))
+  pub opened_is : in_rows (settings_in m) ≡ true → size (settings_in m) ≤ length m → opened m ≡ Ok (shape_for (settings_in m))
   unfolding opened
   opened_is e h = rw (e, leb_is (size (settings_in m)) (length m) h)
 
-  pub opened_fine : (s : Shape) → opened m ≡ Fine s → Open m s
+  pub opened_fine : (s : Shape) → opened m ≡ Ok s → Open m s
   unfolding opened
   opened_fine s = go (opens m) refl
     where
-      go : (b : Bool) → opens m ≡ b → cond b (Fine (shape_for (settings_in m))) (Wrong (out_at m)) ≡ Fine s → Open m s
+      go : (b : Bool) → opens m ≡ b → cond b (Ok (shape_for (settings_in m))) (Err (out_at m)) ≡ Ok s → Open m s
       go true t e =
           let p : shape_for (settings_in m) ≡ s = cc in
           let r = (opens_means m).0 t in
@@ -101,11 +101,11 @@ module _ (m : List ℕ) where
           (record { laid = laid_for (settings_in m) (roomy (settings_in m) r.0); settings_are = refl; rows = r.0; long = r.1 })
       go false t e = absurd (let z : ◌≡◌ {A = ℕ} 0 1 = cc in omega arith)
 
-  pub opened_wrong : (i : ℕ) → opened m ≡ Wrong i → (opens m ≡ false) × (out_at m ≡ i)
+  pub opened_wrong : (i : ℕ) → opened m ≡ Err i → (opens m ≡ false) × (out_at m ≡ i)
   unfolding opened
   opened_wrong i = go (opens m) refl
     where
-      go : (b : Bool) → opens m ≡ b → cond b (Fine (shape_for (settings_in m))) (Wrong (out_at m)) ≡ Wrong i → (opens m ≡ false) × (out_at m ≡ i)
+      go : (b : Bool) → opens m ≡ b → cond b (Ok (shape_for (settings_in m))) (Err (out_at m)) ≡ Err i → (opens m ≡ false) × (out_at m ≡ i)
       go true t e = absurd (let z : ◌≡◌ {A = ℕ} 0 1 = cc in omega arith)
       go false t e = let p : out_at m ≡ i = cc in (t, p)
 

@@ -7,7 +7,7 @@ use native.Mathlib.Nat.{div-add-mod', div-lt_iff_lt-mul, mod-lt}
 use native.Mathlib.Decide.{dec_lt}
 use native.Mathlib.Omega.{arith}
 use lib.Dec.{ltb, leb}
-use Rattle.ledger.specs.declared.Finding.TheVariants.{Whole, At}
+use Rattle.std.specs.Prelude.{None, Some}
 use Rattle.ledger.specs.Settings.{Settings, row}
 use Rattle.ledger.specs.Ledger.{place#}
 use Rattle.ledger.specs.Sound.{Roomy}
@@ -23,7 +23,7 @@ use Rattle.ranges.proofs.Items.{fits_list, prefetch_lt, prefetch_is}
 module _ (S : Settings) (m : List ℕ) (R : Roomy S) where
   -- the last served queues and the map are in range
   abbrev pub Low : Type 0
-  Low = first (fits_at S m) (low S) ≡ Whole
+  Low = first (fits_at S m) (low S) ≡ None
 
   -- and no prefetch list is longer than there are slots
   abbrev pub Few : Type 0
@@ -41,7 +41,7 @@ module _ (S : Settings) (m : List ℕ) (R : Roomy S) where
       let e = f (prefetch_at S j) (prefetch_lt S m j (omega (arith, R.some_queues)) h) in
       rw (ltb_not (prefetch_at S j % row S) (2 + S.queues) (omega (arith, prefetch_column j))) at e
 
-  pub low_ranges : Low → Few → ranges_found S m ≡ Whole
+  pub low_ranges : Low → Few → ranges_found S m ≡ None
   unfolding ranges_found
   low_ranges e f = (first_all (fits_at S m) (items S)).1 (λ k h. go k h (dec_lt k (low S)))
     where
@@ -50,11 +50,11 @@ module _ (S : Settings) (m : List ℕ) (R : Roomy S) where
       go k h (no a) = fits_list S m k (k - low S) (omega arith) ∙ few_item f (k - low S) (omega arith)
 
   -- what is found of the last served queues and the map is found of all
-  pub low_found : (i : ℕ) → first (fits_at S m) (low S) ≡ At i → ranges_found S m ≡ At i
+  pub low_found : (i : ℕ) → first (fits_at S m) (low S) ≡ Some i → ranges_found S m ≡ Some i
   unfolding ranges_found
   low_found i e = first_more (fits_at S m) (low S) (items S) i (omega arith) e
 
-  pub ranges_low : ranges_found S m ≡ Whole → Low
+  pub ranges_low : ranges_found S m ≡ None → Low
   unfolding ranges_found
   ranges_low e = (first_all (fits_at S m) (low S)).1 (λ k h. (first_all (fits_at S m) (items S)).0 e k (omega arith))
 
@@ -73,12 +73,12 @@ module _ (S : Settings) (m : List ℕ) (R : Roomy S) where
         prefetch_is S m (l / row S) q hq ∙ ap (λ (c : ℕ). l / row S * row S + c) column ∙ div-add-mod' l (row S),
       )
 
-  item_few : ranges_found S m ≡ Whole → (j : ℕ) → j < S.ports * S.queues → leb (get S m Count (prefetch_at S j)) S.slots ≡ true
+  item_few : ranges_found S m ≡ None → (j : ℕ) → j < S.ports * S.queues → leb (get S m Count (prefetch_at S j)) S.slots ≡ true
   unfolding ranges_found
   item_few e j h =
       sym (fits_list S m (low S + j) j refl) ∙ (first_all (fits_at S m) (items S)).0 e (low S + j) (omega arith)
 
-  pub ranges_few : ranges_found S m ≡ Whole → Few
+  pub ranges_few : ranges_found S m ≡ None → Few
   unfolding few_at
   ranges_few e l h = go (ltb (l % row S) (2 + S.queues)) refl
     where

@@ -1,13 +1,11 @@
 -- Rule (a): the settings are in their rows, and the memory is long enough for a state of such settings. Assumes nothing.
-use Rattle.std.specs.Prelude.{◌≡◌, true, cond, List, ℕ, ◌*◌, ◌^◌, ◌≤◌, length, ltb}
+use Rattle.std.specs.Prelude.{◌≡◌, true, cond, List, ℕ, ◌*◌, ◌^◌, ◌≤◌, length, ltb, Result, Ok, Err}
 use Rattle.ledger.specs.Settings.{Settings, setting_count, row, in_rows, first_out, size}
 use Rattle.ledger.specs.Header.{form, least_length}
 use Rattle.layout.specs.declared.Shape.{Shape}
 use Rattle.layout.specs.declared.Table.TheVariants.{Arrival, Head, Next}
 use Rattle.layout.specs.Tables.{cells, lists, all, start_of, settings_of, Laid}
 use Rattle.layout.specs.Picture.{settings_in, opens}
-use Rattle.ranges.specs.declared.Opened.{Opened}
-use Rattle.ranges.specs.declared.Opened.TheVariants.{Fine, Wrong}
 
 -- the shape of a state of these settings
 abbrev pub shape_for : Settings → Shape
@@ -41,8 +39,8 @@ unfoldable pub out_at : List ℕ → ℕ
 out_at m = cond (ltb (length m) settings_bytes) setting_count (first_out (settings_in m))
 
 -- what a memory is opened as
-unfoldable pub opened : List ℕ → Opened
-opened m = cond (opens m) (Fine (shape_for (settings_in m))) (Wrong (out_at m))
+unfoldable pub opened : List ℕ → Result Shape ℕ
+opened m = cond (opens m) (Ok (shape_for (settings_in m))) (Err (out_at m))
 
 -- what it is to be opened with shape s
 pub record Open (m : List ℕ) (s : Shape) : Type 0 where

@@ -1,8 +1,6 @@
 -- Rule (b), item by item: the numbers of the columns that are tested, then the prefetch lists, port by port and queue by queue.
 -- Assumes nothing.
-use Rattle.std.specs.Prelude.{◌≡◌, Bool, cond, ◌||◌, List, [], ◌∷◌, ℕ, zero, suc, ◌+◌, ◌-◌, ◌*◌, ◌/◌, ◌%◌, ◌≤◌, ◌<◌, length, ltb, leb}
-use Rattle.ledger.specs.declared.Finding.{Finding}
-use Rattle.ledger.specs.declared.Finding.TheVariants.{Whole}
+use Rattle.std.specs.Prelude.{◌≡◌, Bool, cond, ◌||◌, List, [], ◌∷◌, ℕ, zero, suc, ◌+◌, ◌-◌, ◌*◌, ◌/◌, ◌%◌, ◌≤◌, ◌<◌, max, length, ltb, leb, Option, None}
 use Rattle.ledger.specs.Settings.{Settings, row, size}
 use Rattle.ledger.specs.Ledger.{prefetched, place#, Column, last, mapped, tall, bound}
 use Rattle.ledger.specs.Sound.{sum}
@@ -35,12 +33,9 @@ unfoldable pub fits_at : Settings → List ℕ → ℕ → Bool
 fits_at S m = fits_in S m bounded
 
 -- the highest of the numbers f 0, f 1, .. : n of them; 0 where there are none
-abbrev pub higher : ℕ → ℕ → ℕ
-higher a b = cond (ltb a b) b a
-
 unfoldable pub highest : (ℕ → ℕ) → ℕ → ℕ
 highest f zero = 0
-highest f (suc n) = higher (highest f n) (f n)
+highest f (suc n) = max (highest f n) (f n)
 
 -- the same by a list's column among its port's: n nodes are few enough for it
 unfoldable pub few_at : Settings → ℕ → ℕ → Bool
@@ -50,7 +45,7 @@ abbrev pub few_in : Settings → List ℕ → ℕ → Bool
 few_in S m l = few_at S (l % row S) (get S m Count l)
 
 -- the first item that is not
-unfoldable pub ranges_found : Settings → List ℕ → Finding
+unfoldable pub ranges_found : Settings → List ℕ → Option ℕ
 ranges_found S m = first (fits_at S m) (items S)
 
 -- a memory that holds a state of shape s, and item i of it
@@ -67,4 +62,4 @@ pub record Sought (s : Shape) (m : List ℕ) (i n : ℕ) : Type 0 where
   pub held : Held s m
   pub here : i ≤ n
   pub most : n ≤ items (settings_of s)
-  pub before : first (fits_at (settings_of s) m) i ≡ Whole
+  pub before : first (fits_at (settings_of s) m) i ≡ None

@@ -11,63 +11,55 @@ ghost use Rattle.layout.specs.Access.{Reads};
 ghost use Rattle.layout.specs.Picture.{settings_in};
 ghost use Rattle.ranges.specs.First.{first};
 ghost use Rattle.ranges.specs.Opening.{opened};
-ghost use Rattle.ranges.specs.Ranges.{low, higher, highest, fits_at, prefetch_at, few_at, ranges_found, Held, Item, Sought};
+ghost use Rattle.ranges.specs.Ranges.{low, highest, fits_at, prefetch_at, few_at, ranges_found, Held, Item, Sought};
 
 use layout::{Shape, Table};
-use ledger::Finding;
 use settings::Settings;
 
-// What a memory is opened as: rule (a) holds, and the state has this shape; or it doesn't hold, and this item shows it.
-#[derive(Clone, Copy)]
-pub enum Opened {
-    Fine(Shape),
-    Wrong(usize),
-}
-
 // The settings as they stand in a memory, in their rows or not.
+#[tactic(auto, unfolding(layout::specs::Picture::settings_in))]
 fn read(m: &[u8]) -> Settings
     requires { 16 ≤ length m.now }
     ensures { told_settings result ≡ settings_in m.now }
 {
     Settings {
-        ports: numbers::read2(m, 0) as u32,
-        queues: numbers::read2(m, 2) as u32,
-        nodes: numbers::read2(m, 4) as u32,
-        beat: numbers::read2(m, 6) as u32,
-        slots: numbers::read2(m, 8) as u32,
-        credit: numbers::read2(m, 10) as u32,
-        edition: numbers::read2(m, 12) as u32,
-        packets: numbers::read2(m, 14) as u32,
+        ports: u32::from(numbers::read2(m, 0)),
+        queues: u32::from(numbers::read2(m, 2)),
+        nodes: u32::from(numbers::read2(m, 4)),
+        beat: u32::from(numbers::read2(m, 6)),
+        slots: u32::from(numbers::read2(m, 8)),
+        credit: u32::from(numbers::read2(m, 10)),
+        edition: u32::from(numbers::read2(m, 12)),
+        packets: u32::from(numbers::read2(m, 14)),
     }
 }
 
-// Rule (a).
-pub fn open(m: &[u8]) -> Opened
+// Rule (a): the shape of the state, where the rule holds; else the item that shows that it doesn't.
+pub fn open(m: &[u8]) -> Result<Shape, usize>
     ensures { result ≡ opened m.now }
 {
     if m.len() < 16 {
-        return Opened::Wrong(8);
+        return Err(8);
     }
     let told = read(m);
     let out = settings::first_out(told);
     if out != 8 {
-        return Opened::Wrong(out);
+        return Err(out);
     }
     let s = layout::shape_of(told);
-    let size = layout::size_of(s);
-    if m.len() < size {
-        return Opened::Wrong(8);
+    if m.len() < layout::size_of(s) {
+        return Err(8);
     }
-    Opened::Fine(s)
+    Ok(s)
 }
 
 // The number of prefetch list j, which counts those lists alone, port by port and queue by queue.
+#[tactic(auto, unfolding(crate::specs::Ranges::prefetch_at))]
 fn prefetch_list(s: Shape, j: usize) -> usize
     requires { Laid s × (j < s.ports * s.queues) }
     ensures { result ≡ prefetch_at (settings_of s) j }
 {
-    let queues = s.queues;
-    geometry::prefetch_list(s, j / queues, j % queues)
+    geometry::prefetch_list(s, j / s.queues, j % s.queues)
 }
 
 // How many items are numbers: the ports' last served queues, and the map's entries.
@@ -83,8 +75,7 @@ fn below(m: &[u8], s: Shape, t: Table, i: usize, bound: usize) -> bool
     requires { Reads 1 s t i m.now }
     ensures { result ≡ ltb (get (settings_of s) m.now t i) bound }
 {
-    let n = layout::get1(m, s, t, i) as usize;
-    n < bound
+    usize::from(layout::get1(m, s, t, i)) < bound
 }
 
 // Whether item i, a number, is in range.
@@ -92,11 +83,10 @@ fn number_in_range(m: &[u8], s: Shape, i: usize) -> bool
     requires { Held s m.now × (i < low (settings_of s)) }
     ensures { result ≡ fits_at (settings_of s) m.now i }
 {
-    let ports = s.ports;
-    if i < ports {
+    if i < s.ports {
         return below(m, s, Table::Last, i, s.queues);
     }
-    below(m, s, Table::Mapped, i - ports, ports)
+    below(m, s, Table::Mapped, i - s.ports, s.ports)
 }
 
 // Whether item i is in range.
@@ -108,44 +98,31 @@ fn in_range(m: &[u8], s: Shape, i: usize) -> bool
     if i < n {
         return number_in_range(m, s, i);
     }
-    let slots = s.slots;
     let count = layout::get4(m, s, Table::Count, prefetch_list(s, i - n)) as usize;
-    count <= slots
+    count <= s.slots
 }
 
 // (b): whether a list of a port's column may have so many nodes. A prefetch list has no more than there are slots.
+#[tactic(auto, unfolding(crate::specs::Ranges::few_at))]
 pub fn few_enough(s: Shape, column: usize, count: u32) -> bool
     requires { Laid s }
     ensures { result ≡ few_at (settings_of s) column count }
 {
-    if column < 2 + s.queues {
-        return true;
-    }
-    let held = count as usize;
-    held <= s.slots
+    column < 2 + s.queues || count as usize <= s.slots
 }
 
 // The first of the first n items that is out of range, where those before `from` are known to be in range: the last served queues and the map come
 // first, so they can be tested by themselves.
-fn first_outside(m: &[u8], s: Shape, from: usize, n: usize) -> Finding
+fn first_outside(m: &[u8], s: Shape, from: usize, n: usize) -> Option<usize>
     requires { Sought s m.now from n }
     ensures { result ≡ first (fits_at (settings_of s) m.now) n }
 {
-    let mut i = from;
-    while i < n {
+    for i in from..n {
         if !in_range(m, s, i) {
-            return Finding::At(i);
+            return Some(i);
         }
-        i += 1;
     }
-    Finding::Whole
-}
-
-// The higher of two numbers.
-fn higher(a: u8, b: u8) -> u8
-    ensures { result ≡ higher a b }
-{
-    if a < b { b } else { a }
+    None
 }
 
 // The highest of the map's entries: a comparison each, and nothing to decide in between, so that a compiler takes many in one step.
@@ -154,34 +131,30 @@ fn highest_entry(m: &[u8], s: Shape) -> u8
     ensures { result ≡ highest (get (settings_of s) m.now Mapped) ids }
 {
     let mut top: u8 = 0;
-    let mut i: usize = 0;
-    while i < 4096 {
-        top = higher(top, layout::get1(m, s, Table::Mapped, i));
-        i += 1;
+    for i in 0..4096 {
+        top = top.max(layout::get1(m, s, Table::Mapped, i));
     }
     top
 }
 
 // The first number that is out of range. The map is mostly right, and then the last served queues decide.
-pub fn number_outside(m: &[u8], s: Shape) -> Finding
+pub fn number_outside(m: &[u8], s: Shape) -> Option<usize>
     requires { Held s m.now }
     ensures { result ≡ first (fits_at (settings_of s) m.now) (low (settings_of s)) }
 {
-    let ports = s.ports;
-    let top = highest_entry(m, s) as usize;
-    if top < ports {
-        return first_outside(m, s, 0, ports);
+    if usize::from(highest_entry(m, s)) < s.ports {
+        return first_outside(m, s, 0, s.ports);
     }
     first_outside(m, s, 0, number_items(s))
 }
 
 // Rule (b): the first item that is out of range. The numbers are asked first, since the map is tested in wide steps.
-pub fn ranges(m: &[u8], s: Shape) -> Finding
+pub fn ranges(m: &[u8], s: Shape) -> Option<usize>
     requires { Held s m.now }
     ensures { result ≡ ranges_found (settings_of s) m.now }
 {
-    if let Finding::At(i) = number_outside(m, s) {
-        return Finding::At(i);
+    if let Some(i) = number_outside(m, s) {
+        return Some(i);
     }
     let from = number_items(s);
     first_outside(m, s, from, from + s.ports * s.queues)

@@ -1,14 +1,9 @@
 -- What the loop of `ranges::highest_entry` keeps.
 use mathlib.Core.Path.{◌≡◌}
-use Prim.Native.Nat.{◌-◌, ◌≤◌}
-use Rattle.ledger.specs.Settings.{ids}
 use Rattle.layout.specs.declared.Table.TheVariants.{Mapped}
 use Rattle.layout.specs.Tables.{get, settings_of}
 use Rattle.ranges.specs.Ranges.{highest}
 use Rattle.ranges.proofs.highest_entry.Given as goal
 
 abbrev pub invariant-loop-i : goal.invariant-loop-i
-invariant-loop-i l = (l.i ≤ ids) × (l.top ≡ highest (get (settings_of l.s) l.m Mapped) l.i)
-
-abbrev pub decreases-loop-i : goal.decreases-loop-i
-decreases-loop-i l = ids - l.i
+invariant-loop-i l = l.top ≡ highest (get (settings_of l.s) l.m Mapped) l.i

@@ -8,15 +8,6 @@ use Rattle.layout.specs.Tables.{get, settings_of}
 use Rattle.ranges.proofs.Items.{fits_list, prefetch_lt}
 use Rattle.ranges.proofs.in_range.Goals as goal
 
-pub number_in_range-requires : goal.number_in_range-requires
-number_in_range-requires c = (c.requires.held, omega (arith, c.number_items-n.ensures))
-
-pub returns-then-i-n : goal.returns-then-i-n
-returns-then-i-n c = c.number_in_range.ensures
-
-pub prefetch_list-requires : goal.prefetch_list-requires
-prefetch_list-requires c = (c.requires.held.laid, omega (arith, c.number_items-n.ensures, c.requires.low))
-
 pub get4-count-requires : goal.get4-count-requires
 get4-count-requires c =
     let a = c.args in

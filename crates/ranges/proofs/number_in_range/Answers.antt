@@ -7,8 +7,8 @@ use Rattle.layout.specs.Tables.{settings_of}
 use Rattle.ranges.proofs.Items.{fits_number}
 use Rattle.ranges.proofs.number_in_range.Goals as goal
 
-pub returns-then-i-ports : goal.returns-then-i-ports
-returns-then-i-ports c =
+pub returns-then-i-s : goal.returns-then-i-s
+returns-then-i-s c =
     let a = c.args in
     c.below.ensures ∙ sym (fits_number (settings_of a.s) a.m.now [] _ last refl a.i _ (omega arith) (omega arith))
 

@@ -8,7 +8,7 @@ use Rattle.ledger.proofs.Rows.{roomy, rows_out}
 use Rattle.settings.specs.Told.{told_settings}
 use Rattle.layout.specs.Tables.{settings_of}
 use Rattle.layout.specs.Picture.{settings_in}
-use Rattle.ranges.specs.declared.Opened.TheVariants.{Fine, Wrong}
+use Rattle.std.specs.Prelude.{Ok, Err}
 use Rattle.ranges.specs.Opening.{shape_for}
 use Rattle.ranges.proofs.Opening.{shape_is, opened_outside, opened_short, opened_tiny, opened_is}
 use Rattle.ranges.proofs.open.Goals as goal
@@ -34,19 +34,19 @@ returns-then-m-lt16 c = sym (opened_tiny _ c.if-m-lt16.true)
 pub returns-then-out-ne8 : goal.returns-then-out-ne8
 returns-then-out-ne8 c =
     let e = out (goal.at.returns-then-out-ne8 c).After-first_out-out in
-    ap Wrong e ∙ sym (opened_outside _ (omega arith) (λ n. c.if-out-ne8.true (e ∙ n)))
+    ap Err e ∙ sym (opened_outside _ (omega arith) (λ n. c.if-out-ne8.true (e ∙ n)))
 
 pub shape_of-s-requires : goal.shape_of-s-requires
 shape_of-s-requires c = roomy _ (passed c)
 
-pub returns-then-m-size : goal.returns-then-m-size
-returns-then-m-size c =
-    sym (opened_short _ (omega arith) (none_out (goal.at.returns-then-m-size c).Else-out-ne8)
-    (omega (arith, c.size_of-size.ensures, ap size (told (goal.at.returns-then-m-size c).After-shape_of-s))))
+pub returns-then-m-size_of : goal.returns-then-m-size_of
+returns-then-m-size_of c =
+    sym (opened_short _ (omega arith) (none_out (goal.at.returns-then-m-size_of c).Else-out-ne8)
+    (omega (arith, c.size_of.ensures, ap size (told (goal.at.returns-then-m-size_of c).After-shape_of-s))))
 
 pub returns : goal.returns
 returns c =
     let s = c.shape_of-s.result in
     let rows = ap in_rows (sym c.read-told.ensures) ∙ passed (goal.at.returns c).Else-out-ne8 in
-    ap Fine (shape_is s c.shape_of-s.ensures.laid ∙ ap shape_for (told (goal.at.returns c).After-shape_of-s))
-    ∙ sym (opened_is _ rows (omega (arith, c.size_of-size.ensures, ap size (told (goal.at.returns c).After-shape_of-s))))
+    ap Ok (shape_is s c.shape_of-s.ensures.laid ∙ ap shape_for (told (goal.at.returns c).After-shape_of-s))
+    ∙ sym (opened_is _ rows (omega (arith, c.size_of.ensures, ap size (told (goal.at.returns c).After-shape_of-s))))
