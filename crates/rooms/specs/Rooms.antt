@@ -1,10 +1,11 @@
 -- What a call of the C interface answers and leaves in the lent room, read off the reply: 0 and the reply's values, or the number of the
 -- refusal and the room as it was. Assumes nothing.
-use Rattle.std.specs.Prelude.{List, [], ◌∷◌, ℕ, ◌/◌, ◌%◌, ◌^◌, set}
+use Rattle.std.specs.Prelude.{List, [], ◌∷◌, ℕ, ◌/◌, ◌%◌, ◌^◌, set, Option, None, Some}
 use Rattle.ledger.specs.Ledger.{owner, Packet}
 use Rattle.ledger.specs.declared.Broken.{Broken}
-use Rattle.ledger.specs.declared.Broken.TheVariants.{Nothing, A, B, C, D, E, F, G, I}
-use Rattle.ledger.specs.Calls.{Side, inside, outside, Reply, refused, done, entry, stitched, idle, leaves, word, found, reported, counted, part}
+use Rattle.ledger.specs.declared.Rule.{Rule}
+use Rattle.ledger.specs.declared.Rule.TheVariants.{A, B, C, D, E, F, G, I}
+use Rattle.ledger.specs.Calls.{Side, inside, outside, Reply, entry, stitched, idle, leaves, word, reported, counted}
 use Rattle.ledger.specs.Answers.{number_in}
 use Rattle.ledger.specs.Packets.{slot_at, part_or}
 
@@ -27,17 +28,8 @@ shown room old x = (number_in x, room x old)
 -- ---- arrive, prefetch: the entry id
 
 abbrev pub entry_room : Reply → ℕ → ℕ
-entry_room (refused n) old = old
-entry_room done old = old
 entry_room (entry x) old = x
-entry_room (stitched b) old = old
-entry_room idle old = old
-entry_room (leaves k s) old = old
-entry_room (word w n) old = old
-entry_room (found v i) old = old
-entry_room (reported n) old = old
-entry_room (counted n) old = old
-entry_room (part x n) old = old
+entry_room _ old = old
 
 -- of a whole packet, whose packet memory has been left by the call
 abbrev pub told_packet : ℕ → Reply × List ℕ × List ℕ → ℕ × List ℕ × List ℕ × ℕ
@@ -46,17 +38,8 @@ told_packet old out = (number_in out.0, out.1, out.2, entry_room out.0 old)
 -- ---- stitch: the ten bytes of the record
 
 abbrev pub record_room : Reply → List ℕ → List ℕ
-record_room (refused n) old = old
-record_room done old = old
-record_room (entry x) old = old
 record_room (stitched b) old = b
-record_room idle old = old
-record_room (leaves k s) old = old
-record_room (word w n) old = old
-record_room (found v i) old = old
-record_room (reported n) old = old
-record_room (counted n) old = old
-record_room (part x n) old = old
+record_room _ old = old
 
 -- ---- turn: sixteen bytes
 
@@ -73,32 +56,15 @@ sent_bytes k s =
 
 -- an idle turn writes the kind alone
 abbrev pub sent_room : Reply → List ℕ → List ℕ
-sent_room (refused n) old = old
-sent_room done old = old
-sent_room (entry x) old = old
-sent_room (stitched b) old = old
 sent_room idle old = set old 0 0
 sent_room (leaves k s) old = sent_bytes k s
-sent_room (word w n) old = old
-sent_room (found v i) old = old
-sent_room (reported n) old = old
-sent_room (counted n) old = old
-sent_room (part x n) old = old
+sent_room _ old = old
 
 -- ---- ready: the word and the count
 
 abbrev pub ready_room : Reply → ℕ × ℕ → ℕ × ℕ
-ready_room (refused n) old = old
-ready_room done old = old
-ready_room (entry x) old = old
-ready_room (stitched b) old = old
-ready_room idle old = old
-ready_room (leaves k s) old = old
 ready_room (word w n) old = (w, n)
-ready_room (found v i) old = old
-ready_room (reported n) old = old
-ready_room (counted n) old = old
-ready_room (part x n) old = old
+ready_room _ old = old
 
 -- ---- show: the owner, where the packet starts in its packet memory, and its length
 
@@ -108,56 +74,34 @@ part_room r old = part_or old (λ x n. (owner x, slot_at x, n)) r
 -- ---- report: the mark
 
 abbrev pub mark_room : Reply → ℕ → ℕ
-mark_room (refused n) old = old
-mark_room done old = old
-mark_room (entry x) old = old
-mark_room (stitched b) old = old
-mark_room idle old = old
-mark_room (leaves k s) old = old
-mark_room (word w n) old = old
-mark_room (found v i) old = old
 mark_room (reported n) old = n
-mark_room (counted n) old = old
-mark_room (part x n) old = old
+mark_room _ old = old
 
 -- ---- bucket: what it counts
 
 abbrev pub bucket_room : Reply → ℕ → ℕ
-bucket_room (refused n) old = old
-bucket_room done old = old
-bucket_room (entry x) old = old
-bucket_room (stitched b) old = old
-bucket_room idle old = old
-bucket_room (leaves k s) old = old
-bucket_room (word w n) old = old
-bucket_room (found v i) old = old
-bucket_room (reported n) old = old
 bucket_room (counted n) old = n
-bucket_room (part x n) old = old
+bucket_room _ old = old
 
 -- ---- find: the rule's number, 1 for (a) and so on, and the item; 0 and 0 where no rule is broken
 
-abbrev pub rule_number : Broken → ℕ
-rule_number Nothing = 0
-rule_number (A i) = 1
-rule_number (B i) = 2
-rule_number (C i) = 3
-rule_number (D i) = 4
-rule_number (E i) = 5
-rule_number (F i) = 6
-rule_number (G i) = 7
-rule_number (I i) = 9
+abbrev pub number_of_rule : Rule → ℕ
+number_of_rule A = 1
+number_of_rule B = 2
+number_of_rule C = 3
+number_of_rule D = 4
+number_of_rule E = 5
+number_of_rule F = 6
+number_of_rule G = 7
+number_of_rule I = 9
 
-abbrev pub item_number : Broken → ℕ
-item_number Nothing = 0
-item_number (A i) = i
-item_number (B i) = i
-item_number (C i) = i
-item_number (D i) = i
-item_number (E i) = i
-item_number (F i) = i
-item_number (G i) = i
-item_number (I i) = i
+abbrev pub rule_number : Option Broken → ℕ
+rule_number None = 0
+rule_number (Some b) = number_of_rule b.rule
 
-abbrev pub found_numbers : Broken → ℕ × ℕ
+abbrev pub item_number : Option Broken → ℕ
+item_number None = 0
+item_number (Some b) = b.item
+
+abbrev pub found_numbers : Option Broken → ℕ × ℕ
 found_numbers b = (rule_number b, item_number b)
