@@ -1,12 +1,13 @@
 -- The step's table: one test, computed over the whole table, finds each entry to be the bitwise step's answer at its place. Assumes nothing.
-use mathlib.Core.Path.{◌≡◌, ◌∙◌, ap, sym}
+use mathlib.Core.Path.{◌≡◌, refl, ◌∙◌, ap, sym}
 use mathlib.Core.Bool.{Bool, true, false, cond}
 use mathlib.Core.List.{List, [], ◌∷◌}
 use Prim.Native.Nat.{ℕ, zero, suc, ◌+◌, ◌<◌}
 use native.Mathlib.Nat.{add-zero, zero-add, add-suc, suc-add, le_of_suc-le-suc, not-suc-le-zero}
 use lib.Dec.{T, eqb, eqb→eq}
 use lib.ListN.{length, get_or}
-use Rattle.crc.specs.Crc.{Steps, crc_bits}
+use Rattle.crc.specs.Crc.{Steps, crc_bit, crc_bits}
+use Rattle.crc.specs.declared.table.TheConstants.{STEPS}
 
 -- each entry is the rule's answer at its place; the places are counted from i
 abbrev obeys : (ℕ → ℕ) → ℕ → List ℕ → Bool
@@ -32,3 +33,8 @@ tested t all size k h = entry (crc_bits 8) t 0 all k (rw size h) ∙ ap (crc_bit
 pub step_at : (t : List ℕ) → Steps t → (k : ℕ) → k < 256 → get_or t k 0 ≡ crc_bits 8 k
 unfolding Steps
 step_at t is = is
+
+-- the code's table is one
+pub table_right : Steps STEPS
+unfolding crc_bit crc_bits
+table_right = tested STEPS tt refl

@@ -16,10 +16,8 @@ fn step(c: u8, b: u8) -> u8
     ensures { result ≡ crc_byte c b }
 {
     let mut x = c ^ b;
-    let mut left: usize = 8;
-    while 0 < left {
+    for _ in 0..8u8 {
         x = bit(x);
-        left -= 1;
     }
     x
 }
@@ -28,11 +26,9 @@ fn step(c: u8, b: u8) -> u8
 fn bitwise(s: &[u8]) -> u8
     ensures { result ≡ crc8 s.now }
 {
-    let mut c: u8 = 0;
-    let mut i = 0;
-    while i < s.len() {
-        c = step(c, s[i]);
-        i += 1;
+    let mut c = 0;
+    for b in s {
+        c = step(c, *b);
     }
     c
 }
@@ -42,12 +38,12 @@ fn bitwise(s: &[u8]) -> u8
 pub extern "C" fn sum_by_bits(s: &[u8]) -> u32
     ensures { result ≡ crc8 s.now }
 {
-    bitwise(s) as u32
+    u32::from(bitwise(s))
 }
 
 #[unsafe(no_mangle)]
 pub extern "C" fn sum_by_table(s: &[u8]) -> u32
     ensures { result ≡ crc8 s.now }
 {
-    crc::checksum(s) as u32
+    u32::from(crc::checksum(s))
 }

@@ -1,12 +1,8 @@
--- What the loop of `sums::bitwise` keeps.
-use Prim.Native.Nat.{◌-◌, ◌≤◌}
+-- What the loop of `sums::bitwise` keeps: the bytes that are left, from the sum so far, give the whole sum.
 use mathlib.Core.Path.{◌≡◌}
-use lib.ListN.{length, drop}
+use lib.ListN.{drop}
 use Rattle.crc.specs.Crc.{crc_from, crc8}
 use Rattle.sums.proofs.bitwise.Given as goal
 
-abbrev pub invariant-loop-i : goal.invariant-loop-i
-invariant-loop-i l = (l.i ≤ length l.s) × (crc_from l.c (drop l.i l.s) ≡ crc8 l.s)
-
-abbrev pub decreases-loop-i : goal.decreases-loop-i
-decreases-loop-i l = length l.s - l.i
+abbrev pub invariant-loop-b : goal.invariant-loop-b
+invariant-loop-b l = crc_from l.c (drop l.b-index l.s) ≡ crc8 l.s

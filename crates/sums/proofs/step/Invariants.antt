@@ -1,10 +1,8 @@
--- What the loop of `sums::step` keeps.
+-- What the loop of `sums::step` keeps: the bits that are left, from the sum so far, give the byte's sum.
 use mathlib.Core.Path.{◌≡◌}
+use Prim.Native.Nat.{◌-◌}
 use Rattle.crc.specs.Crc.{crc_bits, crc_byte}
 use Rattle.sums.proofs.step.Given as goal
 
-abbrev pub invariant-loop-left : goal.invariant-loop-left
-invariant-loop-left l = crc_bits l.left l.x ≡ crc_byte l.c l.b
-
-abbrev pub decreases-loop-left : goal.decreases-loop-left
-decreases-loop-left l = l.left
+abbrev pub invariant-loop : goal.invariant-loop
+invariant-loop l = crc_bits (8 - l.counter) l.x ≡ crc_byte l.c l.b
