@@ -1,5 +1,5 @@
 -- The act that each task of a run is, and where its field stands. Assumes nothing.
-use Rattle.std.specs.Prelude.{◌≡◌, List, ℕ, ◌+◌, ◌≤◌, ◌<◌, length, take, drop}
+use Rattle.std.specs.Prelude.{◌≡◌, List, ℕ, ◌+◌, ◌≤◌, ◌<◌, length, take, drop, Option, None, Some}
 use Rattle.ledger.specs.Header.{alone}
 use Rattle.ledger.specs.Buckets.{untimed}
 use Rattle.ledger.specs.Calls as act
@@ -23,20 +23,20 @@ ask_of s (Call task next) = does (task_act s task) next
 ask_of s Bad = bad
 ask_of s End = ended
 
+-- a bench's order that is no task is bad
+abbrev pub asked_of : Option Task → ℕ → Asked
+asked_of None next = Bad
+asked_of (Some task) next = Call task next
+
 -- an arrival's header stands within the n bytes
 abbrev pub HeaderIn : ℕ → Task → Type 0
 HeaderIn n (Arrive port at size) = at + size ≤ n
-HeaderIn n (Stitch port) = Unit
-HeaderIn n (Prefetch port queue) = Unit
-HeaderIn n (Turn port) = Unit
-HeaderIn n (Credit port queue amount) = Unit
-HeaderIn n (Map id port) = Unit
+HeaderIn n _ = Unit
 
 -- a call from place `at` has a field of some bytes, all of them among the n
 abbrev pub Within : ℕ → ℕ → Asked → Type 0
 Within at n (Call task next) = (at < next) × (next ≤ n) × HeaderIn n task
-Within at n Bad = Unit
-Within at n End = Unit
+Within at n _ = Unit
 
 -- a whole field's value and what is past it
 pub record Stands (s : List ℕ) (v len next size : ℕ) : Type 0 where

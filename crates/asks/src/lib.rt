@@ -5,7 +5,7 @@
 ghost use Rattle.std.specs.Prelude.{◌≡◌, List, ℕ, ◌+◌, ◌≤◌, length};
 ghost use Rattle.fields.specs.Orders.{header_in, call_in, Keeps};
 ghost use Rattle.memory.specs.Runs.{of_call, of_bench, is_own, whole_asked, asked_at};
-ghost use Rattle.asks.specs.Asks.{ask_of, Within, Stands};
+ghost use Rattle.asks.specs.Asks.{ask_of, asked_of, Within, Stands};
 
 use fields::{Field, Order, Read};
 
@@ -21,6 +21,7 @@ pub enum Task {
 }
 
 // What is asked at a place: a call, with the place past its field; a field that is bad; or the fields have ended.
+// kept: paper 01 names this form, an enum in a local that a let .. else takes apart (docs/DECISIONS.md, 101).
 #[derive(Clone, Copy)]
 pub enum Asked {
     Call { task: Task, next: usize },
@@ -28,42 +29,27 @@ pub enum Asked {
     End,
 }
 
-// As a function, so that an arm of task_of is short.
-fn call(task: Task, next: usize) -> Asked
-    ensures { result ≡ Asked.Call task next }
-{
-    Asked::Call { task, next }
-}
-
 // The task of a bench's order: setup is none.
-fn task_of(order: Order, next: usize) -> Asked
-    ensures asked { (s : List ℕ) → ask_of s result ≡ of_call (call_in order (header_in s order)) next }
-    ensures within { (at n : ℕ) → Keeps at n (Read.Call order next) → Within at n result }
+fn task_of(order: Order) -> Option<Task>
+    ensures asked { (s : List ℕ) (next : ℕ) → ask_of s (asked_of result next) ≡ of_call (call_in order (header_in s order)) next }
+    ensures within { (at n next : ℕ) → Keeps at n (Read.Call order next) → Within at n (asked_of result next) }
 {
     match order {
-        Order::Setup {
-            nodes: _,
-            beat: _,
-            slots: _,
-            credit: _,
-        } => Asked::Bad,
-        Order::Arrive { port, at } => call(Task::Arrive { port, at, size: 10 }, next),
-        Order::Stitch { port } => call(Task::Stitch { port }, next),
-        Order::Prefetch { port, queue } => call(Task::Prefetch { port, queue }, next),
-        Order::Turn { port } => call(Task::Turn { port }, next),
+        Order::Setup { .. } => None,
+        Order::Arrive { port, at } => Some(Task::Arrive { port, at, size: 10 }),
+        Order::Stitch { port } => Some(Task::Stitch { port }),
+        Order::Prefetch { port, queue } => Some(Task::Prefetch { port, queue }),
+        Order::Turn { port } => Some(Task::Turn { port }),
         Order::Credit {
             port,
             queue,
             amount,
-        } => call(
-            Task::Credit {
-                port,
-                queue,
-                amount,
-            },
-            next,
-        ),
-        Order::Map { id, port } => call(Task::Map { id, port }, next),
+        } => Some(Task::Credit {
+            port,
+            queue,
+            amount,
+        }),
+        Order::Map { id, port } => Some(Task::Map { id, port }),
     }
 }
 
@@ -73,7 +59,10 @@ fn of_bench(read: Read) -> Asked
     ensures within { (at n : ℕ) → Keeps at n read → Within at n result }
 {
     match read {
-        Read::Call { order, next } => task_of(order, next),
+        Read::Call { order, next } => match task_of(order) {
+            Some(task) => Asked::Call { task, next },
+            None => Asked::Bad,
+        },
         Read::Bad => Asked::Bad,
         Read::End => Asked::End,
     }
@@ -94,20 +83,19 @@ fn whole(s: &[u8], tag: u8, v: usize, len: usize, next: usize, size: usize) -> A
     ensures within { (at : ℕ) → v ≡ at + 3 → Within at (length s.now) result }
 {
     if is_own(tag, len, size) {
-        let port = numbers::read1(s, v) as u32;
-        return call(
-            Task::Arrive {
-                port,
-                at: v + 1,
-                size,
-            },
-            next,
-        );
+        let port = u32::from(numbers::read1(s, v));
+        let task = Task::Arrive {
+            port,
+            at: v + 1,
+            size,
+        };
+        return Asked::Call { task, next };
     }
     of_bench(fields::order_of(s, tag, v, len, next))
 }
 
 // What is asked at a place of the fields of a run on a switch whose headers have so many bytes.
+#[tactic(auto, unfolding(memory::specs::Runs::asked_at))]
 pub fn asked_at(s: &[u8], at: usize, size: usize) -> Asked
     requires { size ≤ 12 }
     ensures asked { ask_of s.now result ≡ asked_at size s.now at }
