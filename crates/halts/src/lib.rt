@@ -18,39 +18,30 @@ ghost use Rattle.ranges.specs.Ranges.{Held};
 ghost use Rattle.halts.specs.Marks.{marks_found};
 
 use layout::{Shape, Table};
-use ledger::{Finding, Plain, Refusal, Reported};
+use ledger::Refusal;
 
 // ---- the mark
 
 // Whether a refusal of this number halts the port: a checksum that differs, another port's source, a beat that doesn't fit.
+// kept: a number and no Refusal, since the marks that rule (i) allows (`halts`) are bytes of the memory, and 18 is no call's refusal.
+#[tactic(auto, unfolding(ledger::specs::Halt::halts))]
 fn halting(n: u8) -> bool
     ensures { result ≡ halts n }
 {
-    if n == 7 {
-        return true;
-    }
-    if n == 8 {
-        return true;
-    }
-    n == 18
+    matches!(n, 7 | 8 | 18)
 }
 
 // Whether a refusal of this number marks port p: the first that halts does.
+#[tactic(auto, unfolding(ledger::specs::Halt::marks))]
 fn marking(m: &[u8], s: Shape, p: usize, n: u8) -> bool
     requires { Held s m.now }
     ensures { result ≡ marks (settings_of s) p (get (settings_of s) m.now Halted p) n }
 {
-    let ports = s.ports;
-    if ports <= p {
-        return false;
-    }
-    if 0 < layout::get1(m, s, Table::Halted, p) {
-        return false;
-    }
-    halting(n)
+    p < s.ports && layout::get1(m, s, Table::Halted, p) == 0 && halting(n)
 }
 
 // The port at which an arrival was refused, marked for it if the refusal halts and no mark stands.
+#[tactic(auto, using(ledger::proofs::Halt::marks_port), unfolding(memory::specs::Writes::mark_mem))]
 pub fn halt(m: &mut [u8], s: Shape, port: u32, no: Refusal)
     requires { Held s m.old }
     ensures { m.new ≡ mark_mem (settings_of s) port (number_of no) m.old }
@@ -63,71 +54,59 @@ pub fn halt(m: &mut [u8], s: Shape, port: u32, no: Refusal)
 }
 
 // Whether a halt turns away what arrives at port p for queue q: queue 0 goes on.
+#[tactic(auto, unfolding(ledger::specs::Halt::held_up))]
 pub fn held_up(m: &[u8], s: Shape, p: usize, q: usize) -> bool
     requires { InPorts s p m.now }
     ensures { result ≡ held_up q (mark_of (ledger_in (settings_of s) m.now) p) }
 {
-    if q == 0 {
-        return false;
-    }
-    0 < parts::mark(m, s, p)
+    q != 0 && 0 < parts::mark(m, s, p)
 }
 
 // ---- the calls
 
 // Clear: the mark is lifted.
-pub fn clear(m: &mut [u8], s: Shape, port: u32) -> Plain
+#[tactic(auto, using(crate::proofs::Laws::clear_no_port, crate::proofs::Laws::clears))]
+pub fn clear(m: &mut [u8], s: Shape, port: u32) -> Result<(), Refusal>
     requires { Works s m.old }
     ensures { ◌≡◌ {A = Reply × List ℕ} (plain_reply result, m.new) (acted (settings_of s) m.old (clear port)) }
 {
     let p = port as usize;
-    let ports = s.ports;
-    if ports <= p {
-        return Plain::No(Refusal::NoPort);
+    if s.ports <= p {
+        return Err(Refusal::NoPort);
     }
     parts::set_mark(m, s, p, 0);
-    Plain::Done
+    Ok(())
 }
 
 // Report: the mark is read.
-pub fn report(m: &[u8], s: Shape, port: u32) -> Reported
+#[tactic(auto, using(crate::proofs::Laws::report_no_port, crate::proofs::Laws::reports))]
+pub fn report(m: &[u8], s: Shape, port: u32) -> Result<u8, Refusal>
     requires { Works s m.now }
     ensures { report_reply result ≡ (acted (settings_of s) m.now (report port)).0 }
 {
     let p = port as usize;
-    let ports = s.ports;
-    if ports <= p {
-        return Reported::No(Refusal::NoPort);
+    if s.ports <= p {
+        return Err(Refusal::NoPort);
     }
-    Reported::Mark(parts::mark(m, s, p))
+    Ok(parts::mark(m, s, p))
 }
 
 // ---- rule (i)
 
 // Whether the mark of port p is one.
+#[tactic(auto, unfolding(ledger::specs::Halt::is_mark))]
 fn right_mark(m: &[u8], s: Shape, p: usize) -> bool
     requires { Held s m.now × (p < s.ports) }
     ensures { result ≡ is_mark (get (settings_of s) m.now Halted p) }
 {
     let n = layout::get1(m, s, Table::Halted, p);
-    if n == 0 {
-        return true;
-    }
-    halting(n)
+    n == 0 || halting(n)
 }
 
 // The first port whose mark is none.
-pub fn wrong_mark(m: &[u8], s: Shape) -> Finding
+pub fn wrong_mark(m: &[u8], s: Shape) -> Option<usize>
     requires { Held s m.now }
     ensures { result ≡ marks_found (settings_of s) m.now }
 {
-    let ports = s.ports;
-    let mut p: usize = 0;
-    while p < ports {
-        if !right_mark(m, s, p) {
-            return Finding::At(p);
-        }
-        p += 1;
-    }
-    Finding::Whole
+    (0..s.ports).find(|p| !right_mark(m, s, *p))
 }

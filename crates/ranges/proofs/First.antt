@@ -1,12 +1,12 @@
 -- A search for the first number that does not pass: its steps, and what it means that there is none. Assumes nothing.
-use mathlib.Core.Path.{◌≡◌, refl, ap, ◌∙◌, subst}
+use mathlib.Core.Path.{◌≡◌, refl, sym, ap, ◌∙◌, subst}
 use mathlib.Core.Logic.{◌↔◌}
 use mathlib.Core.Bool.{Bool, true, false, cond}
 use Prim.Native.Nat.{ℕ, zero, suc, ◌+◌, ◌-◌, ◌≤◌, ◌<◌, zero-le}
 use native.Mathlib.Numerals.{add-one}
 use native.Mathlib.Decide.{ℕ_discrete, dec_lt}
 use native.Mathlib.Omega.{arith}
-use Rattle.std.specs.Prelude.{Option, None, Some}
+use Rattle.std.specs.Prelude.{Option, None, Some, MatchOption}
 use Rattle.ranges.specs.First.{first_from, first}
 
 module _ (ok : ℕ → Bool) where
@@ -114,3 +114,21 @@ module _ (ok : ℕ → Bool) (n : ℕ) where
       let each = (first_all ok (suc i)).0 e in
       subst (Searching ok n) (add-one i)
       (search_next i (search_from i (omega arith) ((first_all ok i).1 (λ k l. each k (omega arith)))) (omega arith) (each i (omega arith)))
+
+-- a search of the numbers from a on finds what one of all finds, where those before a pass
+pub find_first : (ok : ℕ → Bool) (a n : ℕ) (r : Option ℕ) → first ok a ≡ None
+    → MatchOption r ((k : ℕ) → a ≤ k → k < n → ok k ≡ true)
+        (λ x. (a ≤ x) × (x < n) × (ok x ≡ false) × ((k : ℕ) → a ≤ k → k < x → ok k ≡ true))
+    → r ≡ first ok n
+find_first ok a n r e = go r
+  where
+    each : (x : ℕ) → ((k : ℕ) → a ≤ k → k < x → ok k ≡ true) → (k : ℕ) → k < x → Dec (k < a) → ok k ≡ true
+    each x h k l (yes b) = (first_all ok a).0 e k b
+    each x h k l (no b) = h k (omega arith) l
+
+    go : (r : Option ℕ) → MatchOption r ((k : ℕ) → a ≤ k → k < n → ok k ≡ true)
+        (λ x. (a ≤ x) × (x < n) × (ok x ≡ false) × ((k : ℕ) → a ≤ k → k < x → ok k ≡ true)) → r ≡ first ok n
+    go None h = sym ((first_all ok n).1 (λ k l. each n h k l (dec_lt k a)))
+    go (Some x) h =
+        let before : first ok x ≡ None = (first_all ok x).1 (λ k l. each x h.3 k l (dec_lt k a)) in
+        sym (search_at ok n x (search_from ok n x (omega arith) before) h.1 h.2)

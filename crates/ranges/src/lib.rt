@@ -117,12 +117,7 @@ fn first_outside(m: &[u8], s: Shape, from: usize, n: usize) -> Option<usize>
     requires { Sought s m.now from n }
     ensures { result ≡ first (fits_at (settings_of s) m.now) n }
 {
-    for i in from..n {
-        if !in_range(m, s, i) {
-            return Some(i);
-        }
-    }
-    None
+    (from..n).find(|i| !in_range(m, s, *i))
 }
 
 // The highest of the map's entries: a comparison each, and nothing to decide in between, so that a compiler takes many in one step.

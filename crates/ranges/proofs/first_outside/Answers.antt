@@ -1,17 +1,17 @@
--- `ranges::first_outside` meets its contract: what is found from item i on is what is found of all. Assumes nothing.
-use mathlib.Core.Path.{sym, ◌∙◌}
-use native.Mathlib.Omega.{arith}
-use Rattle.ranges.proofs.First.{search_from, search_next, search_at, search_none}
+-- `ranges::first_outside` meets its contract: a search of the items from `from` on is one of all. Assumes nothing.
+use borrow.Author.Tests.{tests}
+use mathlib.Core.Path.{◌≡◌}
+use mathlib.Core.Bool.{true, false}
+use Rattle.std.proofs.Common.{rules}
+use Rattle.std.proofs.lemmas.Iterator.{first_from_Range}
+use Rattle.layout.specs.Tables.{settings_of}
+use Rattle.ranges.specs.Ranges.{fits_at}
+use Rattle.ranges.proofs.First.{find_first}
 use Rattle.ranges.proofs.first_outside.Goals as goal
 
-pub loop-i-init : goal.loop-i-init
-loop-i-init c = let p = c.requires in search_from _ _ _ p.here p.before
-
-pub returns-then-not-in_range : goal.returns-then-not-in_range
-returns-then-not-in_range c = sym (search_at _ _ _ c.loop-i.invariant c.loop-i-test.true (sym c.in_range.ensures ∙ c.if-not-in_range.true))
-
-pub loop-i-preserved : goal.loop-i-preserved
-loop-i-preserved c = search_next _ _ _ c.loop-i.invariant c.loop-i-test.true (sym c.in_range.ensures ∙ c.if-not-in_range.false)
-
 pub returns : goal.returns
-returns c = sym (search_none _ _ _ c.loop-i.invariant (omega arith))
+returns c =
+    let a = c.args in
+    let ok = fits_at (settings_of a.s) a.m.now in
+    find_first ok a.from a.n c.find.result c.requires.before
+    (first_from_Range _ _ _ c.find.result (λ x. ok x ≡ false) (λ x. ok x ≡ true) c.find.ensures.ran (λ x q k. search (rules, tests)) (λ x q k. search (rules, tests)))
