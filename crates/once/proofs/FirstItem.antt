@@ -14,7 +14,7 @@ use Rattle.ledger.specs.Ledger.{is_node}
 use Rattle.ledger.specs.Ready.{bit}
 use Rattle.ledger.specs.Sound.{weigh, one, Roomy}
 use Rattle.ledger.specs.Audit.{node_at}
-use Rattle.ledger.specs.declared.Finding.TheVariants.{At}
+use Rattle.std.specs.Prelude.{Some}
 use Rattle.ledger.proofs.Tests.{true≢false, ltb_yes, ltb_no}
 use Rattle.layout.specs.Tables.{lists, all}
 use Rattle.layout.specs.Picture.{nodes_of, tabulate, ledger_in, Hangs}
@@ -32,7 +32,7 @@ record Unset (ks : List ℕ) (n x : ℕ) : Type 0 where
   wrong : get_or ks at 0 ≡ 0
   before : (i : ℕ) → i < at → 1 ≤ get_or ks i 0
 
-unset : (ks : List ℕ) (n x : ℕ) → unmarked n ks ≡ At x → Unset ks n x
+unset : (ks : List ℕ) (n x : ℕ) → unmarked n ks ≡ Some x → Unset ks n x
 unfolding unmarked
 unset [] n x e = absurd (let z : ◌≡◌ {A = ℕ} 0 1 = cc in omega arith)
 unset (k ∷ ks) n x e = go (ltb 0 k) refl e (unset ks (suc n) x)
@@ -41,7 +41,7 @@ unset (k ∷ ks) n x e = go (ltb 0 k) refl e (unset ks (suc n) x)
     later p f zero h = p
     later p f (suc i) h = f i (le_of_suc-le-suc h)
 
-    go : (b : Bool) → ltb 0 k ≡ b → cond b (unmarked (suc n) ks) (At n) ≡ At x → (unmarked (suc n) ks ≡ At x → Unset ks (suc n) x) → Unset (k ∷ ks) n x
+    go : (b : Bool) → ltb 0 k ≡ b → cond b (unmarked (suc n) ks) (Some n) ≡ Some x → (unmarked (suc n) ks ≡ Some x → Unset ks (suc n) x) → Unset (k ∷ ks) n x
     go true p d f =
         let r = f d in
         record { at = suc r.at; is = omega arith; inside = omega arith; wrong = r.wrong; before = later (ltb_yes 0 k p) r.before }
@@ -131,7 +131,7 @@ module _
           stands_all S m (node_at S j),
         )
 
-    nodes_stop : (ms : List ℕ) (x : ℕ) → Marked (lists S) ms → unmarked (lists S) ms ≡ At x → Stops (lists S) x
+    nodes_stop : (ms : List ℕ) (x : ℕ) → Marked (lists S) ms → unmarked (lists S) ms ≡ Some x → Stops (lists S) x
     nodes_stop ms x w e =
         let u = unset ms (lists S) x e in
         let low : u.at < all S = omega (arith, u.inside, w.fits) in
@@ -146,7 +146,7 @@ module _
               subst Right back ((slot-means j inside).1 (omega (arith, mark_is ms w j inside, u.before j under)));
         }
 
-    scan_stops : (n l : ℕ) (ms : List ℕ) (x : ℕ) → l + n ≡ lists S → Marked l ms → scan S m ms l n ≡ At x → Stops l x
+    scan_stops : (n l : ℕ) (ms : List ℕ) (x : ℕ) → l + n ≡ lists S → Marked l ms → scan S m ms l n ≡ Some x → Stops l x
     unfolding scan
     scan_stops zero l ms x h w e =
         let p : l ≡ lists S = omega arith in
@@ -161,8 +161,8 @@ module _
         later p s k low high (yes q) = subst Right (sym q) ((test_means l ms inside w).0 p)
         later p s k low high (no q) = s.before k (omega arith) high
 
-        go : (b : Bool) → right S m ms l ≡ b → cond b (scan S m (mark_all S ms (nodes_of S m l)) (suc l) n) (At l) ≡ At x
-            → (Marked (suc l) (mark_all S ms (nodes_of S m l)) → scan S m (mark_all S ms (nodes_of S m l)) (suc l) n ≡ At x → Stops (suc l) x) → Stops l x
+        go : (b : Bool) → right S m ms l ≡ b → cond b (scan S m (mark_all S ms (nodes_of S m l)) (suc l) n) (Some l) ≡ Some x
+            → (Marked (suc l) (mark_all S ms (nodes_of S m l)) → scan S m (mark_all S ms (nodes_of S m l)) (suc l) n ≡ Some x → Stops (suc l) x) → Stops l x
         go true p d f =
             let s = f (marked_next l ms w p) d in
             record { inside = s.inside; wrong = s.wrong; before = λ k low high. later p s k low high (ℕ_discrete k l) }
@@ -174,7 +174,7 @@ module _
               before = λ k low high. absurd (omega arith);
             }
 
-    pub once_first : (x : ℕ) → once_found S m ≡ At x → (x < lists S + all S) × (Right x → ⊥) × ((k : ℕ) → k < x → Right k)
+    pub once_first : (x : ℕ) → once_found S m ≡ Some x → (x < lists S + all S) × (Right x → ⊥) × ((k : ℕ) → k < x → Right k)
     unfolding once_found stands
     once_first x e =
         let w : Marked 0 (replicate (all S) 0) = record { fits = length-replicate (all S) 0; count = clear S m; most = λ y. omega (arith, clear S m y) } in

@@ -14,8 +14,7 @@ use Rattle.ledger.specs.Ledger.{is_node}
 use Rattle.ledger.specs.Audit.{node_at}
 use Rattle.ledger.specs.Ready.{bit}
 use Rattle.ledger.specs.Sound.{sum, weigh, one, Once, Roomy}
-use Rattle.ledger.specs.declared.Finding.{Finding}
-use Rattle.ledger.specs.declared.Finding.TheVariants.{Whole, At}
+use Rattle.std.specs.Prelude.{Option, None, Some}
 use Rattle.ledger.proofs.Tests.{ltb_yes, ltb_is, eqb_yes, eqb_is, and_left, and_right}
 use Rattle.ledger.proofs.Places.{node_of, node_is}
 use Rattle.layout.specs.Tables.{lists, all}
@@ -26,24 +25,20 @@ use Rattle.memory.proofs.Audit.{node_at_lem}
 use Rattle.memory.proofs.Chains.{times, bit_same, bit_other, item_node, shown, slot_lt, slot_inj}
 use Rattle.once.specs.Once.{is_new, mark, all_new, mark_all, ends, right, unmarked, scan, once_found}
 use Rattle.once.proofs.Marks.{length_mark, New, new, new_is}
+use Rattle.once.proofs.Walk.{all_marked}
 
 -- ---- marks that are set
 
 -- where a finding is whole, a test before it passed
-pub passed : (b : Bool) (f : Finding) (n : ℕ) → cond b f (At n) ≡ Whole → (b ≡ true) × (f ≡ Whole)
+pub passed : (b : Bool) (f : Option ℕ) (n : ℕ) → cond b f (Some n) ≡ None → (b ≡ true) × (f ≡ None)
 passed true f n e = (refl, e)
 passed false f n e = let z : ◌≡◌ {A = ℕ} 0 1 = cc in absurd (omega arith)
 
-none_unmarked : (n : ℕ) (ks : List ℕ) → unmarked n ks ≡ Whole → (i : ℕ) → i < length ks → 1 ≤ get_or ks i 0
+none_unmarked : (n : ℕ) (ks : List ℕ) → unmarked n ks ≡ None → (i : ℕ) → i < length ks → 1 ≤ get_or ks i 0
 unfolding unmarked
 none_unmarked n [] e i h = absurd (not-suc-le-zero h)
 none_unmarked n (k ∷ ks) e zero h = ltb_yes 0 k (passed (ltb 0 k) (unmarked (suc n) ks) n e).0
 none_unmarked n (k ∷ ks) e (suc i) h = none_unmarked (suc n) ks (passed (ltb 0 k) (unmarked (suc n) ks) n e).1 i (le_of_suc-le-suc h)
-
-all_marked : (n : ℕ) (ks : List ℕ) → ((i : ℕ) → i < length ks → 1 ≤ get_or ks i 0) → unmarked n ks ≡ Whole
-unfolding unmarked
-all_marked n [] h = refl
-all_marked n (k ∷ ks) h = rw (ltb_is 0 k (h 0 (omega arith))) (all_marked (suc n) ks (λ i l. h (suc i) (omega arith)))
 
 module _ (S : Settings) where
   pub length_all : (xs ms : List ℕ) → length (mark_all S ms xs) ≡ length ms
@@ -130,7 +125,7 @@ module _ (S : Settings) (m : List ℕ) where
   unfolding right ends
   right_is ms l a h = rw (a, eqb_is _ _ h)
 
-  met_all : (l : ℕ) (ms : List ℕ) → length ms ≡ all S → ((y : ℕ) → seen S ms y ≤ bit (is_node S y)) → unmarked l ms ≡ Whole
+  met_all : (l : ℕ) (ms : List ℕ) → length ms ≡ all S → ((y : ℕ) → seen S ms y ≤ bit (is_node S y)) → unmarked l ms ≡ None
       → (y : ℕ) → seen S ms y ≡ bit (is_node S y)
   met_all l ms long b e y = go (is_node S y) refl
     where
@@ -148,7 +143,7 @@ module _ (S : Settings) (m : List ℕ) where
       rw f.slot_is at h
 
   -- a scan that finds nothing: the lists hang together, and each node was met once
-  scan_says : (n l : ℕ) (ms : List ℕ) → length ms ≡ all S → ((y : ℕ) → seen S ms y ≤ bit (is_node S y)) → scan S m ms l n ≡ Whole
+  scan_says : (n l : ℕ) (ms : List ℕ) → length ms ≡ all S → ((y : ℕ) → seen S ms y ≤ bit (is_node S y)) → scan S m ms l n ≡ None
       → ((j : ℕ) → l ≤ j → j < l + n → Hangs S m j) × ((y : ℕ) → seen S ms y + stands y l n ≡ bit (is_node S y))
   unfolding scan
   scan_says zero l ms long b e = (λ j h k. absurd (omega arith), λ y. unfold stands in omega (arith, met_all l ms long b e y))
@@ -165,7 +160,7 @@ module _ (S : Settings) (m : List ℕ) where
 
   -- and back
   scan_is : Roomy S → (n l : ℕ) (ms : List ℕ) → length ms ≡ all S → ((j : ℕ) → l ≤ j → j < l + n → Hangs S m j)
-      → ((y : ℕ) → seen S ms y + stands y l n ≡ bit (is_node S y)) → scan S m ms l n ≡ Whole
+      → ((y : ℕ) → seen S ms y + stands y l n ≡ bit (is_node S y)) → scan S m ms l n ≡ None
   unfolding scan
   scan_is R zero l ms long h c = all_marked l ms (λ i k. each_marked R ms (λ y. unfold stands in omega (arith, c y)) i (rw long at k))
   scan_is R (suc n) l ms long h c =
@@ -188,17 +183,17 @@ module _ (S : Settings) (m : List ℕ) where
   unfolding stands ledger_in
   stands_all y = refl
 
-  pub found_whole : once_found S m ≡ Whole → ((l : ℕ) → l < lists S → Hangs S m l) × Once S (ledger_in S m).lists
+  pub found_whole : once_found S m ≡ None → ((l : ℕ) → l < lists S → Hangs S m l) × Once S (ledger_in S m).lists
   unfolding once_found
   found_whole e =
       let w = scan_says (lists S) 0 (replicate (all S) 0) (length-replicate (all S) 0) (λ y. omega (arith, clear y)) e in
       (λ l h. w.0 l (omega arith) (omega arith), λ y. omega (arith, w.1 y, clear y, stands_all y))
 
   -- with the tails
-  pub found_tidy : size S ≤ length m → once_found S m ≡ Whole → Tidy S m
+  pub found_tidy : size S ≤ length m → once_found S m ≡ None → Tidy S m
   found_tidy long e = let w = found_whole e in record { long = long; hangs = w.0; once = λ y. omega (arith, w.1 y) }
 
-  pub whole_found : Roomy S → ((l : ℕ) → l < lists S → Hangs S m l) × Once S (ledger_in S m).lists → once_found S m ≡ Whole
+  pub whole_found : Roomy S → ((l : ℕ) → l < lists S → Hangs S m l) × Once S (ledger_in S m).lists → once_found S m ≡ None
   unfolding once_found
   whole_found R h =
       scan_is R (lists S) 0 (replicate (all S) 0) (length-replicate (all S) 0) (λ j i k. h.0 j (omega arith))

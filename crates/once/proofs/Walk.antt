@@ -2,22 +2,25 @@
 use mathlib.Core.Path.{◌≡◌, refl, sym, ap, ◌∙◌}
 use mathlib.Core.Logic.{◌≢◌}
 use mathlib.Core.Bool.{true, false}
-use mathlib.Core.List.{List}
-use Prim.Native.Nat.{ℕ, suc, ◌+◌, ◌-◌, ◌≤◌, ◌<◌}
+use mathlib.Core.List.{List, [], ◌∷◌}
+use Prim.Native.Nat.{ℕ, zero, suc, ◌+◌, ◌-◌, ◌≤◌, ◌<◌}
+use native.Mathlib.Nat.{add-zero}
 use native.Mathlib.Numerals.{add-one}
 use native.Mathlib.Omega.{arith}
 use lib.ListN.{length, get_or, drop, replicate, length-replicate, drop_of_length-le}
 use lib.Seq.{drop-cons}
 use lib.Dec.{eqb}
 use Rattle.ledger.specs.Settings.{Settings}
-use Rattle.ledger.specs.declared.Finding.TheVariants.{Whole, At}
+use Rattle.std.specs.Prelude.{None, Some}
 use Rattle.ledger.proofs.Tests.{ltb_is}
 use Rattle.layout.specs.declared.Table.TheVariants.{Head, Tail, Count, Next}
 use Rattle.layout.specs.Tables.{lists, all, get}
 use Rattle.layout.specs.Picture.{slot, chain, nodes_of}
 use Rattle.memory.proofs.Chains.{chain_more}
 use Rattle.once.specs.Once.{is_new, mark, all_new, mark_all, ends, right, unmarked, scan, once_found}
+use Rattle.once.specs.Bits.{mark_at, marks_in}
 use Rattle.once.specs.Walks.{Scanning}
+use Rattle.once.proofs.Bits.{marks_length, marks_at}
 use Rattle.once.proofs.Marks.{length_mark}
 
 -- ---- the nodes of a list
@@ -29,22 +32,25 @@ module _ (S : Settings) (m : List ℕ) where
     pub answer : right S m ms₀ l ≡ ends S ms (chain S m left x) last (get S m Tail l)
     pub after : mark_all S ms₀ (nodes_of S m l) ≡ mark_all S ms (chain S m left x)
 
-  pub walk_start : (ms : List ℕ) (l : ℕ) → length ms ≡ all S → Walking ms l ms (get S m Count l) (get S m Head l) (get S m Tail l)
+  pub walk_start : (ms : List ℕ) (l : ℕ) {left : ℕ} → length ms ≡ all S → left ≡ get S m Count l → Walking ms l ms left (get S m Head l) (get S m Tail l)
   unfolding right nodes_of
-  walk_start ms l f = record { fits = f; answer = refl; after = refl }
+  walk_start ms l f e = rw e (record { fits = f; answer = refl; after = refl })
 
 module _ {S : Settings} {m ms₀ : List ℕ} {l : ℕ} {ms : List ℕ} {left x last : ℕ} (W : Walking S m ms₀ l ms left x last) where
   pub walk_stuck : 0 < left → is_new S ms x ≡ false → right S m ms₀ l ≡ false
   unfolding ends all_new
   walk_stuck h e = W.answer ∙ rw (chain_more S m left x h, e)
 
-  pub walk_step : 0 < left → is_new S ms x ≡ true → Walking S m ms₀ l (mark S ms x) (left - 1) (get S m Next (slot S x)) x
+  pub walk_step : {rest : ℕ} → left ≡ suc rest → is_new S ms x ≡ true → Walking S m ms₀ l (mark S ms x) rest (get S m Next (slot S x)) x
   unfolding ends all_new mark_all
-  walk_step h e = record {
-    fits = length_mark S ms x ∙ W.fits;
-    answer = W.answer ∙ rw (chain_more S m left x h, e);
-    after = W.after ∙ rw (chain_more S m left x h);
-  }
+  walk_step {rest} h e =
+      let one : left - 1 ≡ rest = omega arith in
+      let more : chain S m left x ≡ x ∷ chain S m rest (get S m Next (slot S x)) = chain_more S m left x (omega arith) ∙ rw one in
+      record {
+        fits = length_mark S ms x ∙ W.fits;
+        answer = W.answer ∙ rw (more, e);
+        after = W.after ∙ rw more;
+      }
 
   pub walk_end : left ≤ 0 → (right S m ms₀ l ≡ eqb last (get S m Tail l)) × (ms ≡ mark_all S ms₀ (nodes_of S m l))
   unfolding ends all_new mark_all chain
@@ -62,7 +68,7 @@ module _ {S : Settings} {m ms : List ℕ} {l : ℕ} (W : Scanning S m ms l) wher
   more : l < lists S → lists S - l ≡ suc (lists S - (l + 1))
   more h = omega arith
 
-  pub scan_no : l < lists S → right S m ms l ≡ false → once_found S m ≡ At l
+  pub scan_no : l < lists S → right S m ms l ≡ false → once_found S m ≡ Some l
   unfolding scan
   scan_no h e = W.answer ∙ ap (scan S m ms l) (more h) ∙ rw e
 
@@ -79,17 +85,29 @@ module _ {S : Settings} {m ms : List ℕ} {l : ℕ} (W : Scanning S m ms l) wher
 
 -- ---- the marks
 
-module _ (n : ℕ) (ms : List ℕ) (i : ℕ) where
-  pub mark_clear : i < length ms → get_or ms i 0 ≡ 0 → unmarked (n + i) (drop i ms) ≡ At (n + i)
-  unfolding unmarked
-  mark_clear h e = rw (drop-cons ms i 0 h, e)
+pub all_marked : (n : ℕ) (ms : List ℕ) → ((i : ℕ) → i < length ms → 1 ≤ get_or ms i 0) → unmarked n ms ≡ None
+unfolding unmarked
+all_marked n [] h = refl
+all_marked n (k ∷ ms) h = rw (ltb_is 0 k (h 0 (omega arith))) (all_marked (suc n) ms (λ i l. h (suc i) (omega arith)))
 
-  pub mark_set : i < length ms → get_or ms i 0 ≢ 0 → unmarked (n + i) (drop i ms) ≡ unmarked (n + (i + 1)) (drop (i + 1) ms)
-  unfolding unmarked
-  mark_set h d =
-      let k : n + (i + 1) ≡ suc (n + i) = omega arith in
-      rw (drop-cons ms i 0 h, ltb_is 0 (get_or ms i 0) (omega arith), k, add-one)
+unmarked_at : (n : ℕ) (ms : List ℕ) (x : ℕ) → x < length ms → get_or ms x 0 ≡ 0 → ((i : ℕ) → i < x → 1 ≤ get_or ms i 0)
+    → unmarked n ms ≡ Some (n + x)
+unfolding unmarked
+unmarked_at n [] x l e h = absurd (omega arith)
+unmarked_at n (k ∷ ms) zero l e h = rw (e, add-zero)
+unmarked_at n (k ∷ ms) (suc x) l e h =
+    let next : suc n + x ≡ n + suc x = omega arith in
+    rw (ltb_is 0 k (h 0 (omega arith))) (unmarked_at (suc n) ms x (omega arith) e (λ i l. h (suc i) (omega arith)) ∙ ap Some next)
 
-  pub mark_none : length ms ≤ i → unmarked (n + i) (drop i ms) ≡ Whole
-  unfolding unmarked
-  mark_none h = rw (drop_of_length-le ms h)
+-- the first clear mark of a search is the first that is not set
+module _ (S : Settings) (bs : List ℕ) (n : ℕ) where
+  pub search_none : ((k : ℕ) → 0 ≤ k → k < all S → 1 ≤ mark_at bs k) → unmarked n (marks_in S bs) ≡ None
+  search_none h =
+      all_marked n (marks_in S bs) (λ i l.
+      let low : i < all S = rw (marks_length S bs) at l in
+      rw (marks_at S bs i low) (h i (omega arith) low))
+
+  pub search_some : (i : ℕ) → i < all S → mark_at bs i ≡ 0 → ((k : ℕ) → 0 ≤ k → k < i → 1 ≤ mark_at bs k) → unmarked n (marks_in S bs) ≡ Some (n + i)
+  search_some i low e h =
+      unmarked_at n (marks_in S bs) i (rw (marks_length S bs) low) (marks_at S bs i low ∙ e)
+      (λ k l. rw (marks_at S bs k (omega arith)) (h k (omega arith) l))

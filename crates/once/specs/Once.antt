@@ -1,10 +1,8 @@
 -- What the walk over a memory's lists finds: each node that it meets is marked, in a mark for each node by its element in the tables of nodes.
 -- Assumes nothing.
-use Rattle.std.specs.Prelude.{Bool, true, cond, ◌&&◌, List, [], ◌∷◌, ℕ, zero, suc, get_or, set, replicate, eqb, ltb}
+use Rattle.std.specs.Prelude.{Bool, true, cond, ◌&&◌, List, [], ◌∷◌, ℕ, zero, suc, get_or, set, replicate, eqb, ltb, Option, None, Some}
 use Rattle.ledger.specs.Settings.{Settings}
 use Rattle.ledger.specs.Ledger.{is_node}
-use Rattle.ledger.specs.declared.Finding.{Finding}
-use Rattle.ledger.specs.declared.Finding.TheVariants.{Whole, At}
 use Rattle.layout.specs.declared.Table.TheVariants.{Tail}
 use Rattle.layout.specs.Tables.{lists, all, get}
 use Rattle.layout.specs.Picture.{slot, nodes_of, last_d}
@@ -34,15 +32,15 @@ unfoldable pub right : Settings → List ℕ → List ℕ → ℕ → Bool
 right S m ms l = ends S ms (nodes_of S m l) (get S m Tail l) (get S m Tail l)
 
 -- the first mark that is not set, the marks numbered from n
-unfoldable pub unmarked : ℕ → List ℕ → Finding
-unmarked n [] = Whole
-unmarked n (k ∷ ks) = cond (ltb 0 k) (unmarked (suc n) ks) (At n)
+unfoldable pub unmarked : ℕ → List ℕ → Option ℕ
+unmarked n [] = None
+unmarked n (k ∷ ks) = cond (ltb 0 k) (unmarked (suc n) ks) (Some n)
 
 -- n lists from l on: the first that is not right; else, numbered after the lists, the first node that was not met
-unfoldable pub scan : Settings → List ℕ → List ℕ → ℕ → ℕ → Finding
+unfoldable pub scan : Settings → List ℕ → List ℕ → ℕ → ℕ → Option ℕ
 scan S m ms l zero = unmarked l ms
-scan S m ms l (suc n) = cond (right S m ms l) (scan S m (mark_all S ms (nodes_of S m l)) (suc l) n) (At l)
+scan S m ms l (suc n) = cond (right S m ms l) (scan S m (mark_all S ms (nodes_of S m l)) (suc l) n) (Some l)
 
 -- all lists, from marks that are all clear
-unfoldable pub once_found : Settings → List ℕ → Finding
+unfoldable pub once_found : Settings → List ℕ → Option ℕ
 once_found S m = scan S m (replicate (all S) 0) 0 (lists S)

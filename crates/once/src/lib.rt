@@ -10,9 +10,10 @@ ghost use Rattle.once.specs.Once.{unmarked, once_found};
 ghost use Rattle.once.specs.Walks.{Clear, Marks, Walkable, Blank, Fresh, Met, Walked};
 
 use layout::{Shape, Table};
-use ledger::{EntryId, Finding};
+use ledger::EntryId;
 
 // The mark of an element, 0 or 1.
+#[tactic(auto, unfolding(crate::specs::Bits::mark_at))]
 fn mark_at(marks: &[u8], at: usize) -> u32
     requires { at < 8 * length marks.now }
     ensures { result ≡ mark_at marks.now at }
@@ -44,14 +45,12 @@ pub fn fresh(at: usize, marks: &mut [u8]) -> bool
 }
 
 // Marks x, where it is a node that is not marked yet, and answers whether it is.
+#[tactic(auto, using(memory::proofs::Chains::slot_lt, crate::proofs::Marks::fresh_new), unfolding(crate::specs::Once::is_new))]
 fn meet(s: Shape, x: EntryId, marks: &mut [u8]) -> bool
     requires { Marks s marks.old }
     ensures { Met s (marks_in (settings_of s) marks.old) x.0 (marks_in (settings_of s) marks.new) result }
 {
-    if geometry::is_node(s, x) {
-        return fresh(geometry::slot_of(s, x), marks);
-    }
-    false
+    geometry::is_node(s, x) && fresh(geometry::slot_of(s, x), marks)
 }
 
 // Walks list l from its head to its count, and answers whether each node was new and the last is the tail.
@@ -60,51 +59,39 @@ fn walk_list(m: &[u8], s: Shape, l: usize, marks: &mut [u8]) -> bool
     ensures { Walked s m.now (marks_in (settings_of s) marks.old) l (marks_in (settings_of s) marks.new) result }
 {
     let tail = layout::get2(m, s, Table::Tail, l);
-    let mut left = layout::get4(m, s, Table::Count, l);
+    let count = layout::get4(m, s, Table::Count, l);
     let mut x = layout::get2(m, s, Table::Head, l);
     let mut last = tail;
-    while 0 < left {
+    for _ in 0..count {
         let id = EntryId(x);
         if !meet(s, id, marks) {
             return false;
         }
         last = x;
         x = layout::get2(m, s, Table::Next, geometry::slot_of(s, id));
-        left -= 1;
     }
     last == tail
 }
 
 // The first node whose mark is not set, numbered after the lists.
-fn first_unmarked(s: Shape, marks: &[u8]) -> Finding
+fn first_unmarked(s: Shape, marks: &[u8]) -> Option<usize>
     requires { Marks s marks.now }
     ensures { result ≡ unmarked (lists (settings_of s)) (marks_in (settings_of s) marks.now) }
 {
-    let all = s.all;
-    let lists = s.lists;
-    let mut i = 0;
-    while i < all {
-        if mark_at(marks, i) == 0 {
-            return Finding::At(lists + i);
-        }
-        i += 1;
-    }
-    Finding::Whole
+    let i = (0..s.all).find(|i| mark_at(marks, *i) == 0)?;
+    Some(s.lists + i)
 }
 
 // The first list that has a node twice, an id that is no node, or another last node than its tail; else, numbered after the lists, the first
 // node that stands in none.
-pub fn once(m: &[u8], s: Shape, marks: &mut [u8]) -> Finding
+pub fn once(m: &[u8], s: Shape, marks: &mut [u8]) -> Option<usize>
     requires { Blank s m.now marks.old }
     ensures { result ≡ once_found (settings_of s) m.now }
 {
-    let lists = s.lists;
-    let mut l: usize = 0;
-    while l < lists {
+    for l in 0..s.lists {
         if !walk_list(m, s, l, marks) {
-            return Finding::At(l);
+            return Some(l);
         }
-        l += 1;
     }
     first_unmarked(s, marks)
 }

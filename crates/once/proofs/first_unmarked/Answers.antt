@@ -1,68 +1,38 @@
--- `once::first_unmarked` meets its contract. The loop's invariant: the first of all is the first of those from `i` on. Assumes nothing.
+-- `once::first_unmarked` meets its contract: a search of the elements' marks. Assumes nothing.
+use borrow.Author.Tests.{tests}
 use mathlib.Core.Path.{◌≡◌, sym, ◌∙◌}
-use mathlib.Core.List.{List}
-use Prim.Native.Nat.{ℕ}
-use native.Mathlib.Nat.{add-zero}
+use Prim.Native.Nat.{ℕ, ◌≤◌, ◌<◌}
 use native.Mathlib.Omega.{arith}
-use lib.ListN.{get_or}
-use Rattle.layout.specs.Tables.{lists, settings_of}
-use Rattle.layout.specs.Picture.{tabulate}
+use Rattle.std.specs.Prelude.{MatchOption}
+use Rattle.std.proofs.Common.{rules}
+use Rattle.std.proofs.lemmas.Iterator.{first_from_Range}
 use Rattle.layout.proofs.Shapes.{few}
-use Rattle.memory.proofs.Chains.{length_tabulate, get_d_table}
-use Rattle.once.specs.Bits.{mark_at, marks_in}
-use Rattle.once.specs.Once.{unmarked}
-use Rattle.once.proofs.Walk.{mark_clear, mark_set, mark_none}
+use Rattle.once.specs.Bits.{mark_at}
+use Rattle.once.proofs.Walk.{search_none, search_some}
 use Rattle.once.proofs.first_unmarked.Goals as goal
-use Rattle.once.proofs.first_unmarked.Goals.{After-mark_at, Start}
+use Rattle.once.proofs.first_unmarked.Goals.{After-find}
 
-abbrev marks_of : List ℕ → ℕ → List ℕ
-marks_of marks all = tabulate (mark_at marks) 0 all
+-- the first clear mark, if there is one
+found : (c : After-find)
+    → let mark = mark_at c.args.marks.now in
+    MatchOption c.find.result ((k : ℕ) → 0 ≤ k → k < c.args.s.all → 1 ≤ mark k)
+    (λ i. (0 ≤ i) × (i < c.args.s.all) × (mark i ≡ 0) × ((k : ℕ) → 0 ≤ k → k < i → 1 ≤ mark k))
+found c =
+    let mark = mark_at c.args.marks.now in
+    first_from_Range _ _ _ c.find.result (λ k. mark k ≡ 0) (λ k. 1 ≤ mark k) c.find.ensures.ran (λ k q h. search (rules, tests)) (λ k q h. search (rules, tests))
 
-pub loop-i-init : goal.loop-i-init
-loop-i-init c = (omega arith, rw add-zero)
-
-pub mark_at-requires : goal.mark_at-requires
-mark_at-requires c =
-    let p = c.requires in
-    omega (arith, p.room, p.laid.all_are, c.loop-i-test.true)
+pub returns-in_err-i : goal.returns-in_err-i
+returns-in_err-i c =
+    let none = rw c.in_err-i.was at (found (goal.at.returns-in_err-i c).After-find) in
+    c.from_residual.ensures ∙ sym (search_none _ _ _ (rw c.requires.laid.all_are at none))
 
 pub overflow_add-result : goal.overflow_add-result
-overflow_add-result c = omega (arith, few _ c.requires.laid.roomy)
-
--- the mark that was read is one of those
-read : (c : After-mark_at)
-    → let a = c.args in
-    get_or (marks_of a.marks.now a.s.all) c.loop-i.i 0 ≡ c.mark_at.result
-read c = let a = c.args in get_d_table (mark_at a.marks.now) _ _ 0 c.loop-i-test.true ∙ sym c.mark_at.ensures
-
--- the marks are those of the switch
-are : (c : Start)
-    → let a = c.args in
-    let S = settings_of a.s in
-    unmarked (lists S) (marks_in S a.marks.now) ≡ unmarked a.s.lists (marks_of a.marks.now a.s.all)
-unfolding marks_in
-are c = let l = c.requires.laid in rw (l.lists_are, l.all_are)
-
-pub returns-then-mark_at-eq0 : goal.returns-then-mark_at-eq0
-returns-then-mark_at-eq0 c =
-    let a = c.args in
-    let in_all = c.loop-i-test.true in
-    let ms = marks_of a.marks.now a.s.all in
-    sym (are (goal.at.returns-then-mark_at-eq0 c).Start ∙ c.loop-i.invariant.1
-    ∙ mark_clear a.s.lists ms c.loop-i.i (rw length_tabulate in_all) (read (goal.at.returns-then-mark_at-eq0 c).After-mark_at ∙ c.if-mark_at-eq0.true))
-
-pub loop-i-preserved : goal.loop-i-preserved
-loop-i-preserved c =
-    let a = c.args in
-    let in_all = c.loop-i-test.true in
-    let ms = marks_of a.marks.now a.s.all in (
-      omega arith,
-      c.loop-i.invariant.1 ∙ mark_set a.s.lists ms c.loop-i.i (rw length_tabulate in_all)
-          (λ e. c.if-mark_at-eq0.false (sym (read (goal.at.loop-i-preserved c).After-mark_at) ∙ e)),
-    )
+overflow_add-result c =
+    let some = rw c.in_ok-i.was at (found (goal.at.overflow_add-result c).After-find) in
+    omega (arith, some.1, few _ c.requires.laid.roomy)
 
 pub returns : goal.returns
 returns c =
-    let a = c.args in
-    let ms = marks_of a.marks.now a.s.all in
-    sym (are (goal.at.returns c).Start ∙ c.loop-i.invariant.1 ∙ mark_none a.s.lists ms c.loop-i.i (rw length_tabulate c.loop-i-test.false))
+    let some = rw c.in_ok-i.was at (found (goal.at.returns c).After-find) in
+    let laid = c.requires.laid in
+    rw laid.lists_are (sym (search_some _ _ _ _ (rw laid.all_are at some.1) some.2 some.3))

@@ -1,6 +1,5 @@
 -- What the loop of `once::once` keeps.
 use mathlib.Core.Path.{◌≡◌}
-use Prim.Native.Nat.{◌-◌}
 use lib.ListN.{length}
 use Rattle.layout.specs.Tables.{settings_of}
 use Rattle.once.specs.Bits.{marks_in}
@@ -9,6 +8,3 @@ use Rattle.once.proofs.once.Given as goal
 
 abbrev pub invariant-loop-l : goal.invariant-loop-l
 invariant-loop-l l = (length l.marks ≡ length l.initial.marks) × Scanning (settings_of l.s) l.m (marks_in (settings_of l.s) l.marks) l.l
-
-abbrev pub decreases-loop-l : goal.decreases-loop-l
-decreases-loop-l l = l.lists - l.l

@@ -1,7 +1,6 @@
 -- `once::walk_list` meets its contract. The loop's invariant: what is found in the whole list is what is found in what is left of it.
 -- Assumes nothing.
 use borrow.Author.Rules.{rules}
-use borrow.Author.Tests.{not-true, not-false}
 use mathlib.Core.Path.{◌≡◌, refl, sym, ap, ◌∙◌}
 use mathlib.Core.Bool.{true, false≢true}
 use native.Mathlib.Omega.{arith}
@@ -16,47 +15,40 @@ use Rattle.once.proofs.Walk.{walk_start, walk_stuck, walk_step, walk_end}
 use Rattle.once.proofs.walk_list.Goals as goal
 use Rattle.once.proofs.walk_list.Goals.{Else-not-meet}
 
--- ---- the moments, each reached from the next
-
-pub loop-left-init : goal.loop-left-init
-loop-left-init c =
-    (refl, rw (c.get2-tail.ensures, c.get4-left.ensures, c.get2-x.ensures) (walk_start _ _ _ _ (marks_length _ _)))
-
-pub meet-requires : goal.meet-requires
-meet-requires c =
-    let p = c.requires.marks in
-    record { laid = p.laid; room = rw c.loop-left.invariant.0 p.room }
+pub loop-init : goal.loop-init
+loop-init c =
+    (refl, rw (c.get2-tail.ensures, c.get2-x.ensures) (walk_start _ _ _ _ (marks_length _ _) (omega (arith, c.get4-count.ensures))))
 
 -- the node that is met is new
 new_here : (c : Else-not-meet)
     → let S = settings_of c.args.s in
-    is_new S (marks_in S c.loop-left.marks) c.loop-left.x ≡ true
-new_here c = sym c.meet.ensures.answer ∙ not-false _ c.if-not-meet.false-raw
+    is_new S (marks_in S c.loop.marks) c.loop.x ≡ true
+new_here c = sym c.meet.ensures.answer ∙ c.if-not-meet.false
 
 pub returns-then-not-meet : goal.returns-then-not-meet
 returns-then-not-meet c =
     record {
-      answer = sym (walk_stuck c.loop-left.invariant.1 (omega arith) (sym c.meet.ensures.answer ∙ not-true _ c.if-not-meet.true-raw));
+      answer = sym (walk_stuck c.loop.invariant.1 (omega arith) (sym c.meet.ensures.answer ∙ c.if-not-meet.true));
       after = λ e. absurd (false≢true e);
     }
 
-pub get2-x-requires-in-loop-left : goal.get2-x-requires-in-loop-left
-get2-x-requires-in-loop-left c =
+pub get2-x-requires-in-loop : goal.get2-x-requires-in-loop
+get2-x-requires-in-loop c =
     record {
       laid = search rules;
       long = search rules;
       wide = refl;
-      inside = rw c.slot_of.ensures (slot_lt _ _ (new _ _ _ (new_here (goal.at.get2-x-requires-in-loop-left c).Else-not-meet)).node);
+      inside = rw c.slot_of.ensures (slot_lt _ _ (new _ _ _ (new_here (goal.at.get2-x-requires-in-loop c).Else-not-meet)).node);
     }
 
-pub loop-left-preserved : goal.loop-left-preserved
-loop-left-preserved c = (
-  c.meet.auto.marks ∙ c.loop-left.invariant.0,
-  rw (c.get2-x-in-loop-left.ensures, c.slot_of.ensures, c.meet.ensures.after (not-false _ c.if-not-meet.false-raw))
-      (walk_step c.loop-left.invariant.1 (omega arith) (new_here (goal.at.loop-left-preserved c).Else-not-meet)),
+pub loop-preserved : goal.loop-preserved
+loop-preserved c = (
+  c.meet.auto.marks ∙ c.loop.invariant.0,
+  rw (c.get2-x-in-loop.ensures, c.slot_of.ensures, c.meet.ensures.after c.if-not-meet.false)
+      (walk_step c.loop.invariant.1 (omega arith) (new_here (goal.at.loop-preserved c).Else-not-meet)),
 )
 
 pub returns : goal.returns
 returns c =
-    let w = walk_end c.loop-left.invariant.1 (omega arith) in
+    let w = walk_end c.loop.invariant.1 (omega arith) in
     record { answer = ap (eqb _) c.get2-tail.ensures ∙ sym w.0; after = λ e. w.1 }
