@@ -1,5 +1,5 @@
 -- A node that is met for the first time, and its mark. Assumes nothing.
-use mathlib.Core.Path.{◌≡◌, sym, ap, ◌∙◌}
+use mathlib.Core.Path.{◌≡◌, ap, ◌∙◌}
 use mathlib.Core.Bool.{Bool, true}
 use mathlib.Core.List.{List}
 use Prim.Native.Nat.{ℕ, ◌*◌, ◌≤◌}
@@ -41,5 +41,5 @@ fresh_new S {bs} {bs'} {i} {r} x room n e f =
     let low = slot_lt S x n in
     let clear : r ≡ eqb (mark_at bs (slot S x)) 0 = f.answer ∙ rw e in (
       clear ∙ rw (n, marks_at S bs (slot S x) low),
-      λ y. ap (marks_in S) (f.after y ∙ ap (set_mark bs) e) ∙ marks_set S bs (slot S x) room low (eqb_yes _ 0 (sym clear ∙ y)),
+      λ y. ap (marks_in S) (f.after y ∙ ap (set_mark bs) e) ∙ marks_set S bs (slot S x) room low,
     )

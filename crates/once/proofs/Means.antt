@@ -15,7 +15,7 @@ use Rattle.ledger.specs.Audit.{node_at}
 use Rattle.ledger.specs.Ready.{bit}
 use Rattle.ledger.specs.Sound.{sum, weigh, one, Once, Roomy}
 use Rattle.std.specs.Prelude.{Option, None, Some}
-use Rattle.ledger.proofs.Tests.{ltb_yes, ltb_is, eqb_yes, eqb_is, and_left, and_right}
+use Rattle.ledger.proofs.Tests.{ltb_yes, eqb_yes, eqb_is, and_left, and_right}
 use Rattle.ledger.proofs.Places.{node_of, node_is}
 use Rattle.layout.specs.Tables.{lists, all}
 use Rattle.layout.specs.Picture.{slot, nodes_of, node_in, tabulate, ledger_in, Hangs}

@@ -9,11 +9,6 @@ use Rattle.once.specs.Once.{is_new, mark, mark_all, right, scan, once_found}
 
 -- ---- of marks, their bytes
 
--- there is one of element i, and it is clear
-pub record Clear (bs : List ℕ) (i : ℕ) : Type 0 where
-  pub inside : i < 8 * length bs
-  pub clear : mark_at bs i ≡ 0
-
 -- there is one for each node
 pub record Marks (s : Shape) (bs : List ℕ) : Type 0 where
   pub laid : Laid s

@@ -7,45 +7,40 @@ ghost use Rattle.std.specs.Prelude.{◌≡◌, ◌*◌, ◌<◌, length};
 ghost use Rattle.layout.specs.Tables.{lists, settings_of};
 ghost use Rattle.once.specs.Bits.{mark_at, set_mark, marks_in};
 ghost use Rattle.once.specs.Once.{unmarked, once_found};
-ghost use Rattle.once.specs.Walks.{Clear, Marks, Walkable, Blank, Fresh, Met, Walked};
+ghost use Rattle.once.specs.Walks.{Marks, Walkable, Blank, Fresh, Met, Walked};
 
 use layout::{Shape, Table};
 use ledger::EntryId;
 
 // The mark of an element, 0 or 1.
-#[tactic(auto, unfolding(crate::specs::Bits::mark_at))]
-fn mark_at(marks: &[u8], at: usize) -> u32
+#[tactic(auto, using(std::proofs::lemmas::Nat::Bits::shr_and_one), unfolding(crate::specs::Bits::mark_at))]
+fn mark_at(marks: &[u8], at: usize) -> u8
     requires { at < 8 * length marks.now }
     ensures { result ≡ mark_at marks.now at }
 {
-    numbers::field(numbers::read1(marks, at / 8) as u32, (at % 8) as u32, 1)
+    (marks[at / 8] >> (at % 8)) & 1
 }
 
-// Sets it, where it is clear.
+// Sets it.
 fn set_mark(marks: &mut [u8], at: usize)
-    requires { Clear marks.old at }
+    requires { at < 8 * length marks.old }
     ensures { marks.new ≡ set_mark marks.old at }
 {
-    let i = at / 8;
-    let bit = numbers::join(1, (at % 8) as u32, 0);
-    let byte = numbers::read1(marks, i) as u32 + bit;
-    numbers::write1(marks, i, byte as u8);
+    marks[at / 8] |= 1 << (at % 8);
 }
 
-// Sets the mark of an element, where it is not set yet, and answers whether it was not.
+// Sets the mark of an element, and answers whether it was not set before.
 pub fn fresh(at: usize, marks: &mut [u8]) -> bool
     requires { at < 8 * length marks.old }
     ensures { Fresh marks.old at marks.new result }
 {
-    if mark_at(marks, at) == 0 {
-        set_mark(marks, at);
-        return true;
-    }
-    false
+    let new = mark_at(marks, at) == 0;
+    set_mark(marks, at);
+    new
 }
 
 // Marks x, where it is a node that is not marked yet, and answers whether it is.
-#[tactic(auto, using(memory::proofs::Chains::slot_lt, crate::proofs::Marks::fresh_new), unfolding(crate::specs::Once::is_new))]
+#[tactic(auto, using(memory::proofs::Chains::slot_lt), unfolding(crate::specs::Once::is_new))]
 fn meet(s: Shape, x: EntryId, marks: &mut [u8]) -> bool
     requires { Marks s marks.old }
     ensures { Met s (marks_in (settings_of s) marks.old) x.0 (marks_in (settings_of s) marks.new) result }
