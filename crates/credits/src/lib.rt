@@ -10,48 +10,39 @@ ghost use Rattle.memory.specs.Judged.{Works, judgement_of, judged};
 ghost use Rattle.memory.specs.Memory.{acted};
 
 use layout::Shape;
-use ledger::{Plain, Refusal, Verdict};
+use ledger::Refusal;
 
 // The first refusal of a credit that applies. Amounts have 32 bits, so the sum is made in 64.
-#[tactic(auto, using(crate::proofs::Laws::queue_free, crate::proofs::Laws::too_much, crate::proofs::Laws::goes))]
-pub fn judge_credit(m: &[u8], s: Shape, port: u32, queue: u32, amount: u32) -> Verdict
+#[tactic(auto, using(memory::proofs::Judging::judging), unfolding(memory::specs::Judged::judged))]
+pub fn judge_credit(m: &[u8], s: Shape, port: u32, queue: u32, amount: u32) -> Result<(), Refusal>
     requires { Works s m.now }
     ensures { judgement_of result ≡ judged (settings_of s) (ledger_in (settings_of s) m.now) (credit port queue amount) }
 {
     let p = port as usize;
     let q = queue as usize;
-    let ports = s.ports;
-    let queues = s.queues;
-    if ports <= p {
-        return Verdict::No(Refusal::NoPort);
+    if s.ports <= p {
+        return Err(Refusal::NoPort);
     }
-    if queues <= q {
-        return Verdict::No(Refusal::NoQueue);
+    if s.queues <= q || q == 0 {
+        return Err(Refusal::NoQueue);
     }
-    if q == 0 {
-        return Verdict::No(Refusal::NoQueue);
-    }
-    let total = parts::outward(m, s, p, q) as u64 + amount as u64;
+    let total = u64::from(parts::outward(m, s, p, q)) + u64::from(amount);
     if 65535 < total {
-        return Verdict::No(Refusal::TooMuchCredit);
+        return Err(Refusal::TooMuchCredit);
     }
-    Verdict::Go
+    Ok(())
 }
 
 // The amount added to the outward credit of a port and a queue.
-pub fn credit(m: &mut [u8], s: Shape, port: u32, queue: u32, amount: u32) -> Plain
+#[tactic(auto, using(crate::proofs::Laws::gone_on))]
+pub fn credit(m: &mut [u8], s: Shape, port: u32, queue: u32, amount: u32) -> Result<(), Refusal>
     requires { Works s m.old }
     ensures { ◌≡◌ {A = Reply × List ℕ} (plain_reply result, m.new) (acted (settings_of s) m.old (credit port queue amount)) }
 {
-    let verdict = judge_credit(m, s, port, queue, amount);
-    match verdict {
-        Verdict::No(r) => Plain::No(r),
-        Verdict::Go => {
-            let p = port as usize;
-            let q = queue as usize;
-            let held = parts::outward(m, s, p, q);
-            parts::set_outward(m, s, p, q, held + amount as u16);
-            Plain::Done
-        }
-    }
+    judge_credit(m, s, port, queue, amount)?;
+    let p = port as usize;
+    let q = queue as usize;
+    let held = parts::outward(m, s, p, q);
+    parts::set_outward(m, s, p, q, held + amount as u16);
+    Ok(())
 }

@@ -1,31 +1,16 @@
--- What the judge and the act of map come to, with no code. Assumes nothing.
+-- What the act of map comes to, with no code. Assumes nothing.
 use mathlib.Core.Path.{◌≡◌, sym}
 use mathlib.Core.List.{List}
-use Prim.Native.Nat.{ℕ, ◌≤◌, ◌<◌}
+use Prim.Native.Nat.{ℕ, ◌<◌}
 use Rattle.ledger.specs.Settings.{Settings, ids}
-use Rattle.ledger.specs.Ledger.{Ledger}
 use Rattle.ledger.specs.Calls.{done, map_to}
-use Rattle.ledger.proofs.Tests.{leb_is, leb_not, leb_no}
+use Rattle.ledger.proofs.Tests.{leb_no}
 use Rattle.layout.specs.declared.Table.TheVariants.{Mapped}
 use Rattle.layout.specs.Tables.{put}
 use Rattle.layout.specs.Picture.{ledger_in}
-use Rattle.memory.specs.Judged.{good, bad, judged}
+use Rattle.memory.specs.Judged.{good, judged}
 use Rattle.memory.specs.Memory.{acted}
 use Rattle.memory.proofs.Judged.{judged_clear, acted_good}
-
-module _ (S : Settings) (L : Ledger) (d p : ℕ) where
-  pub no_id : ids ≤ d → bad 15 ≡ judged S L (map_to d p)
-  unfolding judged
-  no_id h = rw (leb_is ids d h)
-
-  module _ (hd : d < ids) where
-    pub map_no_port : S.ports ≤ p → bad 4 ≡ judged S L (map_to d p)
-    unfolding judged
-    map_no_port h = rw (leb_not ids d hd, leb_is S.ports p h)
-
-    pub map_goes : p < S.ports → good ≡ judged S L (map_to d p)
-    unfolding judged
-    map_goes h = rw (leb_not ids d hd, leb_not S.ports p h)
 
 -- what is known once the judge let a map go
 pub record Maps (S : Settings) (m : List ℕ) (d p : ℕ) : Type 0 where

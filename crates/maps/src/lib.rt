@@ -10,35 +10,30 @@ ghost use Rattle.memory.specs.Judged.{Works, judgement_of, judged};
 ghost use Rattle.memory.specs.Memory.{acted};
 
 use layout::Shape;
-use ledger::{Plain, Refusal, Verdict};
+use ledger::Refusal;
 
 // The first refusal of a map that applies.
-pub fn judge_map(m: &[u8], s: Shape, id: u32, port: u32) -> Verdict
+#[tactic(auto, using(memory::proofs::Judging::judging), unfolding(memory::specs::Judged::judged))]
+pub fn judge_map(m: &[u8], s: Shape, id: u32, port: u32) -> Result<(), Refusal>
     requires { Works s m.now }
     ensures { judgement_of result ≡ judged (settings_of s) (ledger_in (settings_of s) m.now) (map_to id port) }
 {
-    let p = port as usize;
-    let ports = s.ports;
     if 4096 <= id {
-        return Verdict::No(Refusal::NoSuchId);
+        return Err(Refusal::NoSuchId);
     }
-    if ports <= p {
-        return Verdict::No(Refusal::NoPort);
+    if s.ports <= port as usize {
+        return Err(Refusal::NoPort);
     }
-    Verdict::Go
+    Ok(())
 }
 
 // The port of a destination id, set.
-pub fn map_to(m: &mut [u8], s: Shape, id: u32, port: u32) -> Plain
+#[tactic(auto, using(crate::proofs::Laws::mapped_on))]
+pub fn map_to(m: &mut [u8], s: Shape, id: u32, port: u32) -> Result<(), Refusal>
     requires { Works s m.old }
     ensures { ◌≡◌ {A = Reply × List ℕ} (plain_reply result, m.new) (acted (settings_of s) m.old (map_to id port)) }
 {
-    let verdict = judge_map(m, s, id, port);
-    match verdict {
-        Verdict::No(r) => Plain::No(r),
-        Verdict::Go => {
-            parts::set_mapped(m, s, id as usize, port as u8);
-            Plain::Done
-        }
-    }
+    judge_map(m, s, id, port)?;
+    parts::set_mapped(m, s, id as usize, port as u8);
+    Ok(())
 }

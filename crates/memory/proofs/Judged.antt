@@ -1,14 +1,17 @@
 -- From a judgement to the outcome of an act. Assumes nothing.
-use mathlib.Core.Path.{◌≡◌, refl, ap, ◌∙◌}
+use mathlib.Core.Path.{◌≡◌, refl, sym, ap, ◌∙◌}
 use mathlib.Core.Bool.{true, false}
 use mathlib.Core.List.{List, [], ◌∷◌}
 use Prim.Native.Nat.{ℕ}
 use native.Mathlib.Omega.{arith}
+use Rattle.std.specs.Prelude.{Result, Ok, Err, IsErrAnd}
 use Rattle.ledger.specs.Settings.{Settings}
 use Rattle.ledger.specs.Rules.{Rule, refuse, guard, Clear}
 use Rattle.ledger.specs.Ledger.{Ledger}
 use Rattle.ledger.specs.Calls.{Act, arrive, stitch, prefetch, credit, map_to, turn, ready, where_is}
-use Rattle.ledger.specs.Calls.{clear, report, bucket, show, is_arrival, refused, rules, result}
+use Rattle.ledger.specs.Calls.{clear, report, bucket, show, is_arrival, Reply, refused, rules, result}
+use Rattle.ledger.specs.Answers.{number_of, reply_by}
+use Rattle.ledger.specs.declared.Refusal.{Refusal}
 use Rattle.ledger.proofs.Tests.{true≢false}
 use Rattle.ledger.proofs.Steps.{cleared}
 use Rattle.layout.specs.Picture.{ledger_in}
@@ -61,3 +64,9 @@ kept_else S n (show ns p q) m i = refl
 
 pub acted_bad : (S : Settings) (m : List ℕ) (a : Act) → is_arrival a ≡ false → (n : ℕ) → judged S (ledger_in S m) a ≡ bad n → acted S m a ≡ (refused n, m)
 acted_bad S m a other n e = acted_refused S m a n e ∙ ap (λ (m' : List ℕ). (refused n, m')) (kept_else S n a m other)
+
+-- a call that hands its judge's refusal on answers what the act does
+pub handed_on : {T : Type 0} (said : T → Reply) (S : Settings) (m : List ℕ) (a : Act) (no' : Refusal) (r : Result T Refusal)
+    → IsErrAnd r (λ e. e ≡ no') → bad (number_of no') ≡ judged S (ledger_in S m) a → is_arrival a ≡ false → (reply_by said r, m) ≡ acted S m a
+handed_on said S m a no' (Ok x) h e other = absurd h
+handed_on said S m a no' (Err e') h e other = rw h (sym (acted_bad S m a other (number_of no') (sym e)))

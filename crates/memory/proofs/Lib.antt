@@ -16,6 +16,7 @@ pub mod Words
 pub mod Tally
 pub mod Past
 pub mod Judged
+pub mod Judging
 pub mod Rounds
 pub mod Runs
 pub mod Stretch

@@ -1,76 +1,28 @@
--- What the judges and the acts of prefetch and stitch come to, with no code. Assumes nothing.
+-- What the acts of prefetch and stitch come to, with no code. Assumes nothing.
 use mathlib.Core.Path.{◌≡◌, refl, sym, ap, ◌∙◌, subst}
 use mathlib.Core.Bool.{true}
 use mathlib.Core.List.{List}
-use Prim.Native.Nat.{ℕ, ◌≤◌, ◌<◌}
+use Prim.Native.Nat.{ℕ, ◌<◌}
 use native.Mathlib.Omega.{arith}
 use Rattle.ledger.specs.Settings.{Settings, ids}
-use Rattle.ledger.specs.Ledger.{is_node, Packet, ingress, egress, prefetched, place#, Ledger, map_of, mapped, PlaceIn}
+use Rattle.ledger.specs.Ledger.{is_node, Packet, ingress, egress, prefetched, place#, map_of, mapped, PlaceIn}
 use Rattle.ledger.specs.Calls.{entry, stitched, stitch, prefetch, stitch_record, first_of}
-use Rattle.ledger.specs.Sound.{Roomy}
 use Rattle.ledger.proofs.Header.{dest_mapped}
-use Rattle.ledger.proofs.Tests.{leb_is, leb_not, leb_no}
+use Rattle.ledger.proofs.Tests.{leb_no}
 use Rattle.ledger.proofs.Places.{place#_lt}
 use Rattle.ledger.proofs.Keep.{Fits, first_fits}
 use Rattle.ledger.proofs.Rows.{roomy}
 use Rattle.layout.specs.declared.Table.TheVariants.{Count}
-use Rattle.layout.specs.Tables.{lists, get}
+use Rattle.layout.specs.Tables.{get}
 use Rattle.layout.specs.Picture.{packet_at, ledger_in, StateOf}
 use Rattle.memory.specs.Ends.{pop_mem, push_mem}
 use Rattle.memory.specs.Writes.{head_of, move_mem}
-use Rattle.memory.specs.Judged.{good, bad, judged}
+use Rattle.memory.specs.Judged.{good, judged}
 use Rattle.memory.specs.Memory.{acted}
-use Rattle.memory.proofs.Chains.{list_length, head_is_node, state_tidy}
-use Rattle.memory.proofs.Paint.{empty_is, some_is, counted_some}
+use Rattle.memory.proofs.Chains.{head_is_node, state_tidy}
+use Rattle.memory.proofs.Paint.{counted_some}
 use Rattle.memory.proofs.Square.{first_held}
 use Rattle.memory.proofs.Judged.{judged_clear, acted_good}
-
-module _ (S : Settings) (m : List ℕ) (p q : ℕ) where
-  abbrev L : Ledger
-  L = ledger_in S m
-
-  pub no_port_lem : S.ports ≤ p → bad 4 ≡ judged S L (prefetch p q)
-  unfolding judged
-  no_port_lem h = rw (leb_is S.ports p h)
-
-  module _ (hp : p < S.ports) where
-    pub no_queue : S.queues ≤ q → bad 5 ≡ judged S L (prefetch p q)
-    unfolding judged
-    no_queue h = rw (leb_not S.ports p hp, leb_is S.queues q h)
-
-    module _ (hq : q < S.queues) where
-      pub from_in : place# S (egress p q) < lists S
-      from_in = place#_lt S (egress p q) (hp, hq)
-
-      pub to_in : place# S (prefetched p q) < lists S
-      to_in = place#_lt S (prefetched p q) (hp, hq)
-
-      pub nothing_there : get S m Count (place# S (egress p q)) ≡ 0 → bad 12 ≡ judged S L (prefetch p q)
-      unfolding judged
-      nothing_there e = rw (leb_not S.ports p hp, leb_not S.queues q hq, empty_is S m (place# S (egress p q)) from_in e)
-
-      module _ (some : get S m Count (place# S (egress p q)) ≡ 0 → ⊥) where
-        pub slots_in_use : S.slots ≤ get S m Count (place# S (prefetched p q)) → bad 13 ≡ judged S L (prefetch p q)
-        unfolding judged
-        slots_in_use h =
-            rw (
-              leb_not S.ports p hp,
-              leb_not S.queues q hq,
-              some_is S m (place# S (egress p q)) from_in some,
-              list_length S m (place# S (prefetched p q)) to_in,
-              leb_is S.slots _ h,
-            )
-
-        pub goes : get S m Count (place# S (prefetched p q)) < S.slots → good ≡ judged S L (prefetch p q)
-        unfolding judged
-        goes h =
-            rw (
-              leb_not S.ports p hp,
-              leb_not S.queues q hq,
-              some_is S m (place# S (egress p q)) from_in some,
-              list_length S m (place# S (prefetched p q)) to_in,
-              leb_not S.slots _ h,
-            )
 
 -- what is known once the judge let a prefetch go
 pub record Goes (S : Settings) (m : List ℕ) (p q : ℕ) : Type 0 where
@@ -97,23 +49,6 @@ gone_on S m s p q e =
     }
 
 -- ---- stitch
-
-module _ (S : Settings) (m : List ℕ) (p : ℕ) where
-  pub stitch_no_port : S.ports ≤ p → bad 4 ≡ judged S (ledger_in S m) (stitch p)
-  unfolding judged
-  stitch_no_port h = rw (leb_is S.ports p h)
-
-  module _ (ok : Roomy S) (hp : p < S.ports) where
-    pub ingress_in : place# S (ingress p) < lists S
-    ingress_in = place#_lt S (ingress p) (hp, omega (arith, ok.some_queues))
-
-    pub stitch_nothing : get S m Count (place# S (ingress p)) ≡ 0 → bad 12 ≡ judged S (ledger_in S m) (stitch p)
-    unfolding judged
-    stitch_nothing e = rw (leb_not S.ports p hp, empty_is S m (place# S (ingress p)) ingress_in e)
-
-    pub stitch_goes : (get S m Count (place# S (ingress p)) ≡ 0 → ⊥) → good ≡ judged S (ledger_in S m) (stitch p)
-    unfolding judged
-    stitch_goes n = rw (leb_not S.ports p hp, some_is S m (place# S (ingress p)) ingress_in n)
 
 -- what is known once the judge let a stitch go: k is the packet, to the port that the map names
 pub record Stitches (S : Settings) (m : List ℕ) (p : ℕ) (k : Packet) (to : ℕ) : Type 0 where
