@@ -1,23 +1,16 @@
 // The form of a header: how wide its fields are in a switch of an edition, so many ports and so many queues. Computed here and nowhere else.
 #![tactic(auto)]
 
+mod form;
+
 ghost use Rattle.std.specs.Prelude.{◌≡◌, ◌≤◌};
 ghost use Rattle.ledger.specs.Header.{width_of, form_of};
 ghost use Rattle.forms.specs.Formed.{Forms, offer_of};
 
-// The bits of a port and of a queue, the bytes of the credit on offer; the bytes of the front, the zeros to spare at its end, and the bytes
-// of the header.
-#[derive(Clone, Copy)]
-pub struct HeaderForm {
-    pub port: u32,
-    pub queue: u32,
-    pub offer: u32,
-    pub front: u32,
-    pub spare: u32,
-    pub size: u32,
-}
+pub use form::HeaderForm;
 
 // As wide as the count less one needs.
+#[tactic(auto, using(ledger::proofs::Header::narrow_width), unfolding(ledger::specs::Header::width_of))]
 fn width_of(n: u32) -> u32
     requires { (2 ≤ n) × (n ≤ 64) }
     ensures { (result ≡ width_of n) × (result ≤ 6) }
@@ -29,10 +22,7 @@ fn width_of(n: u32) -> u32
 fn offer_of(edition: u32) -> u32
     ensures { (result ≡ offer_of edition) × (result ≤ 2) }
 {
-    if edition == 0 {
-        return 1;
-    }
-    2
+    if edition == 0 { 1 } else { 2 }
 }
 
 pub fn form_of(edition: u32, ports: u32, queues: u32) -> HeaderForm

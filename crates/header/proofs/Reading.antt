@@ -8,6 +8,7 @@ use native.Mathlib.Omega.{arith}
 use lib.ListN.{length}
 use lib.Dec.{eqb}
 use lib.Pow.{high}
+use Rattle.std.specs.Prelude.{Option, None, Some}
 use Rattle.numbers.specs.Bytes.{number}
 use Rattle.numbers.specs.Fields.{bits, total, unpack}
 use Rattle.numbers.proofs.Bytes.{number_lt, number_split, pow_bytes}
@@ -21,8 +22,6 @@ use Rattle.header.specs.Front.{front_widths}
 use Rattle.header.specs.Parse.{fields, wrong_size, parsed, header_of, parsed_of}
 use Rattle.header.specs.Loads.{misfit, other}
 use Rattle.header.specs.declared.HeaderFields.{HeaderFields}
-use Rattle.header.specs.declared.Parsed.{Parsed}
-use Rattle.header.specs.declared.Parsed.TheVariants.{Header, WrongSize}
 
 -- ---- where the fields stand
 
@@ -113,11 +112,11 @@ pub header_of_injective : (a b : HeaderFields) → header_of a ≡ header_of b �
 unfolding back
 header_of_injective a b e = ap back e
 
-pub parsed_of_injective : (a b : Parsed) → parsed_of a ≡ parsed_of b → a ≡ b
-parsed_of_injective (Header a) (Header b) e = cc (header_of_injective a b (cc))
-parsed_of_injective (Header a) WrongSize e = absurd (let z : ◌≡◌ {A = ℕ} 0 1 = cc in omega arith)
-parsed_of_injective WrongSize (Header b) e = absurd (let z : ◌≡◌ {A = ℕ} 0 1 = cc in omega arith)
-parsed_of_injective WrongSize WrongSize e = refl
+pub parsed_of_injective : (a b : Option HeaderFields) → parsed_of a ≡ parsed_of b → a ≡ b
+parsed_of_injective (Some a) (Some b) e = cc (header_of_injective a b (cc))
+parsed_of_injective (Some a) None e = cc
+parsed_of_injective None (Some b) e = cc
+parsed_of_injective None None e = refl
 
 module _ (F : Form) (h : Load) where
   -- by the size
@@ -134,7 +133,7 @@ module _ (F : Form) (h : Load) where
   parsed_size f e = go (missized F h) refl
     where
       go : (t : Bool) → missized F h ≡ t → missized F h ≡ false
-      go true t = let other = parsed_other t in absurd (let z : ◌≡◌ {A = ℕ} 0 1 = cc in omega arith)
+      go true t = let other = parsed_other t in cc
       go false t = t
 
   pub parsed_fields : (f : Fields) → parsed F h ≡ fields f → f ≡ fields_of F (bytes_in h)
@@ -145,7 +144,7 @@ module _ (F : Form) (h : Load) where
     where
       go : (t : Bool) → missized F h ≡ t → missized F h ≡ true
       go true t = t
-      go false t = let found = parsed_right t in absurd (let z : ◌≡◌ {A = ℕ} 0 1 = cc in omega arith)
+      go false t = let found = parsed_right t in cc
 
 -- ---- the code's load
 

@@ -1,22 +1,21 @@
 -- The laws of judging a header: the answer's meaning determines it, and each verdict by the tests that lead to it. Assumes nothing.
-use mathlib.Core.Path.{◌≡◌, refl, sym, ap, ◌∙◌}
+use mathlib.Core.Path.{◌≡◌, refl, sym}
 use mathlib.Core.Bool.{Bool, true, false, not}
 use mathlib.Core.List.{List, [], ◌∷◌, ◌++◌}
-use Prim.Native.Nat.{ℕ, ◌<◌, ◌≤◌}
-use native.Mathlib.Omega.{arith}
-use lib.Dec.{eqb, ltb, leb}
+use Prim.Native.Nat.{ℕ}
+use lib.Dec.{eqb}
 use lib.ListN.{take}
-use borrow.Author.Tests.{eq-eqb, ne_eqb, lt-ltb, le-ltb}
+use borrow.Author.Tests.{eq-eqb, ne_eqb}
+use Rattle.std.specs.Prelude.{Result, Ok, Err}
 use Rattle.crc.specs.Crc.{crc8}
-use Rattle.ledger.specs.Header.{Form, Fields, fields_of, body_size, least_length, Load, alone, bytes_in, size_number, missized, miscounted, arrival_rules}
+use Rattle.ledger.specs.Header.{Form, Fields, fields_of, body_size, Load, bytes_in, size_number, missized, miscounted, arrival_rules}
 use Rattle.ledger.specs.Rules.{Rule, refuse, guard, Clear}
-use Rattle.ledger.proofs.Tests.{leb_is, leb_not}
+use Rattle.ledger.specs.declared.Refusal.{Refusal}
 use Rattle.ledger.proofs.Passes.{Passes, passes, guard_after}
 use Rattle.ledger.proofs.Answers.{number_inj}
 use Rattle.header.specs.Parse.{fields, wrong_size, parsed}
-use Rattle.header.specs.Judge.{bad, good, verdict, verdict_of, byte_rules, field_rules, opened, settled, readable}
-use Rattle.header.specs.declared.Judged.{Judged}
-use Rattle.header.specs.declared.Judged.TheVariants.{Good, No}
+use Rattle.header.specs.Judge.{bad, good, verdict, verdict_of, byte_rules, field_rules, opened, settled}
+use Rattle.header.specs.declared.HeaderFields.{HeaderFields}
 use Rattle.header.proofs.Reading.{header_of_injective, parsed_size, parsed_fields, parsed_wrong}
 
 -- ---- rules one after another
@@ -24,14 +23,14 @@ use Rattle.header.proofs.Reading.{header_of_injective, parsed_size, parsed_field
 -- what the first of them refuse is refused, whatever comes after them
 pub first_bad_lem : {X : Type 0} (rs ts : List Rule) (f : Fields) (r : ℕ) (no' : ℕ → X) (out : X) → bad r ≡ guard rs bad (good f)
     → no' r ≡ guard (rs ++ ts) no' out
-first_bad_lem [] ts f r no' out e = absurd (let z : ◌≡◌ {A = ℕ} 0 1 = cc in omega arith)
+first_bad_lem [] ts f r no' out e = cc
 first_bad_lem (refuse n true ∷ rs) ts f r no' out e = cc
 first_bad_lem (refuse n false ∷ rs) ts f r no' out e = first_bad_lem rs ts f r no' out e
 
 -- where they find nothing, none of them applies
 pub first_good : (rs : List Rule) (f g : Fields) → good g ≡ guard rs bad (good f) → (g ≡ f) × Clear rs
 first_good [] f g e = (cc, tt)
-first_good (refuse n true ∷ rs) f g e = absurd (let z : ◌≡◌ {A = ℕ} 0 1 = cc in omega arith)
+first_good (refuse n true ∷ rs) f g e = cc
 first_good (refuse n false ∷ rs) f g e = let later = first_good rs f g e in (later.0, (refl, later.1))
 
 -- ---- the bytes
@@ -62,25 +61,6 @@ module _ (F : Form) (h : Load) where
       pub of_bytes : f.reserved ≡ 0 → good f ≡ opened F h
       of_bytes clear = rw (same, size, summed, eq-eqb f.reserved 0 clear)
 
--- ---- the fields
-
-module _ (F : Form) (n : ℕ) (m : Bool) (f : Fields) where
-  pub of_length : f.len < least_length F → bad 9 ≡ settled F n m f
-  of_length short = rw (lt-ltb f.len (least_length F) short)
-
-  -- it is long enough
-  module _ (long : least_length F ≤ f.len) where
-    pub of_count : m ≡ true → bad 16 ≡ settled F n m f
-    of_count off = rw (le-ltb f.len (least_length F) long, off)
-
-    -- and there are as many bytes
-    module _ (right : m ≡ false) where
-      pub of_queue : n ≤ f.queue → bad 19 ≡ settled F n m f
-      of_queue none = rw (le-ltb f.len (least_length F) long, right, leb_is n f.queue none)
-
-      pub of_good : f.queue < n → good f ≡ settled F n m f
-      of_good has = rw (le-ltb f.len (least_length F) long, right, leb_not n f.queue has)
-
 -- ---- an arrival
 
 module _ (F : Form) (n p : ℕ) (h : Load) where
@@ -101,33 +81,8 @@ module _ (F : Form) (n p : ℕ) (h : Load) where
     is : f ≡ told
     is = (first_good (byte_rules F h) told f e).0
 
-    pub of_source : (f.source ≡ p → ⊥) → bad 8 ≡ verdict F n p h
-    of_source wrong = let other = ne_eqb f.source p wrong in rw (← rest, ← is, other)
-
     pub of_settled : (m : Bool) → m ≡ miscounted F h → f.source ≡ p → settled F n m f ≡ verdict F n p h
     of_settled m same right = let own = eq-eqb f.source p right in rw (← rest, ← is, own, ← same)
-
--- ---- a header that arrives nowhere
-
--- a rule that never applies can be left out
-skipped : {X : Type 0} (n k : ℕ) (a : Bool) (rs : List Rule) (no' : ℕ → X) (out : X)
-    → guard (refuse n a ∷ refuse k false ∷ rs) no' out ≡ guard (refuse n a ∷ rs) no' out
-skipped n k true rs no' out = refl
-skipped n k false rs no' out = refl
-
-module _ (F : Form) (n : ℕ) (h : List ℕ) where
-  abbrev asked : List Rule
-  asked = refuse 9 (ltb (fields_of F h).len (least_length F)) ∷ refuse 19 (leb n (fields_of F h).queue) ∷ []
-
-  pub unreadable : (r : ℕ) → bad r ≡ opened F (alone h) → bad r ≡ readable F n h
-  unreadable r e = first_bad_lem (byte_rules F (alone h)) asked (fields_of F h) r bad (good (fields_of F h)) e
-
-  pub reads_on : (f : Fields) → good f ≡ opened F (alone h) → settled F n false f ≡ readable F n h
-  reads_on f e =
-      let first = first_good (byte_rules F (alone h)) (fields_of F h) f e in
-      ap (settled F n false) first.0
-      ∙ skipped 9 16 (ltb (fields_of F h).len (least_length F)) (refuse 19 (leb n (fields_of F h).queue) ∷ []) bad (good (fields_of F h))
-      ∙ sym (guard_after (byte_rules F (alone h)) asked bad (good (fields_of F h)) first.1)
 
 -- ---- what a verdict says
 
@@ -137,8 +92,8 @@ good_means F n p h f e =
     let means = first_good (arrival_rules F n p h) (fields_of F (bytes_in h)) f e in
     (means.0, passes F n p h means.1)
 
-pub verdict_of_injective : (a b : Judged) → verdict_of a ≡ verdict_of b → a ≡ b
-verdict_of_injective (Good a) (Good b) e = cc (header_of_injective a b (cc))
-verdict_of_injective (Good a) (No b) e = absurd (let z : ◌≡◌ {A = ℕ} 0 1 = cc in omega arith)
-verdict_of_injective (No a) (Good b) e = absurd (let z : ◌≡◌ {A = ℕ} 0 1 = cc in omega arith)
-verdict_of_injective (No a) (No b) e = cc (number_inj a b (cc))
+pub verdict_of_injective : (a b : Result HeaderFields Refusal) → verdict_of a ≡ verdict_of b → a ≡ b
+verdict_of_injective (Ok a) (Ok b) e = cc (header_of_injective a b (cc))
+verdict_of_injective (Ok a) (Err b) e = cc
+verdict_of_injective (Err a) (Ok b) e = cc
+verdict_of_injective (Err a) (Err b) e = cc (number_inj a b (cc))

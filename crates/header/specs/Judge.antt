@@ -1,12 +1,12 @@
 -- What judging a header gives, and what the code's answer means. Assumes nothing.
-use Rattle.std.specs.Prelude.{Bool, not, List, [], ◌∷◌, ℕ, take, eqb, ltb, leb}
+use Rattle.std.specs.Prelude.{Result, Ok, Err, Bool, not, List, [], ◌∷◌, ℕ, take, eqb, ltb, leb}
 use Rattle.crc.specs.Crc.{crc8}
 use Rattle.ledger.specs.Header.{Form, Fields, fields_of, body_size, least_length, read_rules, Load, bytes_in, size_number, missized, arrival_rules}
 use Rattle.ledger.specs.Rules.{Rule, refuse, guard}
 use Rattle.ledger.specs.Answers.{number_of}
+use Rattle.ledger.specs.declared.Refusal.{Refusal}
 use Rattle.header.specs.Parse.{header_of}
-use Rattle.header.specs.declared.Judged.{Judged}
-use Rattle.header.specs.declared.Judged.TheVariants.{Good, No}
+use Rattle.header.specs.declared.HeaderFields.{HeaderFields}
 
 pub data Verdict : Type 0 where
   bad : ℕ → Verdict
@@ -20,9 +20,9 @@ verdict F n p h = guard (arrival_rules F n p h) bad (good (fields_of F (bytes_in
 abbrev pub readable : Form → ℕ → List ℕ → Verdict
 readable F n h = guard (read_rules F n h) bad (good (fields_of F h))
 
-abbrev pub verdict_of : Judged → Verdict
-verdict_of (Good f) = good (header_of f)
-verdict_of (No r) = bad (number_of r)
+abbrev pub verdict_of : Result HeaderFields Refusal → Verdict
+verdict_of (Ok f) = good (header_of f)
+verdict_of (Err r) = bad (number_of r)
 
 -- ---- in two parts: what is asked before the source, of the bytes, and what after it, of the fields
 

@@ -1,9 +1,7 @@
 -- What reading bytes as a header gives, and what the code's answer means. Assumes nothing.
-use Rattle.std.specs.Prelude.{cond}
+use Rattle.std.specs.Prelude.{cond, Option, None, Some}
 use Rattle.ledger.specs.Header.{Form, Fields, fields_of, Load, bytes_in, missized}
 use Rattle.header.specs.declared.HeaderFields.{HeaderFields}
-use Rattle.header.specs.declared.Parsed.{Parsed}
-use Rattle.header.specs.declared.Parsed.TheVariants.{Header, WrongSize}
 
 pub data Read : Type 0 where
   fields : Fields → Read
@@ -28,6 +26,6 @@ header_of f = record {
   check = f.check;
 }
 
-abbrev pub parsed_of : Parsed → Read
-parsed_of (Header f) = fields (header_of f)
-parsed_of WrongSize = wrong_size
+abbrev pub parsed_of : Option HeaderFields → Read
+parsed_of (Some f) = fields (header_of f)
+parsed_of None = wrong_size

@@ -5,10 +5,9 @@
 ghost use Rattle.std.specs.Prelude.{◌≡◌, List, ℕ, ◌+◌, ◌^◌, ◌<◌, ◌≤◌, length};
 ghost use Rattle.numbers.specs.Bytes.{number};
 ghost use Rattle.numbers.specs.Fields.{bits, unpack};
-ghost use Rattle.crc.specs.Crc.{Steps};
 ghost use Rattle.ledger.specs.Header.{fields_of, header_size, size_number, price};
 ghost use Rattle.ledger.specs.Answers.{number_of, load_of};
-ghost use Rattle.forms.specs.Formed.{form_in, Formed};
+ghost use Rattle.forms.specs.Formed.{form_in};
 ghost use Rattle.header.specs.Front.{front_widths, front_of};
 ghost use Rattle.header.specs.Parse.{header_of, parsed_of, parsed};
 ghost use Rattle.header.specs.Loads.{misfit, other};
@@ -43,20 +42,6 @@ struct Front {
     reserved: u8,
 }
 
-// What reading some bytes as a header finds.
-#[derive(Clone, Copy)]
-pub enum Parsed {
-    Header(HeaderFields),
-    WrongSize,
-}
-
-// A header that has none of its own faults, or the first that it has.
-#[derive(Clone, Copy)]
-pub enum Judged {
-    Good(HeaderFields),
-    No(Refusal),
-}
-
 // A field of at most eight bits.
 fn small(w: u32, lo: u32, width: u32) -> u8
     requires { (lo < 32) × (width ≤ 8) }
@@ -67,15 +52,15 @@ fn small(w: u32, lo: u32, width: u32) -> u8
 
 // The front of a header as a number: its three or four bytes stand first, and what a word of four has beside them goes.
 fn front_word(h: &[u8], form: HeaderForm) -> u32
-    requires { Formed form × (header_size (form_in form) ≤ length h.now) }
+    requires { header_size (form_in form) ≤ length h.now }
     ensures { result ≡ number form.front h.now 0 }
 {
     numbers::read4(h, 0) >> (8 * (4 - form.front))
 }
 
 // Its fields, from the last to the first.
+#[tactic(auto, using(numbers::proofs::Fields::bits_lt))]
 fn front_fields(w: u32, form: HeaderForm) -> Front
-    requires { Formed form }
     ensures { front_of result ≡ unpack (front_widths (form_in form)) w }
 {
     let lo = form.spare;
@@ -103,14 +88,15 @@ fn offered_at(h: &[u8], at: usize, bytes: u32) -> u16
     ensures { result ≡ number bytes h.now at }
 {
     if bytes == 1 {
-        return numbers::read1(h, at) as u16;
+        u16::from(numbers::read1(h, at))
+    } else {
+        numbers::read2(h, at)
     }
-    numbers::read2(h, at)
 }
 
 // The fields of bytes that start with a header.
 fn fields(h: &[u8], form: HeaderForm) -> HeaderFields
-    requires { Formed form × (header_size (form_in form) ≤ length h.now) }
+    requires { header_size (form_in form) ≤ length h.now }
     ensures { header_of result ≡ fields_of (form_in form) h.now }
 {
     let w = front_word(h, form);
@@ -165,93 +151,82 @@ fn size_refusal(load: Load) -> Refusal
     }
 }
 
-// The fields of what arrives. Nothing but the size is refused.
-pub fn parse(load: Load, h: &[u8], form: HeaderForm) -> Parsed
-    requires { Formed form }
+// The fields of what arrives: none where its size is wrong. Nothing but the size is asked.
+pub fn parse(load: Load, h: &[u8], form: HeaderForm) -> Option<HeaderFields>
     ensures { parsed_of result ≡ parsed (form_in form) (load_of load h.now) }
 {
     if missized(load, h.len(), form.size as usize) {
-        return Parsed::WrongSize;
+        return None;
     }
-    Parsed::Header(fields(h, form))
+    Some(fields(h, form))
 }
 
 // The refusals that are tested before the source: of the bytes, and of the reserved bits.
-fn open(steps: &[u8; 256], load: Load, h: &[u8], form: HeaderForm) -> Judged
-    requires { Steps steps.now × Formed form }
+fn open(load: Load, h: &[u8], form: HeaderForm) -> Result<HeaderFields, Refusal>
     ensures { verdict_of result ≡ opened (form_in form) (load_of load h.now) }
 {
-    let Parsed::Header(f) = parse(load, h, form) else {
-        return Judged::No(size_refusal(load));
-    };
-    let reserved = f.reserved;
+    let f = parse(load, h, form).ok_or(size_refusal(load))?;
     let body = (form.size - 1) as usize;
-    let sum = crc::checksum_by(steps, &h[..body]);
+    let sum = crc::checksum(&h[..body]);
     if f.check != sum {
-        return Judged::No(Refusal::Checksum);
+        return Err(Refusal::Checksum);
     }
-    if reserved != 0 {
-        return Judged::No(Refusal::ReservedBit);
+    if f.reserved != 0 {
+        return Err(Refusal::ReservedBit);
     }
-    Judged::Good(f)
+    Ok(f)
 }
 
 // Those that are tested after it: of the length, of the bytes' count and of the queue.
-fn settle(f: HeaderFields, form: HeaderForm, queues: u32, miscounted: bool) -> Judged
-    requires { Formed form }
+#[tactic(auto, unfolding(ledger::specs::Header::least_length))]
+fn settle(
+    f: HeaderFields,
+    form: HeaderForm,
+    queues: u32,
+    miscounted: bool,
+) -> Result<HeaderFields, Refusal>
     ensures { verdict_of result ≡ settled (form_in form) queues miscounted (header_of f) }
 {
-    let len = f.len as u32;
-    let queue = f.queue as u32;
-    let short = len < form.size + 2;
-    if short {
-        return Judged::No(Refusal::TooShort);
+    if u32::from(f.len) < form.size + 2 {
+        return Err(Refusal::TooShort);
     }
     if miscounted {
-        return Judged::No(Refusal::PacketBytes);
+        return Err(Refusal::PacketBytes);
     }
-    if queues <= queue {
-        return Judged::No(Refusal::HeaderQueue);
+    if queues <= u32::from(f.queue) {
+        return Err(Refusal::HeaderQueue);
     }
-    Judged::Good(f)
+    Ok(f)
 }
 
-// The refusals of what arrives at a port, in a switch of so many queues, in the order in which they are tested.
+// The refusals of what arrives at a port, in a switch of so many queues, in the order in which they are tested; or the header's fields.
 pub fn judge(
-    steps: &[u8; 256],
     load: Load,
     h: &[u8],
     form: HeaderForm,
     queues: u32,
     port: u32,
-) -> Judged
-    requires { Steps steps.now × Formed form }
+) -> Result<HeaderFields, Refusal>
     ensures { verdict_of result ≡ verdict (form_in form) queues port (load_of load h.now) }
 {
-    match open(steps, load, h, form) {
-        Judged::Good(f) => {
-            let source = f.source as u32;
-            if source != port {
-                return Judged::No(Refusal::Source);
-            }
-            settle(f, form, queues, miscounted(load, h.len(), f.len as usize))
-        }
-        Judged::No(r) => Judged::No(r),
+    let f = open(load, h, form)?;
+    if u32::from(f.source) != port {
+        return Err(Refusal::Source);
     }
+    let off = miscounted(load, h.len(), usize::from(f.len));
+    settle(f, form, queues, off)
 }
 
 // The refusals of a header that arrives nowhere: an arrival's, without that of its source.
-pub fn judge_read(steps: &[u8; 256], h: &[u8], form: HeaderForm, queues: u32) -> Judged
-    requires { Steps steps.now × Formed form }
+pub fn judge_read(h: &[u8], form: HeaderForm, queues: u32) -> Result<HeaderFields, Refusal>
     ensures { verdict_of result ≡ readable (form_in form) queues h.now }
 {
-    match open(steps, Load::Header, h, form) {
-        Judged::Good(f) => settle(f, form, queues, false),
-        Judged::No(r) => Judged::No(r),
-    }
+    let f = open(Load::Header, h, form)?;
+    settle(f, form, queues, false)
 }
 
 // What a packet costs, in beats. The bounds keep the sum within the type.
+#[tactic(auto, unfolding(ledger::specs::Header::price))]
 pub fn price_of(beat: u32, queue: u32, len: u32) -> u32
     requires { (1 ≤ beat) × (beat ≤ 512) × (len < 2 ^ 13) }
     ensures { result ≡ price beat queue len }

@@ -1,14 +1,13 @@
 -- `header::parse` meets its contract, by the size. Assumes nothing.
 use mathlib.Core.Path.{◌≡◌, sym, ap, ◌∙◌}
 use Prim.Native.Nat.{ℕ}
-use native.Mathlib.Omega.{arith}
 use lib.ListN.{length}
 use Rattle.ledger.specs.Header.{fields_of, missized}
 use Rattle.ledger.specs.Answers.{load_of}
 use Rattle.forms.specs.Formed.{form_in}
 use Rattle.header.specs.Parse.{fields}
 use Rattle.header.specs.Loads.{misfit}
-use Rattle.header.proofs.Reading.{parsed_right, parsed_other, misfit_is, bytes_are, fit_long}
+use Rattle.header.proofs.Reading.{parsed_right, parsed_other, misfit_is, bytes_are}
 use Rattle.header.proofs.parse.Goals as goal
 use Rattle.header.proofs.parse.Goals.{After-missized}
 
@@ -16,19 +15,13 @@ tested : (c : After-missized) → let a = c.args in missized (form_in a.form) (l
 tested c =
     let a = c.args in
     misfit_is (form_in a.form) a.load a.h.now
-    ∙ ap (λ (n : ℕ). misfit a.load (length a.h.now) n) (sym c.requires.size_is)
+    ∙ ap (λ (n : ℕ). misfit a.load (length a.h.now) n) (sym a.form.formed.size_is)
     ∙ sym c.missized.ensures
 
 pub returns-then-missized : goal.returns-then-missized
 returns-then-missized c =
     let a = c.args in
     sym (parsed_other (form_in a.form) (load_of a.load a.h.now) (tested (goal.at.returns-then-missized c).After-missized ∙ c.if-missized.true))
-
-pub fields-requires : goal.fields-requires
-fields-requires c =
-    let a = c.args in
-    let long = fit_long a.load (length a.h.now) a.form.size (sym c.missized.ensures ∙ c.if-missized.false) in
-    (c.requires, omega (arith, c.requires.size_is))
 
 pub returns : goal.returns
 returns c =
