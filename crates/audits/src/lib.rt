@@ -11,18 +11,14 @@ ghost use Rattle.memory.specs.Audit.{audited};
 ghost use Rattle.audits.specs.Told.{put_eight, told_list, told_lists, Lent, ListLent, NodeLent, Told};
 
 use layout::{Shape, Table};
-use ledger::{EntryId, ListKind, Plain, Refusal};
+use ledger::{EntryId, ListKind, Refusal};
 
 // Eight bytes of the room become these.
 fn put(room: &mut [u8], at: usize, bytes: [u8; 8])
     requires { at + 8 ≤ length room.old }
     ensures { room.new ≡ put_eight at bytes room.old }
 {
-    let mut j = 0;
-    while j < 8 {
-        room[at + j] = bytes[j];
-        j += 1;
-    }
+    room[at..at + 8].copy_from_slice(&bytes);
 }
 
 // Tells that node x stands at position i of a list of this kind, and answers the node after it.
@@ -31,8 +27,7 @@ fn tell(m: &[u8], s: Shape, x: EntryId, kind: ListKind, i: u16, room: &mut [u8])
     ensures { Told s m.now (kind_of kind) i x.0 result.0 room.old room.new }
 {
     let at = geometry::slot_of(s, x);
-    let bytes = rooms::place_bytes(x, kind, i);
-    put(room, 8 * at, bytes);
+    put(room, 8 * at, rooms::place_bytes(x, kind, i));
     EntryId(layout::get2(m, s, Table::Next, at))
 }
 
@@ -42,12 +37,9 @@ fn tell_list(m: &[u8], s: Shape, l: usize, room: &mut [u8])
     ensures { room.new ≡ told_list (settings_of s) m.now l room.old }
 {
     let kind = geometry::kind_of(s, l);
-    let n = lists::count(m, s, l);
     let mut x = lists::first(m, s, l);
-    let mut i: u32 = 0;
-    while i < n {
+    for i in 0..lists::count(m, s, l) {
         x = tell(m, s, x, kind, i as u16, room);
-        i += 1;
     }
 }
 
@@ -56,23 +48,19 @@ fn tell_lists(m: &[u8], s: Shape, room: &mut [u8])
     requires { Lent s m.now room.old }
     ensures { room.new ≡ told_lists (settings_of s) m.now 0 (lists (settings_of s)) room.old }
 {
-    let n = s.lists;
-    let mut l = 0;
-    while l < n {
+    for l in 0..s.lists {
         tell_list(m, s, l, room);
-        l += 1;
     }
 }
 
 // Every node's place, port by port and index by index: refused where the room has less than eight bytes a node.
-pub fn audit(m: &[u8], s: Shape, room: &mut [u8]) -> Plain
+pub fn audit(m: &[u8], s: Shape, room: &mut [u8]) -> Result<(), Refusal>
     requires { Works s m.now }
     ensures { ◌≡◌ {A = Reply × List ℕ} (plain_reply result, room.new) (audited (settings_of s) m.now room.old) }
 {
-    let all = s.all;
-    if room.len() < 8 * all {
-        return Plain::No(Refusal::ShortRoom);
+    if room.len() < 8 * s.all {
+        return Err(Refusal::ShortRoom);
     }
     tell_lists(m, s, room);
-    Plain::Done
+    Ok(())
 }

@@ -6,14 +6,14 @@ use Rattle.ledger.specs.Settings.{Settings}
 use Rattle.ledger.specs.Calls.{Reply, refused, done}
 use Rattle.layout.specs.declared.Shape.{Shape}
 use Rattle.layout.specs.Tables.{settings_of}
-use Rattle.ranges.specs.declared.Opened.TheVariants.{Wrong}
+use Rattle.std.specs.Prelude.{Err}
 use Rattle.ranges.specs.Opening.{opened, Open}
 use Rattle.ranges.proofs.Opening.{opened_wrong, open_opens}
 use Rattle.memory.specs.Repair.{repair_mem, repaired}
 use Rattle.memory.proofs.Repair.{repair_refused, repair_done}
 use Rattle.fills.specs.Fills.{Room}
 
-pub of_wrong : {m : List ℕ} {i : ℕ} → opened m ≡ Wrong i → ◌≡◌ {A = Reply × List ℕ} (refused 3, m) (repaired m)
+pub of_wrong : {m : List ℕ} {i : ℕ} → opened m ≡ Err i → ◌≡◌ {A = Reply × List ℕ} (refused 3, m) (repaired m)
 of_wrong {m} {i} e = sym (repair_refused m (opened_wrong m i e).0)
 
 module _ {m : List ℕ} {s : Shape} (o : Open m s) where

@@ -14,8 +14,7 @@ ghost use Rattle.fills.specs.Fills.{Room};
 ghost use Rattle.repairs.specs.Kept.{Lent, Mends};
 
 use layout::{Shape, Table};
-use ledger::{Plain, Refusal};
-use ranges::Opened;
+use ledger::Refusal;
 
 // Entries of the map: one for each destination id.
 const ENTRIES: usize = 4096;
@@ -24,8 +23,7 @@ const ENTRIES: usize = 4096;
 fn mended(s: Shape, entry: u8) -> u8
     ensures { result ≡ mended (settings_of s) entry }
 {
-    let port = entry as usize;
-    if port < s.ports {
+    if (entry as usize) < s.ports {
         return entry;
     }
     0
@@ -36,10 +34,8 @@ fn keep(m: &[u8], s: Shape, map: &mut [u8])
     requires { Lent s m.now map.old }
     ensures { Mends s m.now map.new }
 {
-    let mut i = 0;
-    while i < map.len() {
+    for i in 0..map.len() {
         map[i] = mended(s, layout::get1(m, s, Table::Mapped, i));
-        i += 1;
     }
 }
 
@@ -47,10 +43,8 @@ fn put_back(m: &mut [u8], s: Shape, map: &[u8])
     requires { Lent s m.old map.now }
     ensures { m.new ≡ fill (settings_of s) Mapped (λ i. i) (λ i. get_or map.now i 0) ids m.old }
 {
-    let mut i = 0;
-    while i < map.len() {
+    for i in 0..map.len() {
         layout::put1(m, s, Table::Mapped, i, map[i]);
-        i += 1;
     }
 }
 
@@ -66,15 +60,14 @@ fn restart(m: &mut [u8], s: Shape)
 }
 
 // The starting ledger for the settings that a memory has, with the map kept; or a refusal with no byte changed.
-pub fn repair(m: &mut [u8]) -> Plain
+pub fn repair(m: &mut [u8]) -> Result<(), Refusal>
     ensures { ◌≡◌ {A = Reply × List ℕ} (plain_reply result, m.new) (repaired m.old) }
 {
-    let opened = ranges::open(m);
-    match opened {
-        Opened::Wrong(_) => Plain::No(Refusal::NoState),
-        Opened::Fine(s) => {
+    match ranges::open(m) {
+        Ok(s) => {
             restart(m, s);
-            Plain::Done
+            Ok(())
         }
+        Err(_) => Err(Refusal::NoState),
     }
 }

@@ -13,26 +13,16 @@ ghost use Rattle.memory.specs.Memory.{acted};
 ghost use Rattle.memory.specs.Rounds.{after_acts, answers_to, rounded};
 
 use layout::Shape;
-use ledger::{Entry, Plain, Refusal};
+use ledger::Refusal;
 
 // One stitch at each port, in order.
 fn stitch_each(m: &mut [u8], s: Shape)
     requires { Works s m.old }
     ensures { (m.new ≡ after_acts (settings_of s) m.old (stitches (settings_of s))) × Works s m.new }
 {
-    let ports = s.ports;
-    let mut p = 0;
-    while p < ports {
-        moves::stitch(m, s, p as u32);
-        p += 1;
+    for p in 0..s.ports {
+        let _ = moves::stitch(m, s, p as u32);
     }
-}
-
-// How many queues a prefetch goes on: one, whatever it answered. A refusal is passed over.
-fn step(_: Entry) -> usize
-    ensures { result ≡ 1 }
-{
-    1
 }
 
 // One prefetch for each queue of port p, from 0 on.
@@ -40,10 +30,8 @@ fn prefetch_port(m: &mut [u8], s: Shape, p: u32)
     requires { Works s m.old }
     ensures { m.new ≡ after_acts (settings_of s) m.old (each (λ q. prefetch p q ∷ []) s.queues) }
 {
-    let queues = s.queues;
-    let mut q = 0;
-    while q < queues {
-        q += step(moves::prefetch(m, s, p, q as u32));
+    for q in 0..s.queues {
+        let _ = moves::prefetch(m, s, p, q as u32);
     }
 }
 
@@ -52,11 +40,8 @@ fn prefetch_each(m: &mut [u8], s: Shape)
     requires { Works s m.old }
     ensures { (m.new ≡ after_acts (settings_of s) m.old (prefetches (settings_of s))) × Works s m.new }
 {
-    let ports = s.ports;
-    let mut p = 0;
-    while p < ports {
+    for p in 0..s.ports {
         prefetch_port(m, s, p as u32);
-        p += 1;
     }
 }
 
@@ -77,26 +62,22 @@ fn turn_each(m: &mut [u8], s: Shape, room: &mut [u8])
     ensures m_after { (m.new ≡ after_acts (settings_of s) m.old (turns (settings_of s))) × Works s m.new }
     ensures room_after { room.new ≡ answers_in (answers_to (settings_of s) m.old (turns (settings_of s))) room.old }
 {
-    let ports = s.ports;
-    let mut p = 0;
-    while p < ports {
+    for p in 0..s.ports {
         turn_port(m, s, p, room);
-        p += 1;
     }
 }
 
 // The round: refused where the room has less than four bytes a port.
-pub fn round(m: &mut [u8], s: Shape, room: &mut [u8]) -> Plain
+pub fn round(m: &mut [u8], s: Shape, room: &mut [u8]) -> Result<(), Refusal>
     requires { Works s m.old }
     ensures { ◌≡◌ {A = Reply × List ℕ × List ℕ} (plain_reply result, m.new, room.new)
         (rounded (settings_of s) m.old room.old) }
 {
-    let ports = s.ports;
-    if room.len() < 4 * ports {
-        return Plain::No(Refusal::ShortRoom);
+    if room.len() < 4 * s.ports {
+        return Err(Refusal::ShortRoom);
     }
     stitch_each(m, s);
     prefetch_each(m, s);
     turn_each(m, s, room);
-    Plain::Done
+    Ok(())
 }

@@ -7,21 +7,20 @@ ghost use Rattle.ledger.specs.Answers.{plain_reply};
 ghost use Rattle.memory.specs.Memory.{M};
 ghost use Rattle.setup.specs.Told.{call_of};
 
-use ledger::{Plain, Refusal};
+use ledger::Refusal;
 use settings::Settings;
 
 // A new switch state in lent memory, or a refusal with no byte changed.
-pub fn setup(m: &mut [u8], told: Settings) -> Plain
+pub fn setup(m: &mut [u8], told: Settings) -> Result<(), Refusal>
     ensures { ◌≡◌ {A = Reply × List ℕ} (plain_reply result, m.new) (M (call_of told) m.old) }
 {
     if !settings::in_rows(told) {
-        return Plain::No(Refusal::BadSetting);
+        return Err(Refusal::BadSetting);
     }
     let s = layout::shape_of(told);
-    let n = layout::size_of(s);
-    if m.len() < n {
-        return Plain::No(Refusal::ShortMemory);
+    if m.len() < layout::size_of(s) {
+        return Err(Refusal::ShortMemory);
     }
     fills::put_state(m, s);
-    Plain::Done
+    Ok(())
 }

@@ -1,5 +1,4 @@
 -- What the loop of `repairs::keep` keeps.
-use Prim.Native.Nat.{◌-◌}
 use Rattle.ledger.specs.Settings.{ids}
 use Rattle.ledger.specs.Repair.{mended}
 use Rattle.layout.specs.declared.Table.TheVariants.{Mapped}
@@ -10,5 +9,3 @@ use Rattle.repairs.proofs.keep.Given as goal
 abbrev pub invariant-loop-i : goal.invariant-loop-i
 invariant-loop-i l = Keeping (λ k. mended (settings_of l.s) (get (settings_of l.s) l.m Mapped k)) ids l.i l.map
 
-abbrev pub decreases-loop-i : goal.decreases-loop-i
-decreases-loop-i l = ids - l.i

@@ -8,27 +8,27 @@ use Rattle.ledger.proofs.Rows.{roomy}
 use Rattle.settings.specs.Told.{told_settings}
 use Rattle.setup.proofs.Answers.{of_setting, of_memory, of_done}
 use Rattle.setup.proofs.setup.Goals as goal
-use Rattle.setup.proofs.setup.Goals.{After-size_of-n, Else-not-in_rows}
+use Rattle.setup.proofs.setup.Goals.{After-size_of, Else-not-in_rows}
 
 -- the settings are in their rows
 passed : (c : Else-not-in_rows) → in_rows (told_settings c.args.told) ≡ true
-passed c = sym c.in_rows.ensures ∙ not-false _ c.if-not-in_rows.false-raw
+passed c = sym c.in_rows.ensures ∙ c.if-not-in_rows.false
 
 -- the size is that of the switch that is asked for
-sized : (c : After-size_of-n) → c.size_of-n.result ≡ size (told_settings c.args.told)
-sized c = c.size_of-n.ensures ∙ ap size c.shape_of-s.ensures.settings_are
+sized : (c : After-size_of) → c.size_of.result ≡ size (told_settings c.args.told)
+sized c = c.size_of.ensures ∙ ap size c.shape_of-s.ensures.settings_are
 
 pub returns-then-not-in_rows : goal.returns-then-not-in_rows
-returns-then-not-in_rows c = of_setting _ _ (sym c.in_rows.ensures ∙ not-true _ c.if-not-in_rows.true-raw)
+returns-then-not-in_rows c = of_setting _ _ (sym c.in_rows.ensures ∙ c.if-not-in_rows.true)
 
 pub shape_of-s-requires : goal.shape_of-s-requires
 shape_of-s-requires c = roomy _ (passed c)
 
-pub returns-then-m-n : goal.returns-then-m-n
-returns-then-m-n c =
-    let e = sized (goal.at.returns-then-m-n c).After-size_of-n in of_memory _ _ (passed (goal.at.returns-then-m-n c).Else-not-in_rows) (omega arith)
+pub returns-then-m-size_of : goal.returns-then-m-size_of
+returns-then-m-size_of c =
+    let e = sized (goal.at.returns-then-m-size_of c).After-size_of in of_memory _ _ (passed (goal.at.returns-then-m-size_of c).Else-not-in_rows) (omega arith)
 
 pub returns : goal.returns
 returns c =
-    let e = sized (goal.at.returns c).After-size_of-n in
+    let e = sized (goal.at.returns c).After-size_of in
     rw (c.put_state.ensures, c.shape_of-s.ensures.settings_are) (of_done _ _ (passed (goal.at.returns c).Else-not-in_rows) (omega arith))
