@@ -20,9 +20,7 @@ use Rattle.layout.specs.Tables.{lists, get}
 use Rattle.layout.specs.Picture.{slot, chain, nodes_of, node_in, tabulate, ledger_in, StateOf}
 use Rattle.memory.specs.Memory.{acted}
 use Rattle.memory.proofs.Chains.{shown, item_node, length_lists, members, state_tidy, chain_front}
-use Rattle.finds.specs.declared.Step.TheVariants.{At, NotThere}
-use Rattle.finds.specs.declared.Spot.{Spot}
-use Rattle.finds.specs.declared.Spot.TheVariants.{In, Nowhere}
+use Rattle.std.specs.Prelude.{Option, None, Some}
 use Rattle.finds.specs.Search.{walked, or_else, searched}
 
 module _ (S : Settings) (m : List ℕ) (x : ℕ) where
@@ -43,7 +41,7 @@ module _ (S : Settings) (m : List ℕ) (x : ℕ) where
         nodes = rw (← e) (members S m (state_tidy S m s) l h);
       }
 
-  pub walk_ends : (l y i : ℕ) → Walking l y i → get S m Count l ≤ i → NotThere ≡ walked x 0 (nodes_of S m l)
+  pub walk_ends : (l y i : ℕ) → Walking l y i → get S m Count l ≤ i → None ≡ walked x 0 (nodes_of S m l)
   unfolding chain walked
   walk_ends l y i w h =
       let e : get S m Count l - i ≡ 0 = omega arith in
@@ -53,7 +51,7 @@ module _ (S : Settings) (m : List ℕ) (x : ℕ) where
     pub walk_node : is_node S y ≡ true
     walk_node = (rw (chain_front S m (get S m Count l) i y h) at w.nodes).0
 
-    pub walk_meets : y ≡ x → At i ≡ walked x 0 (nodes_of S m l)
+    pub walk_meets : y ≡ x → Some i ≡ walked x 0 (nodes_of S m l)
     unfolding walked
     walk_meets e = sym (w.rest ∙ rw (chain_front S m (get S m Count l) i y h, eqb_is y x e))
 
@@ -74,7 +72,7 @@ module _ (S : Settings) (m : List ℕ) (x : ℕ) where
   pub search_starts : Searching 0
   search_starts = let e : lists S ≡ lists S - 0 = omega arith in record { low = omega arith; rest = ap (searched S m x 0) e }
 
-  pub search_ends : (l : ℕ) → Searching l → lists S ≤ l → Nowhere ≡ searched S m x 0 (lists S)
+  pub search_ends : (l : ℕ) → Searching l → lists S ≤ l → None ≡ searched S m x 0 (lists S)
   unfolding searched
   search_ends l w h = let e : lists S - l ≡ 0 = omega arith in sym (w.rest ∙ ap (searched S m x l) e)
 
@@ -83,43 +81,43 @@ module _ (S : Settings) (m : List ℕ) (x : ℕ) where
     unfolding searched
     next_list = let e : lists S - l ≡ suc (lists S - (l + 1)) = omega arith in w.rest ∙ rw (e, add-one)
 
-    pub search_meets : (i : ℕ) → At i ≡ walked x 0 (nodes_of S m l) → In l i ≡ searched S m x 0 (lists S)
+    pub search_meets : (i : ℕ) → Some i ≡ walked x 0 (nodes_of S m l) → Some (l, i) ≡ searched S m x 0 (lists S)
     search_meets i e = sym (next_list ∙ rw (← e))
 
-    pub search_goes : NotThere ≡ walked x 0 (nodes_of S m l) → Searching (l + 1)
+    pub search_goes : None ≡ walked x 0 (nodes_of S m l) → Searching (l + 1)
     search_goes e = record { low = omega arith; rest = next_list ∙ rw (← e) }
 
   -- ---- what the walk and the search find is the ledger's position and list
 
   module _ (f : ℕ → Packet) (same : (z : ℕ) → (f z).node ≡ z) where
-    walk_at : (i : ℕ) (zs : List ℕ) → position x (map f zs) < length (map f zs) → walked x i zs ≡ At (i + position x (map f zs))
+    walk_at : (i : ℕ) (zs : List ℕ) → position x (map f zs) < length (map f zs) → walked x i zs ≡ Some (i + position x (map f zs))
     unfolding walked
     walk_at i [] h = absurd (not-suc-le-zero h)
     walk_at i (z ∷ zs) h = rw (same z) (go (eqb z x) (rw (same z) at h) (walk_at (suc i) zs))
       where
         go : (b : Bool) → cond b 0 (suc (position x (map f zs))) < suc (length (map f zs))
-            → (position x (map f zs) < length (map f zs) → walked x (suc i) zs ≡ At (suc i + position x (map f zs)))
-            → cond b (At i) (walked x (suc i) zs) ≡ At (i + cond b 0 (suc (position x (map f zs))))
-        go true h k = let e : i ≡ i + 0 = omega arith in ap At e
-        go false h k = let e : suc i + position x (map f zs) ≡ i + suc (position x (map f zs)) = omega arith in k (le_of_suc-le-suc h) ∙ ap At e
+            → (position x (map f zs) < length (map f zs) → walked x (suc i) zs ≡ Some (suc i + position x (map f zs)))
+            → cond b (Some i) (walked x (suc i) zs) ≡ Some (i + cond b 0 (suc (position x (map f zs))))
+        go true h k = let e : i ≡ i + 0 = omega arith in ap Some e
+        go false h k = let e : suc i + position x (map f zs) ≡ i + suc (position x (map f zs)) = omega arith in k (le_of_suc-le-suc h) ∙ ap Some e
 
-    walk_not : (i : ℕ) (zs : List ℕ) → length (map f zs) ≤ position x (map f zs) → walked x i zs ≡ NotThere
+    walk_not : (i : ℕ) (zs : List ℕ) → length (map f zs) ≤ position x (map f zs) → walked x i zs ≡ None
     unfolding walked
     walk_not i [] h = refl
     walk_not i (z ∷ zs) h = go (eqb z x) (rw (same z) at h) (walk_not (suc i) zs)
       where
         go : (b : Bool) → suc (length (map f zs)) ≤ cond b 0 (suc (position x (map f zs)))
-            → (length (map f zs) ≤ position x (map f zs) → walked x (suc i) zs ≡ NotThere)
-            → cond b (At i) (walked x (suc i) zs) ≡ NotThere
+            → (length (map f zs) ≤ position x (map f zs) → walked x (suc i) zs ≡ None)
+            → cond b (Some i) (walked x (suc i) zs) ≡ None
         go true h k = absurd (not-suc-le-zero h)
         go false h k = k (le_of_suc-le-suc h)
 
   -- list l, and what is found in the lists after it
-  search_step : (l n : ℕ) (ls : List (List Packet)) (later : Spot)
-      → (which x ls < n → later ≡ In (suc l + which x ls) (position x (get_or ls (which x ls) [])))
+  search_step : (l n : ℕ) (ls : List (List Packet)) (later : Option (ℕ × ℕ))
+      → (which x ls < n → later ≡ Some (suc l + which x ls, position x (get_or ls (which x ls) [])))
       → (b : Bool) → ltb (position x (shown S m l)) (length (shown S m l)) ≡ b → cond b 0 (suc (which x ls)) < suc n
       → or_else l (walked x 0 (nodes_of S m l)) later
-      ≡ In (l + cond b 0 (suc (which x ls))) (position x (get_or (shown S m l ∷ ls) (cond b 0 (suc (which x ls))) []))
+      ≡ Some (l + cond b 0 (suc (which x ls)), position x (get_or (shown S m l ∷ ls) (cond b 0 (suc (which x ls))) []))
   search_step l n ls later k true e h =
       let a : 0 + position x (shown S m l) ≡ position x (shown S m l) = omega arith in
       let d : l ≡ l + 0 = omega arith in
@@ -127,11 +125,11 @@ module _ (S : Settings) (m : List ℕ) (x : ℕ) where
   search_step l n ls later k false e h =
       let d : suc l + which x ls ≡ l + suc (which x ls) = omega arith in
       rw (walk_not (node_in S m l) (item_node S m l) 0 (nodes_of S m l) (ltb_no (position x (shown S m l)) (length (shown S m l)) e))
-      (k (le_of_suc-le-suc h) ∙ ap (λ (j : ℕ). In j (position x (get_or ls (which x ls) []))) d)
+      (k (le_of_suc-le-suc h) ∙ ap (λ (j : ℕ). Some (j, position x (get_or ls (which x ls) []))) d)
 
   search_is : (l n : ℕ) → which x (tabulate (shown S m) l n) < n
-      → searched S m x l n ≡ In (l + which x (tabulate (shown S m) l n))
-      (position x (get_or (tabulate (shown S m) l n) (which x (tabulate (shown S m) l n)) []))
+      → searched S m x l n
+      ≡ Some (l + which x (tabulate (shown S m) l n), position x (get_or (tabulate (shown S m) l n) (which x (tabulate (shown S m) l n)) []))
   unfolding searched
   search_is l zero h = absurd (not-suc-le-zero h)
   search_is l (suc n) h = search_step l n (tabulate (shown S m) (suc l) n) (searched S m x (suc l) n) (search_is (suc l) n) _ refl h
@@ -151,18 +149,20 @@ module _ (S : Settings) (m : List ℕ) (x : ℕ) where
     which_in : which x (ledger_in S m).lists < lists S
     which_in = rw (length_lists S m) at (stands x (ledger_in S m).lists (omega (arith, s.sound.orderly.once x, ap bit node))).which_lt
 
-    finds : searched S m x 0 (lists S) ≡ In (which x (ledger_in S m).lists) (position x (get_or (ledger_in S m).lists (which x (ledger_in S m).lists) []))
+    finds : searched S m x 0 (lists S)
+        ≡ Some (which x (ledger_in S m).lists, position x (get_or (ledger_in S m).lists (which x (ledger_in S m).lists) []))
     unfolding ledger_in
     finds =
         let e : 0 + which x (ledger_in S m).lists ≡ which x (ledger_in S m).lists = omega arith in
-        search_is 0 (lists S) which_in ∙ ap (λ (j : ℕ). In j (position x (get_or (ledger_in S m).lists (which x (ledger_in S m).lists) []))) e
+        search_is 0 (lists S) which_in ∙ ap (λ (j : ℕ). Some (j, position x (get_or (ledger_in S m).lists (which x (ledger_in S m).lists) []))) e
 
-    pub stands_at : (l i : ℕ) → In l i ≡ searched S m x 0 (lists S) → Found l i
+    pub stands_at : (l i : ℕ) → Some (l, i) ≡ searched S m x 0 (lists S) → Found l i
     unfolding acted
     stands_at l i e =
-        let dl : l ≡ which x (ledger_in S m).lists = cc finds in
-        let di : i ≡ position x (get_or (ledger_in S m).lists (which x (ledger_in S m).lists) []) = cc finds in
+        let p : ◌≡◌ {A = ℕ × ℕ} (l, i) (which x (ledger_in S m).lists, position x (get_or (ledger_in S m).lists (which x (ledger_in S m).lists) [])) = cc finds in
+        let dl : l ≡ which x (ledger_in S m).lists = ap (λ (a : ℕ × ℕ). a.0) p in
+        let di : i ≡ position x (get_or (ledger_in S m).lists (which x (ledger_in S m).lists) []) = ap (λ (a : ℕ × ℕ). a.1) p in
         record { inside = rw dl which_in; reply = rw (node, dl, di) }
 
-    pub stands_somewhere : Nowhere ≡ searched S m x 0 (lists S) → ⊥
+    pub stands_somewhere : None ≡ searched S m x 0 (lists S) → ⊥
     stands_somewhere e = let z : ◌≡◌ {A = ℕ} 0 1 = cc finds in omega arith

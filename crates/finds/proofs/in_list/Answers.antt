@@ -1,6 +1,8 @@
 -- `finds::in_list` meets its contract. The loop's invariant: what is found in the list is what is found in the rest of it. Assumes nothing.
+use mathlib.Core.Path.{sym, ◌∙◌}
 use Prim.Native.Nat.{◌<◌}
 use native.Mathlib.Omega.{arith}
+use Rattle.ledger.proofs.Tests.{eqb_yes, eqb_no}
 use Rattle.layout.specs.declared.Table.TheVariants.{Count}
 use Rattle.layout.specs.Tables.{settings_of, get}
 use Rattle.memory.proofs.Chains.{state_tidy, total_bound}
@@ -8,8 +10,8 @@ use Rattle.finds.proofs.Laws as laws
 use Rattle.finds.proofs.in_list.Goals as goal
 use Rattle.finds.proofs.in_list.Goals.{In-loop-i}
 
-pub count-n-requires : goal.count-n-requires
-count-n-requires c = let pre = c.requires in record { laid = pre.works.laid; long = pre.works.state.long; inside = pre.inside }
+pub count-i-end-requires : goal.count-i-end-requires
+count-i-end-requires c = let pre = c.requires in record { laid = pre.works.laid; long = pre.works.state.long; inside = pre.inside }
 
 pub first-y-requires : goal.first-y-requires
 first-y-requires c = let pre = c.requires in record { laid = pre.works.laid; long = pre.works.state.long; inside = pre.inside }
@@ -20,15 +22,15 @@ loop-i-init c =
 
 -- in a turn the node at hand is one of the list's
 inside : (c : In-loop-i) → let a = c.args in c.loop-i.i < get (settings_of a.s) a.m.now Count a.l
-inside c = rw c.count-n.ensures at c.loop-i-test.true
+inside c = rw c.count-i-end.ensures at c.loop-i-test.true
 
 pub overflow_cast-result : goal.overflow_cast-result
 overflow_cast-result c =
     let w = c.requires.works in
     omega (arith, inside (goal.at.overflow_cast-result c).In-loop-i, total_bound _ _ (state_tidy _ _ w.state) w.laid.roomy c.args.l c.requires.inside)
 
-pub returns-then-y-x : goal.returns-then-y-x
-returns-then-y-x c = laws.walk_meets _ _ _ _ _ _ c.loop-i.invariant (inside (goal.at.returns-then-y-x c).In-loop-i) c.if-y-x.true
+pub returns-then-eq : goal.returns-then-eq
+returns-then-eq c = laws.walk_meets _ _ _ _ _ _ c.loop-i.invariant (inside (goal.at.returns-then-eq c).In-loop-i) (eqb_yes _ _ (sym c.eq.ensures ∙ c.if-eq.true))
 
 pub next-y-requires : goal.next-y-requires
 next-y-requires c =
@@ -37,7 +39,8 @@ next-y-requires c =
 
 pub loop-i-preserved : goal.loop-i-preserved
 loop-i-preserved c =
-    rw c.next-y.ensures (laws.walk_goes _ _ _ _ _ _ c.loop-i.invariant (inside (goal.at.loop-i-preserved c).In-loop-i) c.if-y-x.false)
+    rw c.next-y.ensures (laws.walk_goes _ _ _ _ _ _ c.loop-i.invariant (inside (goal.at.loop-i-preserved c).In-loop-i)
+    (eqb_no _ _ (sym c.eq.ensures ∙ c.if-eq.false)))
 
 pub returns : goal.returns
-returns c = laws.walk_ends _ _ _ _ _ _ c.loop-i.invariant (rw c.count-n.ensures at c.loop-i-test.false)
+returns c = laws.walk_ends _ _ _ _ _ _ c.loop-i.invariant (rw c.count-i-end.ensures at c.loop-i-test.false)

@@ -1,11 +1,7 @@
 -- What the loop of `finds::in_list` keeps.
-use Prim.Native.Nat.{◌-◌}
 use Rattle.layout.specs.Tables.{settings_of}
 use Rattle.finds.proofs.Laws as laws
 use Rattle.finds.proofs.in_list.Given as goal
 
 abbrev pub invariant-loop-i : goal.invariant-loop-i
 invariant-loop-i l = laws.Walking (settings_of l.s) l.m l.x.0 l.l l.y.0 l.i
-
-abbrev pub decreases-loop-i : goal.decreases-loop-i
-decreases-loop-i l = l.n - l.i

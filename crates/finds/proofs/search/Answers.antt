@@ -17,9 +17,9 @@ inside c = rw c.requires.laid.lists_are at c.loop-l-test.true
 pub in_list-requires : goal.in_list-requires
 in_list-requires c = record { works = c.requires; inside = inside c }
 
-pub returns-in-At : goal.returns-in-At
-returns-in-At c =
-    laws.search_meets _ _ _ _ c.loop-l.invariant (inside (goal.at.returns-in-At c).In-loop-l) _ (sym c.in-At.is ∙ c.in_list.ensures)
+pub returns-in-Some : goal.returns-in-Some
+returns-in-Some c =
+    laws.search_meets _ _ _ _ c.loop-l.invariant (inside (goal.at.returns-in-Some c).In-loop-l) _ (sym c.in-Some.is ∙ c.in_list.ensures)
 
 pub loop-l-preserved : goal.loop-l-preserved
 loop-l-preserved c =

@@ -1,11 +1,7 @@
 -- What the loop of `finds::search` keeps.
-use Prim.Native.Nat.{◌-◌}
 use Rattle.layout.specs.Tables.{settings_of}
 use Rattle.finds.proofs.Laws as laws
 use Rattle.finds.proofs.search.Given as goal
 
 abbrev pub invariant-loop-l : goal.invariant-loop-l
 invariant-loop-l l = laws.Searching (settings_of l.s) l.m l.x.0 l.l
-
-abbrev pub decreases-loop-l : goal.decreases-loop-l
-decreases-loop-l l = l.n - l.l

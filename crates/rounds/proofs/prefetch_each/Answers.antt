@@ -1,5 +1,4 @@
--- `rounds::prefetch_each` meets its contract. The loop's invariant: the ports passed have had their prefetches. The measure is how many are left.
--- Assumes nothing.
+-- `rounds::prefetch_each` meets its contract. The loop's invariant: the ports passed have had their prefetches. Assumes nothing.
 use mathlib.Core.List.{List, [], ◌∷◌}
 use Prim.Native.Nat.{ℕ}
 use Rattle.ledger.specs.Calls.{Act, prefetch}

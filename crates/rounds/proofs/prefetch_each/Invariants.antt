@@ -1,6 +1,6 @@
 -- What the loop of `rounds::prefetch_each` keeps.
 use mathlib.Core.List.{List, [], ◌∷◌}
-use Prim.Native.Nat.{ℕ, ◌-◌}
+use Prim.Native.Nat.{ℕ}
 use Rattle.ledger.specs.Calls.{Act, prefetch}
 use Rattle.ledger.specs.Rounds.{each}
 use Rattle.rounds.proofs.Rounds.{Passed}
@@ -10,7 +10,4 @@ abbrev all : ℕ → ℕ → List Act
 all queues p = each (λ q. prefetch p q ∷ []) queues
 
 abbrev pub invariant-loop-p : goal.invariant-loop-p
-invariant-loop-p l = Passed l.s (all l.s.queues) l.initial.m l.ports l.p l.m
-
-abbrev pub decreases-loop-p : goal.decreases-loop-p
-decreases-loop-p l = l.ports - l.p
+invariant-loop-p l = Passed l.s (all l.s.queues) l.initial.m l.s.ports l.p l.m

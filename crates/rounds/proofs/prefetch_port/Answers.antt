@@ -1,5 +1,4 @@
--- `rounds::prefetch_port` meets its contract. The loop's invariant: the queues passed have had their prefetch. The measure is how many are left.
--- Assumes nothing.
+-- `rounds::prefetch_port` meets its contract. The loop's invariant: the queues passed have had their prefetch. Assumes nothing.
 use mathlib.Core.Path.{ap}
 use mathlib.Core.List.{List, [], ◌∷◌}
 use Prim.Native.Nat.{ℕ}
@@ -20,7 +19,7 @@ prefetch-requires c = c.loop-q.invariant.works
 pub loop-q-preserved : goal.loop-q-preserved
 loop-q-preserved c =
     let went = ap (λ (o : Reply × List ℕ). o.1) c.prefetch.ensures in
-    rw c.step-q.ensures (passed_next (one c.args.p) c.loop-q.invariant (omega arith) c.m-1.given went)
+    passed_next (one c.args.p) c.loop-q.invariant c.loop-q-test.true c.m-1.given went
 
 pub shape_of-m : goal.shape_of-m
 shape_of-m c = c.loop-q.invariant.same_length

@@ -1,4 +1,4 @@
--- `rounds::stitch_each` meets its contract. The loop's invariant: the ports passed are stitched. The measure is how many are left. Assumes nothing.
+-- `rounds::stitch_each` meets its contract. The loop's invariant: the ports passed are stitched. Assumes nothing.
 use mathlib.Core.Path.{ap}
 use mathlib.Core.List.{List, [], ◌∷◌}
 use Prim.Native.Nat.{ℕ}

@@ -1,5 +1,4 @@
--- `rounds::turn_each` meets its contract. The loop's invariant: the ports passed have had their turn, and it is told in the room. The measure is how
--- many are left. Assumes nothing.
+-- `rounds::turn_each` meets its contract. The loop's invariant: the ports passed have had their turn, and it is told in the room. Assumes nothing.
 use native.Mathlib.Omega.{arith}
 use Rattle.rounds.proofs.Rounds.{told_none, told_one, told_all}
 use Rattle.rounds.proofs.turn_each.Goals as goal

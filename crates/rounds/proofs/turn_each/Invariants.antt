@@ -1,10 +1,6 @@
 -- What the loop of `rounds::turn_each` keeps.
-use Prim.Native.Nat.{◌-◌}
 use Rattle.rounds.proofs.Rounds.{Telling}
 use Rattle.rounds.proofs.turn_each.Given as goal
 
 abbrev pub invariant-loop-p : goal.invariant-loop-p
-invariant-loop-p l = Telling l.s l.initial.m l.initial.room l.ports l.p l.m l.room
-
-abbrev pub decreases-loop-p : goal.decreases-loop-p
-decreases-loop-p l = l.ports - l.p
+invariant-loop-p l = Telling l.s l.initial.m l.initial.room l.s.ports l.p l.m l.room
