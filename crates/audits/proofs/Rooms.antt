@@ -1,42 +1,14 @@
--- Eight bytes put into a room, one by one, and what they leave. Assumes nothing.
-use mathlib.Core.Path.{◌≡◌, refl, sym, ap, ◌∙◌}
+-- What eight bytes put into a room leave. Assumes nothing.
+use mathlib.Core.Path.{◌≡◌, sym, ap, ◌∙◌}
 use mathlib.Core.Logic.{◌≢◌}
 use mathlib.Core.List.{List, ◌++◌, append_assoc}
 use Prim.Native.Nat.{ℕ, ◌+◌, ◌-◌, ◌*◌, ◌≤◌, ◌<◌}
 use native.Mathlib.Decide.{dec_lt}
-use native.Mathlib.Numerals.{add-one}
 use native.Mathlib.Omega.{arith}
-use lib.ListN.{length, get_or, take, drop, set, length-append, length-drop, length-set, take-append-drop}
-use lib.Seq.{length-take-le, take_all, take_at, drop_at, take-append-le, drop-append-le, drop-append-add, drop-drop, paste, paste-zero, paste-suc}
+use lib.ListN.{length, take, drop, length-append, length-drop, take-append-drop}
+use lib.Seq.{length-take-le, take_at, drop_at, take-append-le, drop-append-le, drop-append-add, drop-drop}
 use Rattle.memory.specs.Audit.{block}
 use Rattle.audits.specs.Told.{put_eight}
-
--- ---- byte by byte: j of the eight are in the room
-
-module _ (at : ℕ) (bs room₀ : List ℕ) where
-  pub record Putting (room : List ℕ) (j : ℕ) : Type 0 where
-    pub few : j ≤ 8
-    pub same_length : length room ≡ length room₀
-    pub so_far : room ≡ paste room₀ at bs j
-
-  pub put_starts : Putting room₀ 0
-  put_starts = record { few = omega arith; same_length = refl; so_far = paste-zero room₀ at bs }
-
-  module _ (e : length bs ≡ 8) {room : List ℕ} {j : ℕ} (w : Putting room j) where
-    pub put_goes : at + 8 ≤ length room₀ → j < 8 → Putting (set room (at + j) (get_or bs j 0)) (j + 1)
-    put_goes h l = record {
-      few = omega arith;
-      same_length = length-set room (at + j) (get_or bs j 0) ∙ w.same_length;
-      so_far = rw (w.so_far, add-one) (paste-suc room₀ at bs j 0 (omega arith) (omega arith));
-    }
-
-    pub put_ends : 8 ≤ j → room ≡ put_eight at bs room₀
-    unfolding put_eight
-    put_ends h =
-        let all : j ≡ 8 = omega (arith, w.few) in
-        w.so_far ∙ ap (paste room₀ at bs) all ∙ ap (λ (xs : List ℕ). take at room₀ ++ xs ++ drop (at + 8) room₀) (take_all 8 bs (omega arith))
-
--- ---- what they leave
 
 -- eight bytes that a first part of a list has
 early : (n : ℕ) (xs ys : List ℕ) → n + 8 ≤ length xs → take 8 (drop n (xs ++ ys)) ≡ take 8 (drop n xs)

@@ -14,6 +14,7 @@ use layout::{Shape, Table};
 use ledger::{EntryId, ListKind, Refusal};
 
 // Eight bytes of the room become these.
+#[tactic(auto, unfolding(crate::specs::Told::put_eight))]
 fn put(room: &mut [u8], at: usize, bytes: [u8; 8])
     requires { at + 8 ≤ length room.old }
     ensures { room.new ≡ put_eight at bytes room.old }

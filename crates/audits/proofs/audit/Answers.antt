@@ -9,17 +9,17 @@ use Rattle.memory.proofs.Audit.{audit_short, audit_done}
 use Rattle.audits.proofs.Blocks.{walk_tells}
 use Rattle.audits.proofs.audit.Goals as goal
 
-pub overflow_mul-all : goal.overflow_mul-all
-overflow_mul-all c = omega (arith, small c.args.s c.requires.laid)
+pub overflow_mul-s : goal.overflow_mul-s
+overflow_mul-s c = omega (arith, small c.args.s c.requires.laid)
 
-pub returns-then-room-all : goal.returns-then-room-all
-returns-then-room-all c =
+pub returns-then-room-s : goal.returns-then-room-s
+returns-then-room-s c =
     let a = c.args in
-    sym (audit_short (settings_of a.s) a.m.now a.room.now (rw c.requires.laid.all_are at c.if-room-all.true))
+    sym (audit_short (settings_of a.s) a.m.now a.room.now (rw c.requires.laid.all_are at c.if-room-s.true))
 
 pub returns : goal.returns
 returns c =
     let a = c.args in
     let S = settings_of a.s in
-    let wide : 8 * all S ≤ length a.room.now = rw c.requires.laid.all_are at c.if-room-all.false in
+    let wide : 8 * all S ≤ length a.room.now = rw c.requires.laid.all_are at c.if-room-s.false in
     cc (audit_done S a.m.now a.room.now wide, walk_tells S a.m.now c.requires.state a.room.now wide)

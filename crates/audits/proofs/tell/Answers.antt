@@ -24,5 +24,5 @@ pub returns : goal.returns
 returns c =
     record {
       after = rw (← c.slot_of-at.ensures) c.get2.ensures;
-      told = rw (← c.slot_of-at.ensures, ← c.place_bytes-bytes.ensures) c.put.ensures;
+      told = rw (← c.slot_of-at.ensures, ← c.place_bytes.ensures) c.put.ensures;
     }

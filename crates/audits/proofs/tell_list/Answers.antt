@@ -1,5 +1,4 @@
--- `audits::tell_list` meets its contract. The loop's invariant: what the whole list leaves is what the rest of it leaves from here. The measure is
--- how many nodes are left. Assumes nothing.
+-- `audits::tell_list` meets its contract. The loop's invariant: what the whole list leaves is what the rest of it leaves from here. Assumes nothing.
 use Prim.Native.Nat.{◌<◌}
 use native.Mathlib.Omega.{arith}
 use Rattle.layout.specs.declared.Table.TheVariants.{Count}
@@ -16,8 +15,8 @@ kind_of-kind-requires c = let pre = c.requires in record { laid = pre.lent.works
 in_list : (c : Start) → InList c.args.s c.args.l c.args.m.now
 in_list c = record { laid = c.requires.lent.works.laid; long = c.requires.lent.works.state.long; inside = c.requires.inside }
 
-pub count-n-requires : goal.count-n-requires
-count-n-requires c = in_list (goal.at.count-n-requires c).Start
+pub count-i-end-requires : goal.count-i-end-requires
+count-i-end-requires c = in_list (goal.at.count-i-end-requires c).Start
 
 pub first-x-requires : goal.first-x-requires
 first-x-requires c = in_list (goal.at.first-x-requires c).Start
@@ -27,7 +26,7 @@ loop-i-init c = rw c.first-x.ensures (tell_starts _ _ _ _ c.requires.lent.works.
 
 -- in a turn the node at hand is one of the list's
 inside : (c : In-loop-i) → let a = c.args in c.loop-i.i < get (settings_of a.s) a.m.now Count a.l
-inside c = rw c.count-n.ensures at c.loop-i-test.true
+inside c = rw c.count-i-end.ensures at c.loop-i-test.true
 
 pub overflow_cast-i : goal.overflow_cast-i
 overflow_cast-i c =
@@ -54,4 +53,4 @@ pub shape_of-room : goal.shape_of-room
 shape_of-room c = c.loop-i.invariant.same_length
 
 pub returns : goal.returns
-returns c = tell_ends _ _ _ _ c.loop-i.invariant (rw c.count-n.ensures at c.loop-i-test.false)
+returns c = tell_ends _ _ _ _ c.loop-i.invariant (rw c.count-i-end.ensures at c.loop-i-test.false)

@@ -1,11 +1,7 @@
 -- What the loop of `audits::tell_list` keeps.
-use Prim.Native.Nat.{◌-◌}
 use Rattle.layout.specs.Tables.{settings_of}
 use Rattle.audits.proofs.Walks.{Telling}
 use Rattle.audits.proofs.tell_list.Given as goal
 
 abbrev pub invariant-loop-i : goal.invariant-loop-i
 invariant-loop-i l = Telling (settings_of l.s) l.m l.l l.initial.room l.room l.x.0 l.i
-
-abbrev pub decreases-loop-i : goal.decreases-loop-i
-decreases-loop-i l = l.n - l.i

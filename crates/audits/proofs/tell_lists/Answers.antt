@@ -1,5 +1,4 @@
--- `audits::tell_lists` meets its contract. The loop's invariant: what all lists leave is what the rest of them leaves from here. The measure is how
--- many are left. Assumes nothing.
+-- `audits::tell_lists` meets its contract. The loop's invariant: what all lists leave is what the rest of them leaves from here. Assumes nothing.
 use Prim.Native.Nat.{◌<◌}
 use native.Mathlib.Omega.{arith}
 use Rattle.layout.specs.Tables.{lists, settings_of}

@@ -1,11 +1,7 @@
 -- What the loop of `audits::tell_lists` keeps.
-use Prim.Native.Nat.{◌-◌}
 use Rattle.layout.specs.Tables.{settings_of}
 use Rattle.audits.proofs.Walks.{Passing}
 use Rattle.audits.proofs.tell_lists.Given as goal
 
 abbrev pub invariant-loop-l : goal.invariant-loop-l
 invariant-loop-l l = Passing (settings_of l.s) l.m l.initial.room l.room l.l
-
-abbrev pub decreases-loop-l : goal.decreases-loop-l
-decreases-loop-l l = l.n - l.l

@@ -2,7 +2,6 @@
 use mathlib.Core.Path.{◌≡◌, sym, ap, ◌∙◌}
 use mathlib.Core.Bool.{true}
 use native.Mathlib.Omega.{arith}
-use borrow.Author.Tests.{not-true, not-false}
 use Rattle.ledger.specs.Settings.{in_rows, size}
 use Rattle.ledger.proofs.Rows.{roomy}
 use Rattle.settings.specs.Told.{told_settings}
