@@ -5,8 +5,7 @@ use mathlib.Core.List.{List, [], ◌∷◌, ◌++◌, map}
 use Prim.Native.Nat.{ℕ, zero, suc, ◌+◌, ◌≤◌, ◌<◌}
 use native.Mathlib.Decide.{ℕ_discrete}
 use native.Mathlib.Omega.{arith}
-use Rattle.ledger.specs.declared.Finding.{Finding}
-use Rattle.ledger.specs.declared.Finding.TheVariants.{Whole, At}
+use Rattle.std.specs.Prelude.{Option, None, Some}
 use Rattle.ledger.specs.Settings.{Settings}
 use Rattle.ledger.specs.Ledger.{place_of}
 use Rattle.ledger.specs.Sound.{All}
@@ -26,12 +25,12 @@ record FirstBad (t : ℕ → Bool) (xs : List ℕ) (x : ℕ) : Type 0 where
   wrong : t x ≡ false
   before : All (λ y. t y ≡ true) front
 
-first_bad_lem : (t : ℕ → Bool) (xs : List ℕ) (x : ℕ) → first_bad t xs ≡ At x → FirstBad t xs x
+first_bad_lem : (t : ℕ → Bool) (xs : List ℕ) (x : ℕ) → first_bad t xs ≡ Some x → FirstBad t xs x
 unfolding first_bad
 first_bad_lem t [] x e = absurd (none x (sym e))
 first_bad_lem t (y ∷ xs) x e = go (t y) refl e (first_bad_lem t xs x)
   where
-    go : (b : Bool) → t y ≡ b → cond b (first_bad t xs) (At y) ≡ At x → (first_bad t xs ≡ At x → FirstBad t xs x) → FirstBad t (y ∷ xs) x
+    go : (b : Bool) → t y ≡ b → cond b (first_bad t xs) (Some y) ≡ Some x → (first_bad t xs ≡ Some x → FirstBad t xs x) → FirstBad t (y ∷ xs) x
     go true p d f =
         let r = f d in
         record { front = y ∷ r.front; rest = r.rest; here = ap (λ (l : List ℕ). y ∷ l) r.here; wrong = r.wrong; before = (p, r.before) }
@@ -48,21 +47,21 @@ module _ (rule : NodeRule) (S : Settings) (m : List ℕ) where
     low : a ≤ list
     inside : list < e
     bad : FirstBad (node_test rule S m list) (nodes_of S m list) x
-    earlier : (l : ℕ) → a ≤ l → l < list → list_found rule S m l ≡ Whole
+    earlier : (l : ℕ) → a ≤ l → l < list → list_found rule S m l ≡ None
 
-  from_bad : (n a x : ℕ) → fits_from rule S m a n ≡ At x → Bad a (a + n) x
+  from_bad : (n a x : ℕ) → fits_from rule S m a n ≡ Some x → Bad a (a + n) x
   unfolding fits_from
   from_bad zero a x e = absurd (none x (sym e))
   from_bad (suc n) a x e = go (list_found rule S m a) refl e (from_bad n (suc a) x)
     where
-      later : {b : ℕ} → list_found rule S m a ≡ Whole → ((l : ℕ) → suc a ≤ l → l < b → list_found rule S m l ≡ Whole)
-          → (l : ℕ) → a ≤ l → l < b → Dec (l ≡ a) → list_found rule S m l ≡ Whole
+      later : {b : ℕ} → list_found rule S m a ≡ None → ((l : ℕ) → suc a ≤ l → l < b → list_found rule S m l ≡ None)
+          → (l : ℕ) → a ≤ l → l < b → Dec (l ≡ a) → list_found rule S m l ≡ None
       later p f l low high (yes q) = ap (list_found rule S m) q ∙ p
       later p f l low high (no q) = f l (omega arith) high
 
-      go : (f : Finding) → list_found rule S m a ≡ f → or_else f (fits_from rule S m (suc a) n) ≡ At x
-          → (fits_from rule S m (suc a) n ≡ At x → Bad (suc a) (suc a + n) x) → Bad a (a + suc n) x
-      go Whole p d f =
+      go : (f : Option ℕ) → list_found rule S m a ≡ f → or_else f (fits_from rule S m (suc a) n) ≡ Some x
+          → (fits_from rule S m (suc a) n ≡ Some x → Bad (suc a) (suc a + n) x) → Bad a (a + suc n) x
+      go None p d f =
           let r = f d in
           record {
             list = r.list;
@@ -71,7 +70,7 @@ module _ (rule : NodeRule) (S : Settings) (m : List ℕ) where
             bad = r.bad;
             earlier = λ l low high. later p r.earlier l low high (ℕ_discrete l a);
           }
-      go (At y) p d f = record {
+      go (Some y) p d f = record {
         list = a;
         low = omega arith;
         inside = omega arith;
@@ -89,7 +88,7 @@ module _ (rule : NodeRule) (S : Settings) (m : List ℕ) where
   kept_all l [] a = tt
   kept_all l (x ∷ xs) a = ((node_means rule S m l x).0 a.0, kept_all l xs a.1)
 
-  kept_list : (l : ℕ) → list_found rule S m l ≡ Whole → Kept l (nodes_of S m l)
+  kept_list : (l : ℕ) → list_found rule S m l ≡ None → Kept l (nodes_of S m l)
   kept_list l e = (first_means (node_test rule S m l) (NodeHolds rule S (place_of S l)) (node_in S m l) (node_means rule S m l) (nodes_of S m l)).0 e
 
   pub record FirstBroken (x : ℕ) : Type 0 where
@@ -102,7 +101,7 @@ module _ (rule : NodeRule) (S : Settings) (m : List ℕ) where
     pub before : Kept list front
     pub earlier : (l : ℕ) → l < list → Kept l (nodes_of S m l)
 
-  pub fits_first : (x : ℕ) → fits_found rule S m ≡ At x → FirstBroken x
+  pub fits_first : (x : ℕ) → fits_found rule S m ≡ Some x → FirstBroken x
   unfolding fits_found
   fits_first x e =
       let b = from_bad (lists S) 0 x e in

@@ -8,8 +8,7 @@ use Prim.Native.Nat.{ℕ, zero, suc, ◌+◌, ◌-◌, ◌/◌, ◌%◌, ◌^◌
 use native.Mathlib.Decide.{ℕ_discrete}
 use native.Mathlib.Omega.{arith}
 use lib.Dec.{eqb, ltb, leb}
-use Rattle.ledger.specs.declared.Finding.{Finding}
-use Rattle.ledger.specs.declared.Finding.TheVariants.{Whole, At}
+use Rattle.std.specs.Prelude.{Option, None, Some}
 use Rattle.ledger.specs.Settings.{Settings, row}
 use Rattle.ledger.specs.Header.{form, least_length, price}
 use Rattle.ledger.specs.Ledger.{owner, Packet, bare, Place, free, ingress, egress, prefetched, place_in, place_of}
@@ -114,19 +113,19 @@ node_means rule S m l x = in_column S m (l / row S) x rule (l % row S)
 
 -- ---- findings: a test that finds nothing, and then another
 
-pub none : (x : ℕ) → At x ≡ Whole → ⊥
+pub none : (x : ℕ) → Some x ≡ None → ⊥
 none x e = let z : ◌≡◌ {A = ℕ} 0 1 = cc in omega arith
 
-first_step : {P R : Type 0} (b : Bool) (F : Finding) (x : ℕ) → (b ≡ true) ↔ P → (F ≡ Whole) ↔ R → (cond b F (At x) ≡ Whole) ↔ (P × R)
+first_step : {P R : Type 0} (b : Bool) (F : Option ℕ) (x : ℕ) → (b ≡ true) ↔ P → (F ≡ None) ↔ R → (cond b F (Some x) ≡ None) ↔ (P × R)
 first_step true F x f g = (λ e. (f.0 refl, g.0 e), λ a. g.1 a.1)
 first_step false F x f g = (λ e. absurd (none x e), λ a. absurd (true≢false (sym (f.1 a.0))))
 
-list_step : {P R : Type 0} (F G : Finding) → (F ≡ Whole) ↔ P → (G ≡ Whole) ↔ R → (or_else F G ≡ Whole) ↔ (P × R)
-list_step Whole G f g = (λ e. (f.0 refl, g.0 e), λ a. g.1 a.1)
-list_step (At x) G f g = (λ e. absurd (none x e), λ a. absurd (none x (f.1 a.0)))
+list_step : {P R : Type 0} (F G : Option ℕ) → (F ≡ None) ↔ P → (G ≡ None) ↔ R → (or_else F G ≡ None) ↔ (P × R)
+list_step None G f g = (λ e. (f.0 refl, g.0 e), λ a. g.1 a.1)
+list_step (Some x) G f g = (λ e. absurd (none x e), λ a. absurd (none x (f.1 a.0)))
 
 pub first_means : {A : Type 0} (t : ℕ → Bool) (P : A → Type 0) (f : ℕ → A) → ((x : ℕ) → (t x ≡ true) ↔ P (f x)) → (xs : List ℕ)
-    → (first_bad t xs ≡ Whole) ↔ All P (map f xs)
+    → (first_bad t xs ≡ None) ↔ All P (map f xs)
 unfolding first_bad
 first_means t P f h [] = (λ e. tt, λ a. refl)
 first_means t P f h (x ∷ xs) = first_step (t x) (first_bad t xs) x (h x) (first_means t P f h xs)
@@ -144,7 +143,7 @@ module _ (rule : NodeRule) (S : Settings) (m : List ℕ) where
   abbrev Listed : ℕ → Type 0
   Listed l = All (NodeHolds rule S (place_of S l)) (map (node_in S m l) (nodes_of S m l))
 
-  from_means : (l n : ℕ) → (fits_from rule S m l n ≡ Whole) ↔ ((i : ℕ) → l ≤ i → i < l + n → Listed i)
+  from_means : (l n : ℕ) → (fits_from rule S m l n ≡ None) ↔ ((i : ℕ) → l ≤ i → i < l + n → Listed i)
   unfolding fits_from
   from_means l zero = (λ e i low high. absurd (omega arith), λ f. refl)
   from_means l (suc n) =
@@ -154,7 +153,7 @@ module _ (rule : NodeRule) (S : Settings) (m : List ℕ) where
       (λ e. w.0 (s.0 e), λ f. s.1 (w.1 f))
 
   -- (d), (e) or (f) of the whole ledger
-  pub fits_means : (fits_found rule S m ≡ Whole) ↔ Everywhere (λ l k. NodeHolds rule S (place_of S l) k) (ledger_in S m).lists
+  pub fits_means : (fits_found rule S m ≡ None) ↔ Everywhere (λ l k. NodeHolds rule S (place_of S l) k) (ledger_in S m).lists
   unfolding fits_found
   fits_means =
       let f = from_means 0 (lists S) in (

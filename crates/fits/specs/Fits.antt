@@ -1,7 +1,5 @@
 -- Rules (d), (e) and (f) as tests of a memory: a test of each node of each list, and the first node that fails. Assumes nothing.
-use Rattle.std.specs.Prelude.{Bool, cond, ◌&&◌, ◌||◌, List, [], ◌∷◌, ℕ, zero, suc, ◌-◌, ◌/◌, ◌%◌, ◌^◌, eqb, ltb, leb}
-use Rattle.ledger.specs.declared.Finding.{Finding}
-use Rattle.ledger.specs.declared.Finding.TheVariants.{Whole, At}
+use Rattle.std.specs.Prelude.{Bool, cond, ◌&&◌, ◌||◌, List, [], ◌∷◌, ℕ, zero, suc, ◌-◌, ◌/◌, ◌%◌, ◌^◌, eqb, ltb, leb, Option, None, Some}
 use Rattle.ledger.specs.Settings.{Settings, row}
 use Rattle.ledger.specs.Header.{form, least_length, price}
 use Rattle.ledger.specs.Ledger.{owner, Packet}
@@ -47,22 +45,22 @@ node_test rule S m l x = spared rule (l % row S) || rule_test rule S (l / row S)
 
 -- ---- the first that fails
 
-unfoldable pub first_bad : (ℕ → Bool) → List ℕ → Finding
-first_bad t [] = Whole
-first_bad t (x ∷ xs) = cond (t x) (first_bad t xs) (At x)
+unfoldable pub first_bad : (ℕ → Bool) → List ℕ → Option ℕ
+first_bad t [] = None
+first_bad t (x ∷ xs) = cond (t x) (first_bad t xs) (Some x)
 
-abbrev pub or_else : Finding → Finding → Finding
-or_else Whole g = g
-or_else (At x) g = At x
+abbrev pub or_else : Option ℕ → Option ℕ → Option ℕ
+or_else None g = g
+or_else (Some x) g = Some x
 
 -- in list l
-abbrev pub list_found : NodeRule → Settings → List ℕ → ℕ → Finding
+abbrev pub list_found : NodeRule → Settings → List ℕ → ℕ → Option ℕ
 list_found rule S m l = first_bad (node_test rule S m l) (nodes_of S m l)
 
 -- in the n lists from l on, and in all
-unfoldable pub fits_from : NodeRule → Settings → List ℕ → ℕ → ℕ → Finding
-fits_from rule S m l zero = Whole
+unfoldable pub fits_from : NodeRule → Settings → List ℕ → ℕ → ℕ → Option ℕ
+fits_from rule S m l zero = None
 fits_from rule S m l (suc n) = or_else (list_found rule S m l) (fits_from rule S m (suc l) n)
 
-unfoldable pub fits_found : NodeRule → Settings → List ℕ → Finding
+unfoldable pub fits_found : NodeRule → Settings → List ℕ → Option ℕ
 fits_found rule S m = fits_from rule S m 0 (lists S)

@@ -10,9 +10,10 @@ ghost use Rattle.fits.specs.Fits.{spared, queue_at, range_test, fields_test, pro
 ghost use Rattle.fits.specs.Walk.{NodeOf, RecordOf, NoteOf, Spoken, Walkable, ListOf};
 
 use layout::{Shape, Table};
-use ledger::{EntryId, Finding};
+use ledger::EntryId;
 
 // Which of the three rules is tested.
+// kept: an enum, by which the definitions and theorems go (`rule_test`, `fits_means`); a trait's impls would each name its variant again.
 #[derive(Clone, Copy)]
 pub enum NodeRule {
     OwnPort,
@@ -20,65 +21,17 @@ pub enum NodeRule {
     Record,
 }
 
-// Whether the rule says nothing of a port's list, by the list's column.
-fn spares(rule: NodeRule, column: usize) -> bool
-    ensures { result ≡ spared rule column }
-{
-    match rule {
-        NodeRule::OwnPort => 2 <= column,
-        NodeRule::OwnQueue => column < 2,
-        NodeRule::Record => column == 0,
-    }
-}
-
 // (e): a node in an egress or a prefetch list has the list's queue.
 pub fn own_queue(s: Shape, column: usize, queue: usize) -> bool
     requires { 2 ≤ column }
     ensures { result ≡ eqb queue (queue_at (settings_of s) column) }
 {
-    let queues = s.queues;
     let place = column - 2;
-    if place < queues {
+    if place < s.queues {
         queue == place
     } else {
-        queue == place - queues
+        queue == place - s.queues
     }
-}
-
-// (f), of what can be out of range in the bytes that hold it.
-fn in_range(s: Shape, len: u32, queue: u32, dest: u8, poisoned: u8) -> bool
-    requires { Laid s }
-    ensures { result ≡ range_test (settings_of s) len queue dest poisoned }
-{
-    if (len as usize) < s.least {
-        return false;
-    }
-    if 8192 <= len {
-        return false;
-    }
-    if s.queues <= queue as usize {
-        return false;
-    }
-    if s.dests <= dest as usize {
-        return false;
-    }
-    poisoned < 2
-}
-
-// (f): whether a price is that of the queue and the length, by multiplying, which costs less than to divide: so many beats hold the packet,
-// and no fewer do.
-fn fair(beat: u32, queue: u32, len: u32, price: u32) -> bool
-    requires { (1 ≤ beat) × (beat ≤ 512) × (len < 2 ^ 13) × (price < 256) }
-    ensures { result ≡ eqb price (priceOf beat queue len) }
-{
-    if queue == 0 {
-        return price == 0;
-    }
-    let held = price * beat;
-    if held < len {
-        return false;
-    }
-    held < len + beat
 }
 
 // What the memory has of a node's record, by its element, of the fields that can be out of range.
@@ -91,92 +44,119 @@ pub struct Note {
     pub price: u8,
 }
 
-pub fn noted(m: &[u8], s: Shape, at: usize) -> Note
-    requires { RecordOf s at m.now }
-    ensures { NoteOf (settings_of s) m.now at result }
-{
-    Note {
-        len: layout::get2(m, s, Table::Length, at),
-        queue: layout::get1(m, s, Table::Queue, at),
-        dest: layout::get1(m, s, Table::Dest, at),
-        poisoned: layout::get1(m, s, Table::Poisoned, at),
-        price: layout::get1(m, s, Table::Price, at),
-    }
-}
-
-// (f): every field is in range, and the price is that of the queue and the length.
-pub fn note_proper(s: Shape, n: Note) -> bool
-    requires { Laid s }
-    ensures { result ≡ fields_test (settings_of s) n.len n.queue n.dest n.poisoned n.price }
-{
-    let len = n.len as u32;
-    let queue = n.queue as u32;
-    if !in_range(s, len, queue, n.dest, n.poisoned) {
-        return false;
-    }
-    fair(s.beat as u32, queue, len, n.price as u32)
-}
-
-// The same of what the memory has.
-fn proper(m: &[u8], s: Shape, x: EntryId) -> bool
-    requires { NodeOf s x.0 m.now }
-    ensures { result ≡ proper_test (settings_of s) (packet_at (settings_of s) m.now x.0) }
-{
-    note_proper(s, noted(m, s, geometry::slot_of(s, x)))
-}
-
-// The rule's test of one node in a list that it speaks of.
-fn node_fits(m: &[u8], s: Shape, rule: NodeRule, port: usize, column: usize, x: EntryId) -> bool
-    requires { Spoken rule column s x.0 m.now }
-    ensures { result ≡ rule_test rule (settings_of s) port column (packet_at (settings_of s) m.now x.0) }
-{
-    match rule {
-        NodeRule::OwnPort => x.port() as usize == port,
-        NodeRule::OwnQueue => {
-            let queue = layout::get1(m, s, Table::Queue, geometry::slot_of(s, x));
-            own_queue(s, column, queue as usize)
+impl Note {
+    pub fn read(m: &[u8], s: Shape, at: usize) -> Note
+        requires { RecordOf s at m.now }
+        ensures { NoteOf (settings_of s) m.now at result }
+    {
+        Note {
+            len: layout::get2(m, s, Table::Length, at),
+            queue: layout::get1(m, s, Table::Queue, at),
+            dest: layout::get1(m, s, Table::Dest, at),
+            poisoned: layout::get1(m, s, Table::Poisoned, at),
+            price: layout::get1(m, s, Table::Price, at),
         }
-        NodeRule::Record => proper(m, s, x),
+    }
+
+    // (f), of what can be out of range in the bytes that hold it.
+    #[tactic(auto, unfolding(crate::specs::Fits::range_test))]
+    fn in_range(self, s: Shape) -> bool
+        requires { Laid s }
+        ensures { result ≡ range_test (settings_of s) self.len self.queue self.dest self.poisoned }
+    {
+        s.least <= usize::from(self.len)
+            && self.len < 8192
+            && usize::from(self.queue) < s.queues
+            && usize::from(self.dest) < s.dests
+            && self.poisoned < 2
+    }
+
+    // (f): whether the price is that of the queue and the length, by multiplying, which costs less than to divide: so many beats hold the
+    // packet, and no fewer do.
+    #[tactic(auto, using(ledger::proofs::Header::price_free, crate::proofs::Prices::too_few, crate::proofs::Prices::enough))]
+    fn fair(self, beat: usize) -> bool
+        requires { (1 ≤ beat) × (beat ≤ 512) × (self.len < 2 ^ 13) }
+        ensures { result ≡ eqb self.price (priceOf beat self.queue self.len) }
+    {
+        if self.queue == 0 {
+            return self.price == 0;
+        }
+        let len = usize::from(self.len);
+        let held = usize::from(self.price) * beat;
+        len <= held && held < len + beat
+    }
+
+    // (f): every field is in range, and the price is that of the queue and the length.
+    #[tactic(auto, using(crate::proofs::Walk::range_len), unfolding(crate::specs::Fits::fields_test))]
+    pub fn proper(self, s: Shape) -> bool
+        requires { Laid s }
+        ensures { result ≡ fields_test (settings_of s) self.len self.queue self.dest self.poisoned self.price }
+    {
+        self.in_range(s) && self.fair(s.beat)
+    }
+}
+
+impl NodeRule {
+    // Whether the rule says nothing of a port's list, by the list's column.
+    fn spares(self, column: usize) -> bool
+        ensures { result ≡ spared self column }
+    {
+        match self {
+            NodeRule::OwnPort => 2 <= column,
+            NodeRule::OwnQueue => column < 2,
+            NodeRule::Record => column == 0,
+        }
+    }
+
+    // The rule's test of one node in a list that it speaks of.
+    #[tactic(auto, using(memory::proofs::Chains::slot_lt, crate::proofs::Walk::note_tests), unfolding(crate::specs::Fits::rule_test, layout::specs::Picture::packet_at))]
+    fn holds(self, m: &[u8], s: Shape, port: usize, column: usize, x: EntryId) -> bool
+        requires { Spoken self column s x.0 m.now }
+        ensures { result ≡ rule_test self (settings_of s) port column (packet_at (settings_of s) m.now x.0) }
+    {
+        match self {
+            NodeRule::OwnPort => usize::from(x.port()) == port,
+            NodeRule::OwnQueue => {
+                let queue = layout::get1(m, s, Table::Queue, geometry::slot_of(s, x));
+                own_queue(s, column, usize::from(queue))
+            }
+            NodeRule::Record => Note::read(m, s, geometry::slot_of(s, x)).proper(s),
+        }
     }
 }
 
 // The first node of a list that fails.
-fn list_fits(m: &[u8], s: Shape, rule: NodeRule, l: usize) -> Finding
+#[tactic(auto, using(crate::proofs::Walk::spared_whole))]
+fn list_fits(m: &[u8], s: Shape, rule: NodeRule, l: usize) -> Option<usize>
     requires { ListOf s l m.now }
     ensures { result ≡ list_found rule (settings_of s) m.now l }
 {
-    let row = s.row;
-    let port = l / row;
-    let column = l % row;
-    if spares(rule, column) {
-        return Finding::Whole;
+    let port = l / s.row;
+    let column = l % s.row;
+    if rule.spares(column) {
+        return None;
     }
-    let mut left = layout::get4(m, s, Table::Count, l);
+    let count = layout::get4(m, s, Table::Count, l);
     let mut x = layout::get2(m, s, Table::Head, l);
-    while 0 < left {
+    for _ in 0..count {
         let id = EntryId(x);
-        if !node_fits(m, s, rule, port, column, id) {
-            return Finding::At(x as usize);
+        if !rule.holds(m, s, port, column, id) {
+            return Some(usize::from(x));
         }
         x = layout::get2(m, s, Table::Next, geometry::slot_of(s, id));
-        left -= 1;
     }
-    Finding::Whole
+    None
 }
 
 // The first node that fails, lists in their order from this one on, each from its head.
-pub fn fits(m: &[u8], s: Shape, rule: NodeRule, from: usize) -> Finding
+pub fn fits(m: &[u8], s: Shape, rule: NodeRule, from: usize) -> Option<usize>
     requires { Walkable s m.now }
     ensures { result ≡ fits_from rule (settings_of s) m.now from (lists (settings_of s) - from) }
 {
-    let lists = s.lists;
-    let mut l = from;
-    while l < lists {
-        let found = list_fits(m, s, rule, l);
-        if let Finding::At(_) = found {
-            return found;
+    for l in from..s.lists {
+        if let Some(x) = list_fits(m, s, rule, l) {
+            return Some(x);
         }
-        l += 1;
     }
-    Finding::Whole
+    None
 }

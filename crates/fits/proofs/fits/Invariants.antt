@@ -9,6 +9,3 @@ abbrev pub invariant-loop-l : goal.invariant-loop-l
 invariant-loop-l l =
     fits_from l.rule (settings_of l.s) l.m l.l (lists (settings_of l.s) - l.l) ≡ fits_from l.rule (settings_of l.s) l.m l.from
     (lists (settings_of l.s) - l.from)
-
-abbrev pub decreases-loop-l : goal.decreases-loop-l
-decreases-loop-l l = l.lists - l.l
