@@ -9,7 +9,7 @@ use native.Mathlib.Decide.{ℕ_discrete}
 use native.Mathlib.Omega.{arith}
 use lib.ListN.{length, get_or, replicate, length-replicate}
 use lib.Dec.{eqb}
-use Rattle.ledger.specs.declared.Finding.TheVariants.{Whole}
+use Rattle.std.specs.Prelude.{None}
 use Rattle.ledger.specs.Settings.{Settings, row}
 use Rattle.ledger.specs.Ledger.{owner, Packet, Place, cell, credit_at, arrival_of}
 use Rattle.ledger.specs.Sound.{All, sum, weigh, owes, due, owed, Roomy}
@@ -158,7 +158,7 @@ module _ (S : Settings) (m : List ℕ) (R : Roomy S) (P : Payable S m) where
       let e = w ∙ ap (λ (k : ℕ). get S m Arrival k + get_or (sums_of S m) k 0) at in
       (λ t. e ∙ eqb_yes _ _ t, λ l. eqb_is _ _ (sym e ∙ l))
 
-  pub paid_means : (paid_found S m ≡ Whole) ↔ AllPaid S m
+  pub paid_means : (paid_found S m ≡ None) ↔ AllPaid S m
   unfolding due_found settled_at
   paid_means =
       let f = first_all (settled_at S m (sums_of S m)) (cells S) in

@@ -1,7 +1,6 @@
 -- Rule (g), as it is computed: a sum for each port and queue but 0, to which the price of each node that is not free is added, and then
 -- the first cell whose credit and sum are not K together, port by port and queue by queue. Assumes nothing.
-use Rattle.std.specs.Prelude.{Bool, cond, List, [], ◌∷◌, ℕ, zero, suc, ◌+◌, ◌%◌, get_or, replicate, eqb}
-use Rattle.ledger.specs.declared.Finding.{Finding}
+use Rattle.std.specs.Prelude.{Bool, cond, List, [], ◌∷◌, ℕ, zero, suc, ◌+◌, ◌%◌, get_or, replicate, eqb, Option}
 use Rattle.ledger.specs.Settings.{Settings, row}
 use Rattle.ledger.specs.Ledger.{owner, credit_at, set_credit}
 use Rattle.layout.specs.declared.Table.TheVariants.{Arrival, Queue, Price}
@@ -38,8 +37,8 @@ unfoldable pub settled_at : Settings → List ℕ → List ℕ → ℕ → Bool
 settled_at S m sums c = eqb (get S m Arrival c + get_or sums c 0) S.credit
 
 -- the first cell of which that is not so, with these sums and with those of the memory
-unfoldable pub due_found : Settings → List ℕ → List ℕ → Finding
+unfoldable pub due_found : Settings → List ℕ → List ℕ → Option ℕ
 due_found S m sums = first (settled_at S m sums) (cells S)
 
-abbrev pub paid_found : Settings → List ℕ → Finding
+abbrev pub paid_found : Settings → List ℕ → Option ℕ
 paid_found S m = due_found S m (sums_of S m)

@@ -25,11 +25,10 @@ list_most = 16711680
 
 -- ---- a node
 
-pub record AddsPrice (s : Shape) (sums : List ℕ) (x queue price : ℕ) : Type 0 where
+pub record AddsPrice (s : Shape) (sums : List ℕ) (x queue : ℕ) : Type 0 where
   pub laid : Laid s
   pub home : owner x < s.ports
   pub inside : queue < s.queues
-  pub cheap : price < 256
   pub held : Sums (settings_of s) sums (2 ^ 63)
 
 pub record Counted (S : Settings) (m : List ℕ) (x : ℕ) : Type 0 where

@@ -8,43 +8,34 @@ ghost use Rattle.paid.specs.Paid.{add_price, settled_at, due_found};
 ghost use Rattle.paid.specs.Passes.{AddsPrice, Settles, SettlesAt};
 
 use layout::{Shape, Table};
-use ledger::{EntryId, Finding};
+use ledger::EntryId;
 
 // Adds a price to the sum of node x's port and of a queue; queue 0 has none.
-pub fn add_price(s: Shape, sums: &mut [u64], x: EntryId, queue: usize, price: u64)
-    requires { AddsPrice s sums.old x.0 queue price }
+#[tactic(auto, using(crate::proofs::Adding::add_none, crate::proofs::Adding::add_some))]
+pub fn add_price(s: Shape, sums: &mut [u64], x: EntryId, queue: usize, price: u8)
+    requires { AddsPrice s sums.old x.0 queue }
     ensures { sums.new ≡ add_price (settings_of s) sums.old x.0 queue price }
 {
-    if queue == 0 {
-        return;
+    if queue != 0 {
+        let c = geometry::cell_of(s, usize::from(x.port()), queue);
+        sums[c] += u64::from(price);
     }
-    let c = geometry::cell_of(s, x.port() as usize, queue);
-    sums[c] = sums[c] + price;
 }
 
 // Whether the credit of cell c and its sum are K together.
+#[tactic(auto, unfolding(crate::specs::Paid::settled_at))]
 fn settled(m: &[u8], s: Shape, sums: &[u64], c: usize) -> bool
     requires { SettlesAt s m.now sums.now c }
     ensures { result ≡ settled_at (settings_of s) m.now sums.now c }
 {
-    let credit = s.credit as u64;
-    let arrival = layout::get2(m, s, Table::Arrival, c) as u64;
-    let sum = sums[c];
-    arrival + sum == credit
+    let arrival = u64::from(layout::get2(m, s, Table::Arrival, c));
+    arrival + sums[c] == s.credit as u64
 }
 
 // The first cell that isn't settled.
-pub fn first_due(m: &[u8], s: Shape, sums: &[u64]) -> Finding
+pub fn first_due(m: &[u8], s: Shape, sums: &[u64]) -> Option<usize>
     requires { Settles s m.now sums.now }
     ensures { result ≡ due_found (settings_of s) m.now sums.now }
 {
-    let cells = s.cells;
-    let mut c = 0;
-    while c < cells {
-        if !settled(m, s, sums, c) {
-            return Finding::At(c);
-        }
-        c += 1;
-    }
-    Finding::Whole
+    (0..s.cells).find(|c| !settled(m, s, sums, *c))
 }

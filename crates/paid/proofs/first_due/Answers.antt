@@ -1,24 +1,21 @@
--- `paid::first_due` meets its contract: what is found from cell c on is what is found of all. Assumes nothing.
-use mathlib.Core.Path.{sym, ◌∙◌}
-use native.Mathlib.Omega.{arith}
-use borrow.Author.Tests.{not-true, not-false}
-use Rattle.ranges.proofs.First.{search_start, search_next, search_at, search_none}
-use Rattle.paid.specs.Paid.{due_found}
+-- `paid::first_due` meets its contract: a search of the cells. Assumes nothing.
+use borrow.Author.Tests.{tests}
+use mathlib.Core.Path.{◌≡◌, ap, ◌∙◌}
+use mathlib.Core.Bool.{true, false}
+use Rattle.std.proofs.Common.{rules}
+use Rattle.std.proofs.lemmas.Iterator.{first_from_Range}
+use Rattle.layout.specs.Tables.{settings_of}
+use Rattle.ranges.specs.First.{first}
+use Rattle.ranges.proofs.First.{first_none, find_first}
+use Rattle.paid.specs.Paid.{settled_at, due_found}
 use Rattle.paid.proofs.first_due.Goals as goal
-
-pub loop-c-init : goal.loop-c-init
-loop-c-init c = search_start _ _
-
-pub settled-requires : goal.settled-requires
-settled-requires c = record { all = c.requires; inside = omega arith }
-
-pub returns-then-not-settled : goal.returns-then-not-settled
-unfolding due_found
-returns-then-not-settled c = sym (search_at _ _ _ c.loop-c.invariant (omega arith) (sym c.settled.ensures ∙ not-true _ c.if-not-settled.true-raw))
-
-pub loop-c-preserved : goal.loop-c-preserved
-loop-c-preserved c = search_next _ _ _ c.loop-c.invariant (omega arith) (sym c.settled.ensures ∙ not-false _ c.if-not-settled.false-raw)
 
 pub returns : goal.returns
 unfolding due_found
-returns c = sym (search_none _ _ _ c.loop-c.invariant (omega arith))
+returns c =
+    let a = c.args in
+    let ok = settled_at (settings_of a.s) a.m.now a.sums.now in
+    find_first ok 0 a.s.cells c.find.result (first_none ok)
+    (first_from_Range _ _ _ c.find.result (λ i. ok i ≡ false) (λ i. ok i ≡ true) c.find.ensures.ran
+    (λ i q k. search (rules, tests)) (λ i q k. search (rules, tests)))
+    ∙ ap (first ok) c.requires.laid.cells_are
