@@ -22,16 +22,17 @@ pub enum NodeRule {
 }
 
 // (e): a node in an egress or a prefetch list has the list's queue.
-pub fn own_queue(s: Shape, column: usize, queue: usize) -> bool
+pub fn own_queue(s: Shape, column: usize, queue: u8) -> bool
     requires { 2 ≤ column }
     ensures { result ≡ eqb queue (queue_at (settings_of s) column) }
 {
     let place = column - 2;
-    if place < s.queues {
-        queue == place
+    let own = if place < s.queues {
+        place
     } else {
-        queue == place - s.queues
-    }
+        place - s.queues
+    };
+    usize::from(queue) == own
 }
 
 // What the memory has of a node's record, by its element, of the fields that can be out of range.
@@ -118,7 +119,7 @@ impl NodeRule {
             NodeRule::OwnPort => usize::from(x.port()) == port,
             NodeRule::OwnQueue => {
                 let queue = layout::get1(m, s, Table::Queue, geometry::slot_of(s, x));
-                own_queue(s, column, usize::from(queue))
+                own_queue(s, column, queue)
             }
             NodeRule::Record => Note::read(m, s, geometry::slot_of(s, x)).proper(s),
         }

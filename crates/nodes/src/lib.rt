@@ -8,6 +8,7 @@ ghost use Rattle.once.specs.Bits.{marks_in};
 ghost use Rattle.fits.specs.Fits.{queue_at};
 ghost use Rattle.nodes.specs.Passes.{PacketLent, PacketPassed, NodeLent, NodePassed};
 
+use fits::Note;
 use layout::Shape;
 use ledger::EntryId;
 
@@ -15,20 +16,14 @@ use ledger::EntryId;
 fn port_fits(port: usize, column: usize, x: EntryId) -> bool
     ensures { result ≡ (leb 2 column || eqb (owner x.0) port) }
 {
-    if 2 <= column {
-        return true;
-    }
-    x.port() as usize == port
+    2 <= column || usize::from(x.port()) == port
 }
 
 // (e), which spares the free and the ingress list: the node has the list's queue.
-fn queue_fits(s: Shape, column: usize, queue: usize) -> bool
+fn queue_fits(s: Shape, column: usize, queue: u8) -> bool
     ensures { result ≡ (ltb column 2 || eqb queue (queue_at (settings_of s) column)) }
 {
-    if column < 2 {
-        return true;
-    }
-    fits::own_queue(s, column, queue)
+    column < 2 || fits::own_queue(s, column, queue)
 }
 
 // (e) and (f) of a node that is not free, whose record is read once; its price is added.
@@ -36,14 +31,11 @@ fn packet_passes(m: &[u8], s: Shape, column: usize, x: EntryId, at: usize, sums:
     requires { PacketLent s m.now sums.old x.0 at }
     ensures { PacketPassed (settings_of s) m.now column x.0 sums.old sums.new result }
 {
-    let n = fits::noted(m, s, at);
-    if !queue_fits(s, column, n.queue as usize) {
+    let n = Note::read(m, s, at);
+    if !queue_fits(s, column, n.queue) || !n.proper(s) {
         return false;
     }
-    if !fits::note_proper(s, n) {
-        return false;
-    }
-    paid::add_price(s, sums, x, n.queue as usize, n.price as u64);
+    paid::add_price(s, sums, x, n.queue, n.price);
     true
 }
 
@@ -62,14 +54,8 @@ pub fn node_passes(
     ensures { NodePassed (settings_of s) m.now port column x.0 (marks_in (settings_of s) marks.old)
         sums.old (marks_in (settings_of s) marks.new) sums.new result }
 {
-    if !once::fresh(at, marks) {
+    if !once::fresh(at, marks) || !port_fits(port, column, x) {
         return false;
     }
-    if !port_fits(port, column, x) {
-        return false;
-    }
-    if column == 0 {
-        return true;
-    }
-    packet_passes(m, s, column, x, at, sums)
+    column == 0 || packet_passes(m, s, column, x, at, sums)
 }

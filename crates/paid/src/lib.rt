@@ -12,12 +12,12 @@ use ledger::EntryId;
 
 // Adds a price to the sum of node x's port and of a queue; queue 0 has none.
 #[tactic(auto, using(crate::proofs::Adding::add_none, crate::proofs::Adding::add_some))]
-pub fn add_price(s: Shape, sums: &mut [u64], x: EntryId, queue: usize, price: u8)
+pub fn add_price(s: Shape, sums: &mut [u64], x: EntryId, queue: u8, price: u8)
     requires { AddsPrice s sums.old x.0 queue }
     ensures { sums.new ≡ add_price (settings_of s) sums.old x.0 queue price }
 {
     if queue != 0 {
-        let c = geometry::cell_of(s, usize::from(x.port()), queue);
+        let c = geometry::cell_of(s, usize::from(x.port()), usize::from(queue));
         sums[c] += u64::from(price);
     }
 }

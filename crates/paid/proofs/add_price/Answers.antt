@@ -1,5 +1,5 @@
 -- `paid::add_price` meets its contract. Assumes nothing.
-use mathlib.Core.Path.{◌≡◌, ap, ◌∙◌}
+use mathlib.Core.Path.{◌≡◌, ap, ap₂, ◌∙◌}
 use Prim.Native.Nat.{ℕ, ◌-◌, ◌<◌}
 use native.Mathlib.Omega.{arith}
 use lib.ListN.{length, get_or}
@@ -11,7 +11,8 @@ use Rattle.paid.proofs.add_price.Goals.{After-cell_of-c}
 
 cell_is : (c : After-cell_of-c)
     → let a = c.args in c.cell_of-c.result ≡ cell (settings_of a.s) (owner a.x.0) (a.queue - 1)
-cell_is c = c.cell_of-c.ensures ∙ ap (λ (p : ℕ). cell (settings_of c.args.s) p (c.args.queue - 1)) (c.from.ensures ∙ c.port.ensures)
+cell_is c =
+    c.cell_of-c.ensures ∙ ap₂ (λ (p q : ℕ). cell (settings_of c.args.s) p (q - 1)) (c.from.ensures ∙ c.port.ensures) c.from-then-queue-ne0.ensures
 
 low : (c : After-cell_of-c) → c.cell_of-c.result < length c.args.sums.now
 low c = let p = c.requires in omega (arith, cell_is c, cell_in _ _ _ _ _ p.held p.home (omega arith) p.inside)
