@@ -7,7 +7,7 @@ use native.Mathlib.Nat.{mul_assoc, mod-eq_of_lt}
 use native.Mathlib.Omega.{arith}
 use lib.Dec.{ltb, leb}
 use lib.ListN.{length, take, length-append, length-replicate}
-use lib.Pow.{pow_pos, pow-add}
+use lib.Pow.{pow-add}
 use lib.Seq.{take_at}
 use Rattle.numbers.specs.Bytes.{store, digits}
 use Rattle.numbers.specs.Fields.{pack, fitting, Fit}
@@ -21,11 +21,10 @@ use Rattle.ledger.specs.Header.{Form, Fields, form_of, widths, spare, front_byte
 use Rattle.ledger.proofs.Tests.{and_left, and_right, leb_yes, leb_is, ltb_yes, ltb_is}
 use Rattle.ledger.proofs.Rows.{ports_range, queues_range}
 use Rattle.ledger.proofs.Steps.{cleared}
-use Rattle.forms.specs.declared.HeaderForm.{HeaderForm}
-use Rattle.forms.specs.Formed.{form_in, Formed}
+use Rattle.forms.specs.declared.form.HeaderForm.{HeaderForm}
+use Rattle.forms.specs.Formed.{form_in}
 use Rattle.header.specs.Front.{front_widths}
 use Rattle.header.specs.Judge.{bad, good, readable}
-use Rattle.header.proofs.Shapes.{shaped}
 use Rattle.header.proofs.Reading.{back_bytes, body_parts}
 use Rattle.header.proofs.Verdicts.{first_bad_lem, first_good}
 use Rattle.codec.specs.Label.{Label, label_of, values, front_values, counts_in, refused, gives}
@@ -93,27 +92,6 @@ module _ (F : Form) (n : ℕ) (v : Label) where
   unfolding holds
   means_holds k = rw (fit_fitting (widths F) (values v) k.fit, leb_is (least_length F) v.len k.long, ltb_is v.queue n k.queue)
 
--- as the code tests it: the reserved bits and the timestamp fit in any case
-pub all_fit : (F : Form) (v : Label) (a b c d e f g : Bool)
-    → a ≡ ltb v.dest (2 ^ F.port_bits)
-    → b ≡ ltb v.source (2 ^ F.port_bits)
-    → c ≡ ltb v.queue (2 ^ F.queue_bits)
-    → d ≡ ltb v.len (2 ^ 13)
-    → e ≡ ltb v.poisoned (2 ^ 1)
-    → f ≡ ltb v.offered (2 ^ (8 * F.offer_bytes))
-    → g ≡ ltb v.transaction (2 ^ 8)
-    → v.stamp < 2 ^ 32
-    → (a && (b && (c && (d && (e && (f && g)))))) ≡ fitting (widths F) (values v)
-all_fit F v a b c d e f g da db dc dd de df dg stamp =
-    let zeros : ltb 0 (2 ^ spare F) ≡ true = ltb_is 0 (2 ^ spare F) (pow_pos (spare F)) in
-    let time : ltb v.stamp (2 ^ 32) ≡ true = ltb_is v.stamp (2 ^ 32) stamp in
-    let end : g ≡ (g && true) = ended g in
-    ap (λ (x : Bool). a && (b && (c && (d && (e && (f && x)))))) end ∙ rw (zeros, time) (cc)
-  where
-    ended : (x : Bool) → x ≡ (x && true)
-    ended true = refl
-    ended false = refl
-
 -- ---- the bytes of a label
 
 abbrev pub back_values : Label → List ℕ
@@ -169,7 +147,7 @@ unfolding header_for header_size
 length_header F v = simp (length-append, length_body) (omega arith)
 
 -- the numbers that the code stores one after another are the body
-pub body_stored : (f : HeaderForm) → Formed f → (v : Label) → Fit (widths (form_in f)) (values v) → (m₀ m₁ m₂ m₃ m₄ : List ℕ) (front credit : ℕ)
+pub body_stored : (f : HeaderForm) (v : Label) → Fit (widths (form_in f)) (values v) → (m₀ m₁ m₂ m₃ m₄ : List ℕ) (front credit : ℕ)
     → front ≡ pack (front_widths (form_in f)) (front_values v) * 2 ^ (8 * (4 - f.front))
     → credit ≡ v.offered * 2 ^ (8 * (2 - f.offer)) + 0
     → m₀ ≡ padded []
@@ -178,40 +156,38 @@ pub body_stored : (f : HeaderForm) → Formed f → (v : Label) → Fit (widths 
     → m₃ ≡ store 2 m₂ (f.front + 4) credit
     → m₄ ≡ store 1 m₃ (f.size - 2) v.transaction
     → m₄ ≡ padded (body_for (form_in f) v)
-body_stored f ok v fit m₀ m₁ m₂ m₃ m₄ front credit ef ec e₀ e₁ e₂ e₃ e₄ =
+body_stored f v fit m₀ m₁ m₂ m₃ m₄ front credit ef ec e₀ e₁ e₂ e₃ e₄ =
     let F : Form = form_in f in
-    let s = shaped f ok in
     let k : ℕ = front_bytes F in
     let o : ℕ = f.offer in
     let w : ℕ = pack (front_widths F) (front_values v) in
-    let is : f.front ≡ k = ok.front_is in
+    let is : f.front ≡ k = f.formed.front_is in
     let front_word : front ≡ w * 256 ^ (4 - k) = ef ∙ ap (λ (n : ℕ). w * 2 ^ (8 * (4 - n))) is ∙ ap (λ (n : ℕ). w * n) (sym (pow_bytes (4 - k))) in
     let credit_word : credit ≡ v.offered * 256 ^ (2 - o) = ec ∙ rw (← pow_bytes (2 - o)) (omega arith) in
     let one = put 12 4 k [] 0 front w m₀ m₁ e₀ refl (omega arith) (omega arith) front_word e₁ in
     let two = put 12 4 4 (digits k w) f.front v.stamp v.stamp m₁ m₂ one (length_digits k w ∙ sym is) (omega arith) (omega arith) (omega arith) e₂ in
     let three = put 12 2 o (digits k w ++ digits 4 v.stamp) (f.front + 4) credit v.offered m₂ m₃ two
-    (simp (length-append, length_digits) (omega arith)) s.few_offer (omega arith) credit_word e₃ in
+    (simp (length-append, length_digits) (omega arith)) f.formed.narrow.few_offer (omega arith) credit_word e₃ in
     let four = put 12 1 1 ((digits k w ++ digits 4 v.stamp) ++ digits o v.offered) (f.size - 2) v.transaction v.transaction m₃ m₄ three
     (simp (length-append, length_digits) (omega arith)) (omega arith) (omega arith) (omega arith) e₄ in
     four ∙ ap padded (body_bytes F v fit)
 
 -- in a room of twelve bytes
-pub room_body : (f : HeaderForm) → Formed f → (v : Label) → length (padded (body_for (form_in f) v)) ≡ 12
-room_body f ok v =
-    let s = shaped f ok in
+pub room_body : (f : HeaderForm) (v : Label) → length (padded (body_for (form_in f) v)) ≡ 12
+unfolding body_size
+room_body f v =
     let len = length_body (form_in f) v in
     simp (length-append, length-replicate) (omega arith)
 
 -- and with the checksum behind it the header
-pub header_stored : (f : HeaderForm) → Formed f → (v : Label) (b b' : List ℕ) (sum : ℕ)
+pub header_stored : (f : HeaderForm) (v : Label) (b b' : List ℕ) (sum : ℕ)
     → b ≡ padded (body_for (form_in f) v)
     → sum ≡ crc8 (take (f.size - 1) b)
     → b' ≡ store 1 b (f.size - 1) sum
     → b' ≡ padded (header_for (form_in f) v)
-unfolding header_for
-header_stored f ok v b b' sum e es e' =
+unfolding header_for header_size
+header_stored f v b b' sum e es e' =
     let F : Form = form_in f in
-    let s = shaped f ok in
     let B : List ℕ = body_for F v in
     let len : length B ≡ f.size - 1 = length_body F v ∙ omega arith in
     let whole : sum ≡ crc8 B = es ∙ ap (λ (l : List ℕ). crc8 (take (f.size - 1) l)) e ∙ ap crc8 (take_at B _ (f.size - 1) len) in

@@ -1,15 +1,14 @@
 -- Paper 02, Q-7: the writer of headers. Assumes nothing.
-use Rattle.std.specs.Prelude.{Bool, not, ◌&&◌, ◌⊎◌, ◌≡◌, List, [], ◌∷◌, ◌++◌, ℕ, ◌-◌, ◌<◌, ◌≤◌, ltb, leb, length, replicate}
+use Rattle.std.specs.Prelude.{Result, Ok, Err, Bool, not, ◌&&◌, ◌⊎◌, ◌≡◌, List, [], ◌∷◌, ◌++◌, ℕ, ◌-◌, ◌<◌, ◌≤◌, ltb, leb, length, replicate}
 use Rattle.numbers.specs.Bytes.{digits}
 use Rattle.numbers.specs.Fields.{pack, fitting, Fit}
 use Rattle.crc.specs.Crc.{crc8}
 use Rattle.ledger.specs.Header.{Form, form_of, widths, body_size, least_length}
 use Rattle.ledger.specs.Rules.{Rule, refuse, guard}
 use Rattle.ledger.specs.Answers.{number_of}
-use Rattle.ledger.specs.declared.Plain.{Plain}
-use Rattle.ledger.specs.declared.Plain.TheVariants.{Done, No}
+use Rattle.ledger.specs.declared.Refusal.{Refusal}
 use Rattle.codec.specs.Label.{Label, values, counts_in, Answer, refused, gives}
-use Rattle.codec.specs.declared.Written.{Written}
+use Rattle.codec.specs.declared.written.Written.{Written}
 
 -- what a header of form F in a switch of n queues can say: each value fits its field, its length is the least or more, and the switch has its
 -- queue
@@ -45,11 +44,13 @@ bytes_of (gives b) = b
 abbrev pub padded : List ℕ → List ℕ
 padded b = b ++ replicate (12 - length b) 0
 
-abbrev pub answered : Plain → List ℕ → Answer (List ℕ)
-answered Done b = gives b
-answered (No r) b = refused (number_of r)
+-- so many of a header's bytes, and all twelve
+pub record IsHeader (w : Written) (b : List ℕ) : Type 0 where
+  pub size : w.size ≡ length b
+  pub bytes : w.bytes ≡ padded b
 
-pub record Answers (w : Written) (a : Answer (List ℕ)) : Type 0 where
-  pub answer : answered w.answer (bytes_of a) ≡ a
-  pub size : w.size ≡ length (bytes_of a)
-  pub bytes : w.bytes ≡ padded (bytes_of a)
+abbrev pub Answers : Result Written Refusal → Answer (List ℕ) → Type 0
+Answers (Ok w) (gives b) = IsHeader w b
+Answers (Ok w) (refused n) = ⊥
+Answers (Err r) (gives b) = ⊥
+Answers (Err r) (refused n) = number_of r ≡ n

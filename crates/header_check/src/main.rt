@@ -3,9 +3,9 @@
 // number, or 0 and the header's bytes, and one with the refusal's number, or 0 and the label.
 #![tactic(auto)]
 
-use codec::{HeaderRead, Label};
-use header::{HeaderFields, Judged};
-use ledger::{Load, Plain, Refusal};
+use codec::Label;
+use header::HeaderFields;
+use ledger::{Load, Refusal};
 use std::io;
 
 fn refusal(rt: &impl Print, r: Refusal) -> io::Result<()> {
@@ -19,9 +19,9 @@ fn show_fields(rt: &impl Print, f: HeaderFields) -> io::Result<()> {
 
 fn show(rt: &impl Print, h: &[u8], port: u32) -> io::Result<()> {
     let form = forms::form_of(0, 4, 24);
-    match header::judge(&crc::steps(), Load::Header, h, form, 24, port) {
-        Judged::Good(f) => show_fields(rt, f),
-        Judged::No(r) => refusal(rt, r),
+    match header::judge(Load::Header, h, form, 24, port) {
+        Ok(f) => show_fields(rt, f),
+        Err(r) => refusal(rt, r),
     }
 }
 
@@ -35,15 +35,14 @@ fn show_label(rt: &impl Print, v: Label) -> io::Result<()> {
 
 fn show_read(rt: &impl Print, edition: u32, ports: u32, queues: u32, h: &[u8]) -> io::Result<()> {
     match codec::read(edition, ports, queues, h) {
-        HeaderRead::Label(v) => show_label(rt, v),
-        HeaderRead::No(r) => refusal(rt, r),
+        Ok(v) => show_label(rt, v),
+        Err(r) => refusal(rt, r),
     }
 }
 
-// The first n of the twelve.
-fn show_bytes(rt: &impl Print, b: [u8; 12], n: u32) -> io::Result<()> {
+fn show_bytes(rt: &impl Print, b: &[u8]) -> io::Result<()> {
     print!(rt; "0")?;
-    for x in b.iter().take(n as usize) {
+    for x in b {
         print!(rt; " {x}")?;
     }
     println!(rt;)
@@ -56,10 +55,9 @@ fn show_written(
     queues: u32,
     v: Label,
 ) -> io::Result<()> {
-    let w = codec::write(edition, ports, queues, v);
-    match w.answer {
-        Plain::Done => show_bytes(rt, w.bytes, w.size),
-        Plain::No(r) => refusal(rt, r),
+    match codec::write(edition, ports, queues, v) {
+        Ok(w) => show_bytes(rt, &w.bytes[..w.size as usize]),
+        Err(r) => refusal(rt, r),
     }
 }
 

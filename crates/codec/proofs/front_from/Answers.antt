@@ -2,96 +2,60 @@
 use Prim.Native.Nat.{ℕ, ◌+◌, ◌-◌, ◌*◌, ◌^◌, ◌<◌}
 use native.Mathlib.Omega.{arith}
 use lib.Pow.{pow_pos}
-use Rattle.numbers.specs.Fields.{Fit}
 use Rattle.numbers.proofs.Parts.{joined_lt, join_word}
-use Rattle.ledger.specs.Header.{widths}
 use Rattle.forms.specs.Formed.{form_in}
-use Rattle.header.proofs.Shapes.{Shaped, shaped}
-use Rattle.codec.specs.Label.{values, label_in}
+use Rattle.codec.specs.Label.{label_in}
 use Rattle.codec.proofs.Labels.{front_packed}
 use Rattle.codec.proofs.front_from.Goals as goal
-use Rattle.codec.proofs.front_from.Goals.{After-join-flag, After-join-length, After-join-ports, After-join-queue, Start}
-
-shape : (c : Start) → Shaped c.args.form
-shape c = shaped c.args.form c.requires.0
-
-fit : (c : Start) → Fit (widths (form_in c.args.form)) (values (label_in c.args.v))
-fit c = c.requires.1
+use Rattle.codec.proofs.front_from.Goals.{After-join-flag, After-join-length, After-join-ports, After-join-queue}
 
 -- so many bits the number has by then
-abbrev port : Start → ℕ
-port c = c.args.form.port
-
-narrow_ports : (c : After-join-ports) → c.join-ports.result < 2 ^ (port (goal.at.After-join-ports c).Start + port (goal.at.After-join-ports c).Start)
+narrow_ports : (c : After-join-ports) → c.join-ports.result < 2 ^ (c.args.form.port + c.args.form.port)
 narrow_ports c =
     let a = c.args in
     joined_lt a.form.port a.form.port a.v.destination a.v.source c.join-ports.result c.join-ports.ensures
-    (fit (goal.at.After-join-ports c).Start).0 (fit (goal.at.After-join-ports c).Start).1.0
+    c.requires.0 c.requires.1.0
 
 narrow_queue : (c : After-join-queue)
-    → c.join-queue.result < 2 ^ (port (goal.at.After-join-queue c).Start + port (goal.at.After-join-queue c).Start + c.args.form.queue)
+    → c.join-queue.result < 2 ^ (c.args.form.port + c.args.form.port + c.args.form.queue)
 narrow_queue c =
     let a = c.args in
     joined_lt (a.form.port + a.form.port) a.form.queue c.join-ports.result a.v.queue
-    c.join-queue.result c.join-queue.ensures (narrow_ports (goal.at.After-join-queue c).After-join-ports) (fit (goal.at.After-join-queue c).Start).1.1.0
+    c.join-queue.result c.join-queue.ensures (narrow_ports (goal.at.After-join-queue c).After-join-ports) c.requires.1.1.0
 
 narrow_length : (c : After-join-length)
-    → c.join-length.result < 2 ^ (port (goal.at.After-join-length c).Start + port (goal.at.After-join-length c).Start + c.args.form.queue + 13)
+    → c.join-length.result < 2 ^ (c.args.form.port + c.args.form.port + c.args.form.queue + 13)
 narrow_length c =
     let a = c.args in
     joined_lt (a.form.port + a.form.port + a.form.queue) 13 c.join-queue.result a.v.length
-    c.join-length.result c.join-length.ensures (narrow_queue (goal.at.After-join-length c).After-join-queue) (fit (goal.at.After-join-length c).Start).1.1.1.0
+    c.join-length.result c.join-length.ensures (narrow_queue (goal.at.After-join-length c).After-join-queue) c.requires.1.1.1.0
 
 narrow_flag : (c : After-join-flag)
-    → c.join-flag.result < 2 ^ (port (goal.at.After-join-flag c).Start + port (goal.at.After-join-flag c).Start + c.args.form.queue + 13 + 1)
+    → c.join-flag.result < 2 ^ (c.args.form.port + c.args.form.port + c.args.form.queue + 13 + 1)
 narrow_flag c =
     let a = c.args in
     joined_lt (a.form.port + a.form.port + a.form.queue + 13) 1 c.join-length.result a.v.poisoned
-    c.join-flag.result c.join-flag.ensures (narrow_length (goal.at.After-join-flag c).After-join-length) (fit (goal.at.After-join-flag c).Start).1.1.1.1.0
-
-pub join-ports-requires : goal.join-ports-requires
-join-ports-requires c =
-    let a = c.args in
-    let s = shape c in
-    (omega arith, join_word a.form.port a.form.port a.v.destination a.v.source (fit c).0 (fit c).1.0 (omega arith))
-
-pub join-queue-requires : goal.join-queue-requires
-join-queue-requires c =
-    let a = c.args in
-    let s = shape (goal.at.join-queue-requires c).Start in (
-      omega arith,
-      join_word (a.form.port + a.form.port) a.form.queue c.join-ports.result a.v.queue
-          (narrow_ports c) (fit (goal.at.join-queue-requires c).Start).1.1.0 (omega arith),
-    )
+    c.join-flag.result c.join-flag.ensures (narrow_length (goal.at.After-join-flag c).After-join-length) c.requires.1.1.1.1.0
 
 pub join-length-requires : goal.join-length-requires
 join-length-requires c =
-    let a = c.args in
-    let s = shape (goal.at.join-length-requires c).Start in (
+    let a = c.args in (
       omega arith,
       join_word (a.form.port + a.form.port + a.form.queue) 13 c.join-queue.result a.v.length
-          (narrow_queue c) (fit (goal.at.join-length-requires c).Start).1.1.1.0 (omega arith),
+          (narrow_queue c) c.requires.1.1.1.0 (omega arith),
     )
 
 pub join-flag-requires : goal.join-flag-requires
 join-flag-requires c =
-    let a = c.args in
-    let s = shape (goal.at.join-flag-requires c).Start in (
+    let a = c.args in (
       omega arith,
       join_word (a.form.port + a.form.port + a.form.queue + 13) 1 c.join-length.result
-          a.v.poisoned (narrow_length c) (fit (goal.at.join-flag-requires c).Start).1.1.1.1.0 (omega arith),
+          a.v.poisoned (narrow_length c) c.requires.1.1.1.1.0 (omega arith),
     )
-
-pub overflow_sub-form : goal.overflow_sub-form
-overflow_sub-form c = (shape (goal.at.overflow_sub-form c).Start).four
-
-pub overflow_add-form : goal.overflow_add-form
-overflow_add-form c = let s = shape (goal.at.overflow_add-form c).Start in omega arith
 
 pub join-requires : goal.join-requires
 join-requires c =
     let a = c.args in
-    let s = shape (goal.at.join-requires c).Start in
     let zeros : ℕ = a.form.spare + 8 * (4 - a.form.front) in (
       omega arith,
       join_word (a.form.port + a.form.port + a.form.queue + 13 + 1) zeros c.join-flag.result 0
@@ -101,11 +65,11 @@ join-requires c =
 pub returns : goal.returns
 returns c =
     let a = c.args in
-    front_packed (form_in a.form) (label_in a.v) (fit (goal.at.returns c).Start) c.join-ports.result c.join-queue.result c.join-length.result c.join-flag.result
+    front_packed (form_in a.form) (label_in a.v) c.requires c.join-ports.result c.join-queue.result c.join-length.result c.join-flag.result
     c.join.result a.form.spare (8 * (4 - a.form.front))
     c.join-ports.ensures
     c.join-queue.ensures
     c.join-length.ensures
     c.join-flag.ensures
-    c.requires.0.spare_is
+    a.form.formed.spare_is
     c.join.ensures
