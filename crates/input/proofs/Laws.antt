@@ -1,7 +1,7 @@
 -- The bytes that a reader gives, in order; with no code. Assumes nothing.
 use Rattle.std.proofs.Common.{◌≡◌, sym, ap, ◌∙◌, subst, ℕ, ◌+◌, ◌-◌, ◌≤◌, List, ◌++◌, None, Some, length, take, drop, arith}
 use Rattle.std.proofs.lemmas.Grind.{common_steps}
-use Rattle.std.proofs.lemmas.List.{take-append-drop, drop-append-le, drop-take, take-take, length-take-le}
+use Rattle.std.proofs.lemmas.List.{take-append-drop, drop-take, take-take}
 use Rattle.std.proofs.lemmas.Slice.{take-put_mid}
 use borrow.Rule.Slice.PartMut.{put_mid}
 use Rattle.std.proofs.KnownBytes.{Consumes-trans}
@@ -23,22 +23,19 @@ still_front from to old bytes bytes' h front e = sym (take-take from to bytes' h
 
 -- what was read before stands in front of it
 read_after :
-    (from to next : ℕ) (bytes bytes' : List ℕ) → from ≤ to → to ≤ next → next ≤ length bytes' → take to bytes' ≡ take to bytes
+    (from to next : ℕ) (bytes bytes' : List ℕ) → from ≤ to → to ≤ next → take to bytes' ≡ take to bytes
     → drop from (take to bytes) ++ drop to (take next bytes') ≡ drop from (take next bytes')
-read_after from to next bytes bytes' h k room e =
-    let rest = drop to (take next bytes') in
+read_after from to next bytes bytes' h k e =
     let front : take to (take next bytes') ≡ take to bytes = take-take to next bytes' k ∙ e in
-    let whole : take next bytes' ≡ take to bytes ++ rest = sym (take-append-drop to (take next bytes')) ∙ ap (λ l. l ++ rest) front in
-    let long : length (take to bytes) ≡ to = ap length (sym e) ∙ length-take-le to bytes' (omega arith) in
-    sym (ap (drop from) whole ∙ drop-append-le from (take to bytes) rest (omega arith))
+    grind (arith, common_steps, take-append-drop to (take next bytes'))
 
 -- what a read gives comes after what was read before
 pub read_more :
-    (a b c : Option (List ℕ)) (from to next : ℕ) (bytes bytes' : List ℕ) → from ≤ to → to ≤ next → next ≤ length bytes'
+    (a b c : Option (List ℕ)) (from to next : ℕ) (bytes bytes' : List ℕ) → from ≤ to → to ≤ next
     → take to bytes' ≡ take to bytes → Consumes a b (drop from (take to bytes)) → Consumes b c (drop to (take next bytes'))
     → Consumes a c (drop from (take next bytes'))
-read_more a b c from to next bytes bytes' h k room e before then =
-    subst (Consumes a c) (read_after from to next bytes bytes' h k room e) (Consumes-trans a b c _ _ before then)
+read_more a b c from to next bytes bytes' h k e before then =
+    subst (Consumes a c) (read_after from to next bytes bytes' h k e) (Consumes-trans a b c _ _ before then)
 
 -- what was there and what is read after it are none lost
 none_lost :

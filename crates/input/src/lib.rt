@@ -1,7 +1,7 @@
 // A reader by way of a buffer, in which a field of the right length always stands whole.
 #![tactic(auto)]
 
-ghost use Rattle.std.specs.Prelude.{◌≡◌, ◌-◌, ◌≤◌, length, take, drop, false};
+ghost use Rattle.std.specs.Prelude.{◌≡◌, ◌+◌, ◌-◌, ◌≤◌, false, take, drop};
 ghost use Rattle.std.specs.Io.KnownBytes.{Consumes};
 ghost use Rattle.input.specs.Inputs.{unread, Kept, IsNoneLost};
 
@@ -11,95 +11,79 @@ use std::io::Read;
 const LONGEST: usize = 14;
 
 // The bytes from place from up to place to of the buffer are read and not used yet; and whether the input ended.
-#[derive(Clone, Copy)]
-pub struct Input {
+// kept: no heap, on which std's BufReader has its bytes.
+#[derive(Drop)]
+pub struct Input<R> {
+    pub reader: R,
+    pub bytes: [u8; 4096],
     pub from: usize,
     pub to: usize,
     pub ended: bool,
+    ghost from_le_to: { from ≤ to },
+    ghost within: { to ≤ 4096 },
 }
 
-// Nothing read yet.
-pub fn start() -> Input
-    ensures { (result.from ≤ result.to) × (result.to ≤ 4096) }
-{
-    Input {
-        from: 0,
-        to: 0,
-        ended: false,
-    }
-}
-
-// The bytes before place next are used.
-pub fn passed(input: Input, next: usize) -> Input
-    requires { (next ≤ input.to) × (input.to ≤ 4096) }
-    ensures { (result.from ≤ result.to) × (result.to ≤ 4096) × (result.from ≡ next) × (result.to ≡ input.to) }
-{
-    Input {
-        from: next,
-        to: input.to,
-        ended: input.ended,
-    }
-}
-
-// The bytes from place from up to place to, moved to the front: how many they are.
-fn moved(bytes: &mut [u8], from: usize, to: usize) -> usize
-    requires { (from ≤ to) × (to ≤ length bytes.old) }
-    ensures { (result ≡ to - from) × (take (to - from) bytes.new ≡ unread bytes.old from to) }
-{
-    bytes.copy_within(from..to, 0);
-    to - from
-}
-
-// One read, to place to: up to where the buffer is filled then. The same place where nothing came, at the end or by a read that failed.
-fn read_to<R: Read>(reader: &mut R, bytes: &mut [u8], to: usize) -> usize
-    requires { to ≤ length bytes.old }
-    ensures kept { (to ≤ result) × (result ≤ length bytes.old) × (take to bytes.new ≡ take to bytes.old) }
-    ensures read { Consumes (R.remaining reader.old) (R.remaining reader.new) (drop to (take result bytes.new)) }
-{
-    match reader.read(&mut bytes[to..]) {
-        Ok(got) => to + got,
-        Err(_) => to,
-    }
-}
-
-// Reads on from place from, until the longest field would stand at the front or the input ends.
-fn read_on<R: Read>(reader: &mut R, bytes: &mut [u8; 4096], from: usize) -> Input
-    requires { from ≤ 4096 }
-    ensures kept { (result.from ≡ 0) × (from ≤ result.to) × (result.to ≤ 4096) × (take from bytes.new ≡ take from bytes.old) }
-    ensures read { Consumes (R.remaining reader.old) (R.remaining reader.new) (drop from (take result.to bytes.new)) }
-    ensures whole { result.ended ≡ false → LONGEST ≤ result.to }
-{
-    let mut to = from;
-    while to < LONGEST {
-        let next = read_to(reader, bytes, to);
-        if next == to {
-            return Input {
-                from: 0,
-                to,
-                ended: true,
-            };
+impl<R: Read> Input<R> {
+    // Nothing read yet.
+    pub fn new(reader: R) -> Input<R>
+        ensures reader { result.reader ≡ reader }
+        ensures none { (result.from ≡ 0) × (result.to ≡ 0) × (result.ended ≡ false) }
+    {
+        Input {
+            reader,
+            bytes: [0; 4096],
+            from: 0,
+            to: 0,
+            ended: false,
         }
-        to = next;
     }
-    Input {
-        from: 0,
-        to,
-        ended: false,
-    }
-}
 
-// The input with a whole field at its front, if it has one.
-pub fn filled<R: Read>(reader: &mut R, bytes: &mut [u8; 4096], input: Input) -> Input
-    requires { (input.from ≤ input.to) × (input.to ≤ 4096) }
-    ensures from_le_to { (result.from ≤ result.to) × (result.to ≤ 4096) }
-    ensures kept { Kept bytes.old input.from input.to bytes.new result.from result.to }
-    ensures read { IsNoneLost (unread bytes.old input.from input.to) (R.remaining reader.old)
-        (unread bytes.new result.from result.to) (R.remaining reader.new) }
-    ensures whole { result.ended ≡ false → LONGEST ≤ result.to - result.from }
-{
-    if input.ended || LONGEST <= input.to - input.from {
-        return input;
+    // The bytes before place next are used.
+    pub fn pass(&mut self, next: usize)
+        requires { next ≤ self.old.to }
+        ensures used { self.new.from ≡ next }
+        ensures kept { (self.new.reader ≡ self.old.reader) × (self.new.bytes ≡ self.old.bytes) × (self.new.to ≡ self.old.to)
+            × (self.new.ended ≡ self.old.ended) }
+    {
+        self.from = next;
     }
-    let rest = moved(bytes, input.from, input.to);
-    read_on(reader, bytes, rest)
+
+    // One read, past what is read: how many bytes came. None at the end, or by a read that failed.
+    #[tactic(auto, using(crate::proofs::Laws::read_there))]
+    fn read(&mut self) -> usize
+        ensures more { self.new.to ≡ self.old.to + result }
+        ensures kept { (self.new.from ≡ self.old.from) × (take self.old.to self.new.bytes ≡ take self.old.to self.old.bytes) }
+        ensures read { Consumes (R.remaining self.old.reader) (R.remaining self.new.reader) (drop self.old.to (take self.new.to self.new.bytes)) }
+    {
+        let got = self.reader.read(&mut self.bytes[self.to..]).unwrap_or(0);
+        self.to += got;
+        got
+    }
+
+    // What is left, moved to the front.
+    fn move_to_front(&mut self)
+        ensures front { (self.new.from ≡ 0) × (self.new.to ≡ self.old.to - self.old.from)
+            × (take self.new.to self.new.bytes ≡ unread self.old.bytes self.old.from self.old.to) }
+        ensures kept { self.new.reader ≡ self.old.reader }
+    {
+        self.bytes.copy_within(self.from..self.to, 0);
+        self.to -= self.from;
+        self.from = 0;
+    }
+
+    // A whole field stands at the front then, if the input has one.
+    pub fn fill(&mut self)
+        ensures kept { Kept self.old.bytes self.old.from self.old.to self.new.bytes self.new.from self.new.to }
+        ensures read { IsNoneLost (unread self.old.bytes self.old.from self.old.to) (R.remaining self.old.reader)
+            (unread self.new.bytes self.new.from self.new.to) (R.remaining self.new.reader) }
+        ensures whole { self.new.ended ≡ false → LONGEST ≤ self.new.to - self.new.from }
+    {
+        if self.ended || LONGEST <= self.to - self.from {
+            return;
+        }
+        self.move_to_front();
+        while !self.ended && self.to < LONGEST {
+            self.ended = self.read() == 0;
+        }
+    }
 }

@@ -12,6 +12,7 @@ places zero n = 0
 places (suc steps) n = cond (nat_lt n 10) 1 (suc (places steps (n / 10)))
 
 -- n in decimal, with no zero in front; n + 1 steps are always enough
+-- kept: `decimal_is` and `decimal_more` speak of every number, and std's `decimal` stops at 64 digits; below 2 ^ 64 they are one (`decimal_std`)
 unfoldable pub decimal : ℕ → List ℕ
 decimal n = last_digits (places (suc n) n) n
 

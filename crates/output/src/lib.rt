@@ -1,60 +1,73 @@
-// A writer by way of a buffer. Each function takes and answers how many bytes wait in the buffer.
+// A writer by way of a buffer.
 #![tactic(auto)]
 
-ghost use Rattle.std.specs.Prelude.{◌≡◌, cond, [], ◌∷◌, ◌≤◌, ◌<◌, nat_lt, length, take, OnOk};
+ghost use Rattle.std.specs.Prelude.{◌≡◌, [], ◌∷◌, ◌≤◌, OnOk};
 ghost use Rattle.std.specs.Io.KnownBytes.{Appends};
 ghost use Rattle.output.specs.Buffer.{decimal, queued};
 
 use std::io;
 use std::io::Write;
 
-mod digits;
-
-// Writes what waits. The callers here go on after a write that fails: no answer depends on it.
-pub fn flush<W: Write>(writer: &mut W, out: &[u8], waiting: usize) -> io::Result<()>
-    requires { waiting ≤ length out.now }
-    ensures { OnOk result (Appends (W.contents writer.old) (W.contents writer.new) (take waiting out.now)) }
-{
-    writer.write_all(&out[..waiting])
+// The first bytes of the buffer wait to be written.
+// kept: no heap, on which std's BufWriter has its bytes.
+#[derive(Drop)]
+pub struct Output<W> {
+    writer: W,
+    bytes: [u8; 4096],
+    waiting: usize,
+    ghost within: { waiting ≤ 4096 },
 }
 
-// Room for a byte more.
-fn room<W: Write>(writer: &mut W, out: &[u8; 4096], waiting: usize) -> usize
-    requires { waiting ≤ 4096 }
-    ensures { (result < 4096) × (result ≡ cond (nat_lt waiting 4096) waiting 0) }
-{
-    if waiting < 4096 {
-        return waiting;
+impl<W: Write> Output<W> {
+    ghost use Rattle.output.specs.Outputs.{waiting_bytes};
+
+    // Nothing waits yet.
+    pub fn new(writer: W) -> Output<W>
+        ensures writer { result.writer ≡ writer }
+        ensures none { waiting_bytes result ≡ [] }
+    {
+        Output {
+            writer,
+            bytes: [0; 4096],
+            waiting: 0,
+        }
     }
-    let _ = flush(writer, out, waiting);
-    0
-}
 
-pub fn byte<W: Write>(writer: &mut W, out: &mut [u8; 4096], waiting: usize, b: u8) -> usize
-    requires { waiting ≤ 4096 }
-    ensures { (result ≤ 4096) × (take result out.new ≡ queued (take waiting out.old) (b ∷ [])) }
-{
-    let at = room(writer, out, waiting);
-    out[at] = b;
-    at + 1
-}
-
-pub fn text<W: Write>(writer: &mut W, out: &mut [u8; 4096], waiting: usize, s: &[u8]) -> usize
-    requires { waiting ≤ 4096 }
-    ensures { (result ≤ 4096) × (take result out.new ≡ queued (take waiting out.old) s.now) }
-{
-    let mut at = waiting;
-    for b in s {
-        at = byte(writer, out, at, *b);
+    // Writes what waits. The callers here go on after a write that fails: no answer depends on it.
+    pub fn flush(&mut self) -> io::Result<()>
+        ensures writes { OnOk result (Appends (W.contents self.old.writer) (W.contents self.new.writer) (waiting_bytes self.old)) }
+        ensures none { waiting_bytes self.new ≡ [] }
+    {
+        let waiting = self.waiting;
+        self.waiting = 0;
+        self.writer.write_all(&self.bytes[..waiting])
     }
-    at
-}
 
-pub fn number<W: Write>(writer: &mut W, out: &mut [u8; 4096], waiting: usize, n: u64) -> usize
-    requires { waiting ≤ 4096 }
-    ensures { (result ≤ 4096) × (take result out.new ≡ queued (take waiting out.old) (decimal n)) }
-{
-    let mut digits = [0u8; 20];
-    let from = digits::put(n, &mut digits);
-    text(writer, out, waiting, &digits[from..])
+    pub fn byte(&mut self, b: u8)
+        ensures { waiting_bytes self.new ≡ queued (waiting_bytes self.old) (b ∷ []) }
+    {
+        if self.waiting == 4096 {
+            let _ = self.flush();
+        }
+        self.bytes[self.waiting] = b;
+        self.waiting += 1;
+    }
+
+    pub fn text(&mut self, s: &[u8])
+        ensures { waiting_bytes self.new ≡ queued (waiting_bytes self.old) s.now }
+    {
+        for b in s {
+            self.byte(*b);
+        }
+    }
+
+    #[tactic(auto, using(crate::proofs::Decimals::highest_first, crate::proofs::Decimals::decimal_by_log, crate::proofs::Decimals::some_power))]
+    pub fn number(&mut self, n: u64)
+        ensures { waiting_bytes self.new ≡ queued (waiting_bytes self.old) (decimal n) }
+    {
+        // kept: the clause knows no failure, and write! promises the digits only where it doesn't fail.
+        for place in (0..=n.max(1).ilog10()).rev() {
+            self.byte(b'0' + (n / 10u64.pow(place) % 10) as u8);
+        }
+    }
 }
