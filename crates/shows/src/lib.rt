@@ -1,141 +1,109 @@
 // Show, on a memory that is a switch state: which packet is the oldest of a queue's slots, and where it lies.
 #![tactic(auto)]
 
-ghost use Rattle.std.specs.Prelude.{◌≡◌, List, [], ◌∷◌, ℕ, length};
+ghost use Rattle.std.specs.Prelude.{◌≡◌, List, ℕ};
+ghost use Rattle.std.specs.List.{list_any};
 ghost use Rattle.ledger.specs.Answers.{number_in, show_reply};
-ghost use Rattle.ledger.specs.Calls.{show, other_sizes};
+ghost use Rattle.ledger.specs.Calls.{show, other_size};
 ghost use Rattle.layout.specs.Tables.{settings_of, Laid};
 ghost use Rattle.layout.specs.Picture.{ledger_in};
 ghost use Rattle.memory.specs.Judged.{Works, judgement_of, judged};
 ghost use Rattle.memory.specs.Memory.{acted};
-ghost use Rattle.packets.specs.Parts.{shown_of};
-ghost use Rattle.shows.specs.Shows.{judged_place};
+ghost use Rattle.packets.specs.Parts.{sizes_of, shown_of};
 
 use layout::Shape;
-use ledger::{Refusal, Shown, Verdict};
+use ledger::{EntryId, Refusal};
 
 // Whether one of four memories has another size than a port's packet memory.
-fn other_sizes(s: Shape, n0: usize, n1: usize, n2: usize, n3: usize) -> bool
+fn other_sizes(s: Shape, sizes: [usize; 4]) -> bool
     requires { Laid s }
-    ensures { result ≡ other_sizes (settings_of s) (n0 ∷ n1 ∷ n2 ∷ n3 ∷ []) }
+    ensures { result ≡ list_any (other_size (settings_of s)) sizes }
 {
-    if packets::other_size(s, n0) {
-        return true;
-    }
-    if packets::other_size(s, n1) {
-        return true;
-    }
-    if packets::other_size(s, n2) {
-        return true;
-    }
-    packets::other_size(s, n3)
+    sizes.iter().any(|n| packets::other_size(s, *n))
 }
 
-// The refusals that are tested last: of the port, of the queue, and that nothing is there.
-fn judge_place(m: &[u8], s: Shape, port: u32, queue: u32) -> Verdict
-    requires { Works s m.now }
-    ensures { judgement_of result ≡ judged_place (settings_of s) (ledger_in (settings_of s) m.now) port queue }
-{
-    let p = port as usize;
-    let q = queue as usize;
-    let ports = s.ports;
-    let queues = s.queues;
-    if ports <= p {
-        return Verdict::No(Refusal::NoPort);
-    }
-    if queues <= q {
-        return Verdict::No(Refusal::NoQueue);
-    }
-    let waiting = lists::count(m, s, geometry::prefetch_list(s, p, q));
-    if waiting == 0 {
-        return Verdict::No(Refusal::NothingThere);
-    }
-    Verdict::Go
-}
-
-// The first refusal of a show that applies; n0 to n3 are the lengths of the four packet memories.
+// The first refusal of a show that applies, with packet memories of these sizes.
+#[tactic(auto, using(memory::proofs::Judging::judging, crate::proofs::Laws::any_other), unfolding(memory::specs::Judged::judged))]
 pub fn judge_show(
     m: &[u8],
     s: Shape,
-    n0: usize,
-    n1: usize,
-    n2: usize,
-    n3: usize,
+    sizes: [usize; 4],
     port: u32,
     queue: u32,
-) -> Verdict
+) -> Result<(), Refusal>
     requires { Works s m.now }
-    ensures { judgement_of result ≡ judged (settings_of s) (ledger_in (settings_of s) m.now) (show (n0 ∷ n1 ∷ n2 ∷ n3 ∷ []) port queue) }
+    ensures { judgement_of result ≡ judged (settings_of s) (ledger_in (settings_of s) m.now) (show sizes port queue) }
 {
     if !packets::keeps(s) {
-        return Verdict::No(Refusal::OtherKind);
+        return Err(Refusal::OtherKind);
     }
-    if other_sizes(s, n0, n1, n2, n3) {
-        return Verdict::No(Refusal::PacketMemory);
+    if other_sizes(s, sizes) {
+        return Err(Refusal::PacketMemory);
     }
-    judge_place(m, s, port, queue)
+    let p = port as usize;
+    let q = queue as usize;
+    if s.ports <= p {
+        return Err(Refusal::NoPort);
+    }
+    if s.queues <= q {
+        return Err(Refusal::NoQueue);
+    }
+    let waiting = lists::count(m, s, geometry::prefetch_list(s, p, q));
+    if waiting == 0 {
+        return Err(Refusal::NothingThere);
+    }
+    Ok(())
 }
 
 // The oldest packet of the slots of port and queue, by its node and its length.
 pub fn show_at(
     m: &[u8],
     s: Shape,
-    n0: usize,
-    n1: usize,
-    n2: usize,
-    n3: usize,
+    sizes: [usize; 4],
     port: u32,
     queue: u32,
-) -> Shown
+) -> Result<(EntryId, u16), Refusal>
     requires { Works s m.now }
-    ensures { show_reply result ≡ (acted (settings_of s) m.now (show (n0 ∷ n1 ∷ n2 ∷ n3 ∷ []) port queue)).0 }
+    ensures { show_reply result ≡ (acted (settings_of s) m.now (show sizes port queue)).0 }
 {
-    let verdict = judge_show(m, s, n0, n1, n2, n3, port, queue);
-    match verdict {
-        Verdict::No(r) => Shown::No(r),
-        Verdict::Go => {
-            let oldest = lists::first(
-                m,
-                s,
-                geometry::prefetch_list(s, port as usize, queue as usize),
-            );
-            let k = records::packet(m, s, oldest);
-            Shown::Part(oldest, k.length)
-        }
-    }
+    judge_show(m, s, sizes, port, queue)?;
+    let at = geometry::prefetch_list(s, port as usize, queue as usize);
+    let oldest = lists::first(m, s, at);
+    let k = records::packet(m, s, oldest);
+    Ok((oldest, k.length))
+}
+
+// The sizes of four memories.
+fn sizes(memories: [&[u8]; 4]) -> [usize; 4]
+    ensures { result ≡ sizes_of memories.entry }
+{
+    memories.map(|k| k.len())
 }
 
 // The same as a part of its owner's memory; of a refusal an empty part, and its number goes into the number lent for it, else 0.
+// kept: the clauses `refusal` and `shown`: paper 02 asks for an empty part, and for the number in a number lent for just that
 pub fn show<'a>(
     m: &[u8],
     s: Shape,
-    p0: &'a [u8],
-    p1: &'a [u8],
-    p2: &'a [u8],
-    p3: &'a [u8],
+    memories: [&'a [u8]; 4],
     port: u32,
     queue: u32,
     no: &mut u32,
 ) -> &'a [u8]
     requires { Works s m.now }
-    ensures refusal { no.new ≡ number_in (acted (settings_of s) m.now
-        (show (length p0.now ∷ length p1.now ∷ length p2.now ∷ length p3.now ∷ []) port queue)).0 }
+    ensures refusal { no.new ≡ number_in (acted (settings_of s) m.now (show (sizes_of memories.entry) port queue)).0 }
     ensures shown { ◌≡◌ {A = List ℕ × (ℕ × ℕ)} (result.now, result.ref_ptr)
-        (shown_of (acted (settings_of s) m.now
-        (show (length p0.now ∷ length p1.now ∷ length p2.now ∷ length p3.now ∷ []) port queue)).0
-        p0.entry p1.entry p2.entry p3.entry) }
+        (shown_of (acted (settings_of s) m.now (show (sizes_of memories.entry) port queue)).0 memories.entry) }
 {
-    let shown = show_at(m, s, p0.len(), p1.len(), p2.len(), p3.len(), port, queue);
-    match shown {
-        Shown::Part(id, n) => {
+    match show_at(m, s, sizes(memories), port, queue) {
+        Ok((id, n)) => {
             *no = 0;
-            let owner = id.port() as u32;
-            let at = packets::slot_of(id);
-            packets::part(p0, p1, p2, p3, owner, at, n as usize)
+            let owner = u32::from(id.port());
+            packets::part(memories, owner, packets::slot_of(id), usize::from(n))
         }
-        Shown::No(r) => {
-            *no = r.number() as u32;
-            &p0[..0]
+        Err(r) => {
+            *no = u32::from(r);
+            &memories[0][..0]
         }
     }
 }
