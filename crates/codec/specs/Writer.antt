@@ -35,11 +35,6 @@ Misfit F n v = (Fit (widths F) (values v) → ⊥) ⊎ ((v.len < least_length F)
 
 -- ---- what the code's answer means
 
--- the bytes that an answer has: none where it is a refusal
-abbrev pub bytes_of : Answer (List ℕ) → List ℕ
-bytes_of (refused n) = []
-bytes_of (gives b) = b
-
 -- the writer's room is always twelve bytes: zeros follow the header
 abbrev pub padded : List ℕ → List ℕ
 padded b = b ++ replicate (12 - length b) 0

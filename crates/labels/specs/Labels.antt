@@ -1,10 +1,9 @@
 -- Paper 02, Q-7, in C: what the reader of headers and the writer answer and leave in the lent rooms. Assumes nothing.
-use Rattle.std.specs.Prelude.{List, [], ◌∷◌, ◌++◌, ℕ, length, get_or, take, drop}
+use Rattle.std.specs.Prelude.{Result, Ok, Err, List, [], ◌∷◌, ◌++◌, ℕ, length, get_or, take, drop}
 use Rattle.ledger.specs.Answers.{number_of}
-use Rattle.ledger.specs.declared.Plain.{Plain}
-use Rattle.ledger.specs.declared.Plain.TheVariants.{Done, No}
+use Rattle.ledger.specs.declared.Refusal.{Refusal}
 use Rattle.codec.specs.Label.{Label, Answer, refused, gives}
-use Rattle.codec.specs.declared.Written.{Written}
+use Rattle.codec.specs.declared.written.Written.{Written}
 
 -- ---- struct vr_header: destination, source, queue, length, poisoned, timestamp, credit, transaction
 
@@ -42,9 +41,6 @@ header_room (gives b) old size = (0, b ++ drop (length b) old, length b)
 abbrev pub over : ℕ → List ℕ → List ℕ → List ℕ
 over n b old = take n b ++ drop n old
 
-abbrev pub written : Plain → ℕ → List ℕ → List ℕ → ℕ → ℕ × List ℕ × ℕ
-written Done n b old size = (0, over n b old, n)
-written (No r) n b old size = (number_of r, old, size)
-
-abbrev pub written_room : Written → List ℕ → ℕ → ℕ × List ℕ × ℕ
-written_room w old size = written w.answer w.size w.bytes old size
+abbrev pub written_room : Result Written Refusal → List ℕ → ℕ → ℕ × List ℕ × ℕ
+written_room (Ok w) old size = (0, over w.size w.bytes old, w.size)
+written_room (Err r) old size = (number_of r, old, size)

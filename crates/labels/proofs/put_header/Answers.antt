@@ -1,8 +1,0 @@
--- `labels::put_header` meets its contract: by the answer's cases. Assumes nothing.
-use Rattle.labels.proofs.put_header.Goals as goal
-
-pub returns-in-Done : goal.returns-in-Done
-returns-in-Done c = rw (c.in-Done.is, c.copy.ensures)
-
-pub returns-in-No : goal.returns-in-No
-returns-in-No c = rw (c.in-No.is, c.refusal.ensures)
