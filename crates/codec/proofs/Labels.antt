@@ -1,12 +1,12 @@
--- The laws of the reader and of the writer: each answer by the tests that lead to it, and the bytes of a label. Assumes nothing.
+-- The laws of the writer: what a label must be for a header to say it, and the bytes of one. Assumes nothing.
 use mathlib.Core.Path.{◌≡◌, refl, sym, ap, ap₂, ◌∙◌}
-use mathlib.Core.Bool.{Bool, true, false, ◌&&◌}
+use mathlib.Core.Bool.{Bool, true, ◌&&◌}
 use mathlib.Core.List.{List, [], ◌∷◌, ◌++◌, append_assoc, append-nil}
 use Prim.Native.Nat.{ℕ, ◌+◌, ◌-◌, ◌*◌, ◌^◌, ◌<◌, ◌≤◌}
 use native.Mathlib.Nat.{mul_assoc, mod-eq_of_lt}
 use native.Mathlib.Omega.{arith}
 use lib.Dec.{ltb, leb}
-use lib.ListN.{length, take, length-append, length-replicate}
+use lib.ListN.{length, take, length-append}
 use lib.Pow.{pow-add}
 use lib.Seq.{take_at}
 use Rattle.numbers.specs.Bytes.{store, digits}
@@ -17,18 +17,14 @@ use Rattle.numbers.proofs.Parts.{bytewise, joined_packs, pack_parts, digits_abov
 use Rattle.crc.specs.Crc.{crc8}
 use Rattle.crc.proofs.Sums.{crc8_lt}
 use Rattle.ledger.specs.Settings.{ports_in, queues_in, wide}
-use Rattle.ledger.specs.Header.{Form, Fields, form_of, widths, spare, front_bytes, body_size, header_size, least_length, fields_of, read_rules}
+use Rattle.ledger.specs.Header.{Form, form_of, widths, spare, front_bytes, body_size, header_size, least_length}
 use Rattle.ledger.proofs.Tests.{and_left, and_right, leb_yes, leb_is, ltb_yes, ltb_is}
 use Rattle.ledger.proofs.Rows.{ports_range, queues_range}
-use Rattle.ledger.proofs.Steps.{cleared}
 use Rattle.forms.specs.declared.form.HeaderForm.{HeaderForm}
 use Rattle.forms.specs.Formed.{form_in}
 use Rattle.header.specs.Front.{front_widths}
-use Rattle.header.specs.Judge.{bad, good, readable}
 use Rattle.header.proofs.Reading.{back_bytes, body_parts}
-use Rattle.header.proofs.Verdicts.{first_bad_lem, first_good}
-use Rattle.codec.specs.Label.{Label, label_of, values, front_values, counts_in, refused, gives}
-use Rattle.codec.specs.Reader.{reads}
+use Rattle.codec.specs.Label.{Label, values, front_values, counts_in, gives}
 use Rattle.codec.specs.Writer.{holds, body_for, header_for, writes, padded}
 
 -- ---- the counts
@@ -45,27 +41,6 @@ counts_mean e p q t =
     let port = ports_range e p (and_left (ports_in e p) (queues_in e q && leb e wide) t) in
     let queue = queues_range e q (and_left (queues_in e q) (leb e wide) (and_right (ports_in e p) (queues_in e q && leb e wide) t)) in
     record { some_ports = port.0; few_ports = port.1; some_queues = queue.0; few_queues = queue.1 }
-
--- ---- the reader
-
-module _ (e p q : ℕ) (h : List ℕ) where
-  pub no_counts_read : counts_in e p q ≡ false → refused 2 ≡ reads e p q h
-  no_counts_read no' = rw no'
-
-  -- the counts are in their rows, and F is their form
-  module _ (ok : counts_in e p q ≡ true) (F : Form) (is : F ≡ form_of e p q) where
-    pub reads_bad : (r : ℕ) → bad r ≡ readable F q h → refused r ≡ reads e p q h
-    reads_bad r b =
-        rw ok
-        (first_bad_lem (read_rules (form_of e p q) q h) [] (fields_of (form_of e p q) h) r refused (gives (label_of (fields_of (form_of e p q) h)))
-        (b ∙ ap (λ (G : Form). readable G q h) is))
-
-    pub reads_good : (f : Fields) → good f ≡ readable F q h → gives (label_of f) ≡ reads e p q h
-    reads_good f g =
-        let found = first_good (read_rules (form_of e p q) q h) (fields_of (form_of e p q) h) f (g ∙ ap (λ (G : Form). readable G q h) is) in
-        rw ok
-        (ap (λ (k : Fields). gives (label_of k)) found.0
-        ∙ sym (cleared (read_rules (form_of e p q) q h) refused (gives (label_of (fields_of (form_of e p q) h))) found.1))
 
 -- ---- what a label must be, for a header to say it
 
@@ -172,13 +147,6 @@ body_stored f v fit m₀ m₁ m₂ m₃ m₄ front credit ef ec e₀ e₁ e₂ e
     (simp (length-append, length_digits) (omega arith)) (omega arith) (omega arith) (omega arith) e₄ in
     four ∙ ap padded (body_bytes F v fit)
 
--- in a room of twelve bytes
-pub room_body : (f : HeaderForm) (v : Label) → length (padded (body_for (form_in f) v)) ≡ 12
-unfolding body_size
-room_body f v =
-    let len = length_body (form_in f) v in
-    simp (length-append, length-replicate) (omega arith)
-
 -- and with the checksum behind it the header
 pub header_stored : (f : HeaderForm) (v : Label) (b b' : List ℕ) (sum : ℕ)
     → b ≡ padded (body_for (form_in f) v)
@@ -197,13 +165,8 @@ header_stored f v b b' sum e es e' =
 
 -- ---- the writer
 
-module _ (e p q : ℕ) (v : Label) where
-  pub no_counts : counts_in e p q ≡ false → refused 2 ≡ writes e p q v
-  no_counts no' = rw no'
-
-  module _ (ok : counts_in e p q ≡ true) (F : Form) (is : F ≡ form_of e p q) where
-    pub no_fit : holds F q v ≡ false → refused 21 ≡ writes e p q v
-    no_fit no' = let other = ap (λ (G : Form). holds G q v) (sym is) ∙ no' in rw (ok, other)
-
-    pub written : holds F q v ≡ true → gives (header_for F v) ≡ writes e p q v
-    written yes' = let same = ap (λ (G : Form). holds G q v) (sym is) ∙ yes' in rw (ok, same) (ap (λ (G : Form). gives (header_for G v)) is)
+pub written : (e p q : ℕ) (v : Label) → counts_in e p q ≡ true → (F : Form) → F ≡ form_of e p q → holds F q v ≡ true
+    → gives (header_for F v) ≡ writes e p q v
+written e p q v ok F is fit =
+    let same = ap (λ (G : Form). holds G q v) (sym is) ∙ fit in
+    rw (ok, same) (ap (λ (G : Form). gives (header_for G v)) is)

@@ -34,7 +34,7 @@ use Rattle.codec.proofs.Labels.{Holds, holds_means, means_holds, length_body, le
 
 given_clear : {X : Type 0} (rs : List Rule) (x y : X) → guard rs refused (gives x) ≡ gives y → (y ≡ x) × Clear rs
 given_clear [] x y e = (cc, tt)
-given_clear (refuse n true ∷ rs) x y e = absurd (let z : ◌≡◌ {A = ℕ} 0 1 = cc in omega arith)
+given_clear (refuse n true ∷ rs) x y e = cc
 given_clear (refuse n false ∷ rs) x y e = let later = given_clear rs x y e in (later.0, (refl, later.1))
 
 -- ---- a header that the reader takes, of form F in a switch of n queues: what is known of it, each fact by its name
@@ -239,7 +239,7 @@ module _ (e p q : ℕ) (v : Label) (ok : counts_in e p q ≡ true) where
       go : (b : Bool) → holds (form_of e p q) q v ≡ b → (n ≡ 21) × Misfit (form_of e p q) q v
       go true t =
           let k = means_writes e p q v ok (holds_means (form_of e p q) q v t) in
-          absurd (let z : ◌≡◌ {A = ℕ} 0 1 = cc in omega arith)
+          cc
       go false t =
           let m = not_misfit (form_of e p q) q v t in
           let r = misfit_refused m in
@@ -256,7 +256,7 @@ Numbered [] = Unit {0}
 Numbered (refuse n b ∷ rs) = (1 ≤ n) × Numbered rs
 
 never_zero : {X : Type 0} (rs : List Rule) (x : X) (n : ℕ) → Numbered rs → guard rs refused (gives x) ≡ refused n → 1 ≤ n
-never_zero [] x n k e = absurd (let z : ◌≡◌ {A = ℕ} 0 1 = cc in omega arith)
+never_zero [] x n k e = cc
 never_zero (refuse m true ∷ rs) x n k e = let is : m ≡ n = cc in omega (arith, k.0)
 never_zero (refuse m false ∷ rs) x n k e = never_zero rs x n k.1 e
 

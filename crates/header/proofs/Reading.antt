@@ -10,10 +10,10 @@ use lib.Dec.{eqb}
 use lib.Pow.{high}
 use Rattle.std.specs.Prelude.{Option, None, Some}
 use Rattle.numbers.specs.Bytes.{number}
-use Rattle.numbers.specs.Fields.{bits, total, unpack}
+use Rattle.numbers.specs.Fields.{total, unpack}
 use Rattle.numbers.proofs.Bytes.{number_lt, number_split, pow_bytes}
 use Rattle.numbers.proofs.Parts.{unpack_parts, bytewise, numbers_at, pow_total, unpack_bytes}
-use Rattle.ledger.specs.Header.{Form, Fields, fields_of, spare, front_bytes, body_size, header_size, widths, in_order, Load, bytes_in, missized, miscounted}
+use Rattle.ledger.specs.Header.{Form, Fields, fields_of, front_bytes, body_size, header_size, widths, in_order, Load, bytes_in, missized, miscounted}
 use Rattle.ledger.specs.Answers.{load_of}
 use Rattle.ledger.specs.declared.Load as code
 use Rattle.ledger.specs.declared.Load.TheVariants as load
@@ -57,24 +57,6 @@ front_of_word k h few =
     ap (λ (n : ℕ). n / 2 ^ (8 * j))
     (ap (λ (n : ℕ). number n h 0) four ∙ number_split k j h 0 ∙ ap (λ (p : ℕ). number k h 0 * p + y) (pow_bytes j))
     ∙ high (number k h 0) (8 * j) (subst (λ (n : ℕ). y < n) (pow_bytes j) (number_lt j h (0 + k)))
-
--- the front's fields, as the code counts where each starts
-pub front_found : (F : Form) (n s d so q l po r : ℕ)
-    → s ≡ spare F
-    → d ≡ bits (s + 14 + F.queue_bits + F.port_bits) F.port_bits n
-    → so ≡ bits (s + 14 + F.queue_bits) F.port_bits n
-    → q ≡ bits (s + 14) F.queue_bits n
-    → l ≡ bits (s + 1) 13 n
-    → po ≡ bits s 1 n
-    → r ≡ bits 0 s n
-    → d ∷ so ∷ q ∷ l ∷ po ∷ r ∷ [] ≡ unpack (front_widths F) n
-front_found F n s d so q l po r e fd fs fq fl fp fr =
-    let a : s + 14 + F.queue_bits + F.port_bits ≡ F.port_bits + (F.queue_bits + (13 + (1 + (spare F + 0)))) = omega arith in
-    let b : s + 14 + F.queue_bits ≡ F.queue_bits + (13 + (1 + (spare F + 0))) = omega arith in
-    let c : s + 14 ≡ 13 + (1 + (spare F + 0)) = omega arith in
-    let g : s + 1 ≡ 1 + (spare F + 0) = omega arith in
-    let i : s ≡ spare F + 0 = omega arith in
-    cc
 
 -- all of them together
 pub fields_found : (F : Form) (h front : List ℕ) (stamp offered transaction check : ℕ)
