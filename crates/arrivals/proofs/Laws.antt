@@ -8,7 +8,7 @@ use Rattle.ledger.specs.Settings.{Settings}
 use Rattle.ledger.specs.Rules.{Rule, refuse, guard}
 use Rattle.ledger.specs.Header.{Form, Fields, form, fields_of, Load, bytes_in, arrival_rules}
 use Rattle.ledger.specs.Ledger.{is_node, Packet, recorded, free, ingress, place#, arrival_of, PlaceIn}
-use Rattle.ledger.specs.Calls.{refused, entry, arrive, first_of, no_port, other_kind, wrong_memory, lacks, last_rules, rules}
+use Rattle.ledger.specs.Calls.{refused, entry, arrive, first_of, no_port, lacks, last_rules, rules}
 use Rattle.ledger.specs.Sound.{weigh, one, Roomy}
 use Rattle.ledger.proofs.Tests.{leb_is, leb_not}
 use Rattle.ledger.proofs.Places.{place#_lt}
@@ -123,21 +123,6 @@ module _ (S : Settings) (m : List ℕ) (p : ℕ) (h : Load) where
   pub good_kind : memory.good ≡ judged_kind S h → judged_at S m p h ≡ judged_arrival S m p h
   good_kind e = ap then e ∙ by_kind
 
--- the kind, by its tests
-module _ (S : Settings) (h : Load) where
-  pub kind_other : other_kind S h ≡ true → memory.bad 24 ≡ judged_kind S h
-  unfolding judged_kind
-  kind_other e = rw e
-
-  module _ (own : other_kind S h ≡ false) where
-    pub kind_size : wrong_memory S h ≡ true → memory.bad 17 ≡ judged_kind S h
-    unfolding judged_kind
-    kind_size e = rw (own, e)
-
-    pub kind_good : wrong_memory S h ≡ false → memory.good ≡ judged_kind S h
-    unfolding judged_kind
-    kind_good e = rw (own, e)
-
 -- ---- from the judge to the outcome
 
 abbrev plainly : Admission → Judgement
@@ -214,14 +199,16 @@ module _ (s : Shape) (p : ℕ) (k : Packet) (m : List ℕ) (t : CanTakeIn s p k 
   recorded_tidy = (record_kept S t.laid.roomy popped popped_tidy k.node node_on node_gone k refl).tidy
 
 -- the four writes, one after another
-pub taken_in : (S : Settings) (p : ℕ) (k : Packet) (m : List ℕ) {m₁ m₂ m₃ m₄ : List ℕ} {b x v : ℕ}
+pub taken_in : (S : Settings) (p : ℕ) (k : Packet) (m : List ℕ) {m₁ m₂ m₃ m₄ : List ℕ} {b x v q n : ℕ}
     → m₁ ≡ pop_mem S (place# S (free p)) m
     → m₂ ≡ record_mem S k m₁
     → m₃ ≡ push_mem S b x m₂
     → b ≡ place# S (ingress p)
     → x ≡ k.node
-    → m₄ ≡ credit_mem S Arrival p k.queue (v - k.price) m₃
-    → v ≡ arrival_of S (ledger_in S m) p k.queue
+    → m₄ ≡ credit_mem S Arrival p q (v - n) m₃
+    → q ≡ k.queue
+    → n ≡ k.price
+    → v ≡ arrival_of S (ledger_in S m) p q
     → m₄ ≡ arrive_mem S p k m
 unfolding arrive_mem
-taken_in S p k m pop rec push to node pay credit = cc
+taken_in S p k m pop rec push to node pay queue price credit = cc

@@ -1,11 +1,13 @@
 -- What judging an arrival gives, what the code's answer means, and what its parts ask. Assumes nothing.
-use Rattle.std.specs.Prelude.{◌≡◌, List, [], ◌∷◌, ◌++◌, ℕ, ◌^◌, ◌≤◌, ◌<◌, length}
+use Rattle.std.specs.Prelude.{Result, Ok, Err, ◌≡◌, List, [], ◌∷◌, ◌++◌, ℕ, ◌^◌, ◌≤◌, ◌<◌, length}
 use Rattle.ledger.specs.Settings.{Settings, size}
 use Rattle.ledger.specs.Rules.{Rule, refuse, guard}
 use Rattle.ledger.specs.Header.{Fields, form, fields_of, Load, bytes_in, arrival_rules}
 use Rattle.ledger.specs.Ledger.{Packet, recorded, free, place#, arrival_of}
 use Rattle.ledger.specs.Calls.{arrive, no_port, other_kind, wrong_memory, last_rules, rules}
 use Rattle.ledger.specs.Answers.{number_of, sent_of}
+use Rattle.ledger.specs.declared.Refusal.{Refusal}
+use Rattle.ledger.specs.declared.Sent.{Sent}
 use Rattle.layout.specs.declared.Shape.{Shape}
 use Rattle.layout.specs.declared.Table.TheVariants.{Count}
 use Rattle.layout.specs.Tables.{get, settings_of, Laid}
@@ -13,16 +15,14 @@ use Rattle.layout.specs.Picture.{ledger_in}
 use Rattle.memory.specs.Ends.{Tidy}
 use Rattle.memory.specs.Judged.{Judgement, good, bad}
 use Rattle.memory.specs.Writes.{head_of}
-use Rattle.arrivals.specs.declared.Admitted.{Admitted}
-use Rattle.arrivals.specs.declared.Admitted.TheVariants.{Good, No}
 
 pub data Admission : Type 0 where
   accepted : Packet → Admission
   rejected : ℕ → Admission
 
-abbrev pub admitted_of : Admitted → Admission
-admitted_of (Good k) = accepted (sent_of k)
-admitted_of (No r) = rejected (number_of r)
+abbrev pub admitted_of : Result Sent Refusal → Admission
+admitted_of (Ok k) = accepted (sent_of k)
+admitted_of (Err r) = rejected (number_of r)
 
 -- what a header with these fields makes of port p's first free node
 abbrev pub packet_for : Settings → List ℕ → ℕ → Fields → Packet

@@ -1,5 +1,5 @@
 -- `arrivals::admit` meets its contract: each return is a law of what the judgement is there. Assumes nothing.
-use mathlib.Core.Path.{◌≡◌, sym, ap, ◌∙◌}
+use mathlib.Core.Path.{◌≡◌, sym, ap, ap₂, ◌∙◌}
 use Prim.Native.Nat.{ℕ}
 use Rattle.ledger.specs.Ledger.{Packet, recorded, free, place#}
 use Rattle.ledger.specs.Calls.{lacks}
@@ -45,7 +45,8 @@ wanting-requires c =
       laid = c.requires.priced.laid;
       long = c.requires.long;
       port = c.requires.port;
-      queue = rw (queue_is (goal.at.wanting-requires c).After-packet_of-k) (laws.queue_in_range (settings_of a.s) _ (header_of a.f) c.requires.queue);
+      queue = rw (c.from.ensures, queue_is (goal.at.wanting-requires c).After-packet_of-k)
+          (laws.queue_in_range (settings_of a.s) _ (header_of a.f) c.requires.queue);
     }
 
 -- what is asked is whether the packet's price can be paid
@@ -56,7 +57,9 @@ lacks_is : (c : After-wanting) → let a = c.args in
 lacks_is c =
     let a = c.args in
     let S = settings_of a.s in
-    c.wanting.ensures ∙ ap (λ (j : Packet). lacks S (ledger_in S a.m.now) a.p j.queue j.price) (packet_is (goal.at.After-wanting c).After-packet_of-k)
+    c.wanting.ensures
+    ∙ ap₂ (lacks S (ledger_in S a.m.now) a.p) c.from.ensures c.from-2.ensures
+    ∙ ap (λ (j : Packet). lacks S (ledger_in S a.m.now) a.p j.queue j.price) (packet_is (goal.at.After-wanting c).After-packet_of-k)
 
 pub returns-then-wanting : goal.returns-then-wanting
 returns-then-wanting c =

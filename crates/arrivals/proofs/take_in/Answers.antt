@@ -57,5 +57,4 @@ returns c =
     let a = c.args in
     laws.taken_in (settings_of a.s) a.p (sent_of a.k) a.m.now
     (popped_is (goal.at.returns c).After-pop-x) c.record.ensures c.push.ensures c.ingress_list-to.ensures (node_is (goal.at.returns c).After-pop-x)
-    c.set_arrival.ensures
-    c.arrival-credit.ensures
+    c.set_arrival.ensures c.from-q.ensures c.from-price.ensures c.arrival-credit.ensures
