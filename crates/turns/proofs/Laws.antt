@@ -7,16 +7,16 @@ use native.Mathlib.Nat.{div-div-eq-div-mul, div-mul-le_self, mod-eq_of_lt, mul_a
 use native.Mathlib.Omega.{arith}
 use lib.Dec.{eqb, leb}
 use lib.Pow.{pow_mono}
-use lib.Count.{ones}
 use Rattle.ledger.specs.Settings.{Settings}
 use Rattle.ledger.specs.Header.{price}
-use Rattle.ledger.specs.Ledger.{owner, is_node, Packet, free, prefetched, place#, Ledger, list_at, arrival_of, outward_of, last_of}
+use Rattle.ledger.specs.Ledger.{owner, Packet, free, prefetched, place#, Ledger, list_at, arrival_of, outward_of, last_of}
 use Rattle.ledger.specs.Ready.{bit, covered, is_ready, word_of, ready_word, masked_above, pick}
 use Rattle.ledger.specs.Buckets.{untimed}
-use Rattle.ledger.specs.Calls.{Reply, refused, idle, leaves, word, turn, ready, Side, side_of, is_empty, first_of}
+use Rattle.ledger.specs.Calls.{Reply, leaves, turn, Side, side_of, is_empty, first_of}
 use Rattle.ledger.specs.Sound.{Roomy}
-use Rattle.ledger.proofs.Tests.{leb_is, leb_not, leb_yes, eqb_yes, eqb_not, true≢false}
+use Rattle.ledger.proofs.Tests.{leb_not, leb_yes, eqb_yes, eqb_not, true≢false}
 use Rattle.ledger.proofs.Places.{place#_lt}
+use Rattle.std.specs.Int.{from_bool}
 use Rattle.ledger.proofs.Lists.{cons_form}
 use Rattle.ledger.proofs.Header.{price_free}
 use Rattle.ledger.proofs.Keep.{Fits, first_fits}
@@ -27,11 +27,10 @@ use Rattle.layout.specs.Tables.{lists, get, put}
 use Rattle.layout.specs.Picture.{packet_at, ledger_in, StateOf}
 use Rattle.memory.specs.Ends.{pop_mem, push_mem}
 use Rattle.memory.specs.Writes.{head_of, move_mem, credit_mem, serve_mem, tick_mem}
-use Rattle.memory.specs.Judged.{judged}
 use Rattle.memory.specs.Memory.{acted}
-use Rattle.memory.proofs.Judged.{acted_bad}
 use Rattle.memory.proofs.Paint.{empty_is, some_is}
 use Rattle.memory.proofs.Chains.{node_from}
+use Rattle.memory.proofs.Judging.{first_is_node}
 use Rattle.memory.proofs.Square.{first_held, j_is, given_fits}
 
 -- ---- one queue
@@ -62,6 +61,8 @@ module _ (S : Settings) (m : List ℕ) (s : StateOf S m) (p q : ℕ) (hp : p < S
       ap (covered q (outward_of S L p q)) (cons_form (list_at S L (prefetched p q)) e)
       ∙ ap (λ (k : Packet). eqb q 0 || leb k.price (outward_of S L p q))
       (first_held S (roomy S s.sound.rows) m s (prefetched p q) (hp, hq) (omega arith) e)
+
+pub ruleset readies = (none_ready, some_ready)
 
 -- ---- the word, a bit at a time from the highest
 
@@ -98,9 +99,14 @@ word_room r n q few h k =
     let b : 2 ^ (n - q) ≤ 2 ^ 63 = pow_mono d in
     omega arith
 
+-- a bit, as the code makes it of a test
+pub bit_is : (b : Bool) → from_bool b ≡ bit b
+bit_is true = refl
+bit_is false = refl
+
 -- ---- the pick, as the machine shifts
 
-pub masked_is : (w m : ℕ) → w < 2 ^ 64 → m < 64 → w / 2 ^ m / 2 ^ 1 * 2 ^ 1 % 2 ^ 64 * 2 ^ m % 2 ^ 64 ≡ masked_above m w
+pub masked_is : (w m : ℕ) → w < 2 ^ 64 → m < 64 → w / 2 ^ m / 2 * 2 % 2 ^ 64 * 2 ^ m % 2 ^ 64 ≡ masked_above m w
 unfolding masked_above
 masked_is w m hw hm =
     let x : ℕ = w / 2 ^ m / 2 in
@@ -119,23 +125,7 @@ masked_is w m hw hm =
 -- ---- a turn
 
 module _ (S : Settings) (m : List ℕ) (p : ℕ) where
-  pub turn_no_port : S.ports ≤ p → (refused 4, m) ≡ acted S m (turn untimed p)
-  unfolding judged
-  turn_no_port h = sym (acted_bad S m (turn untimed p) refl 4 (rw (leb_is S.ports p h)))
-
-  pub ready_no_port : S.ports ≤ p → refused 4 ≡ (acted S m (ready p)).0
-  unfolding acted
-  ready_no_port h = rw (leb_is S.ports p h)
-
   module _ (hp : p < S.ports) where
-    pub ready_is : word (ready_word S (ledger_in S m) p) (ones (ready_word S (ledger_in S m) p)) ≡ (acted S m (ready p)).0
-    unfolding acted
-    ready_is = rw (leb_not S.ports p hp)
-
-    pub idle_is : ready_word S (ledger_in S m) p ≡ 0 → (idle, m) ≡ acted S m (turn untimed p)
-    unfolding acted
-    idle_is e = rw (leb_not S.ports p hp, e)
-
     -- what is known of the queue that is picked
     module _ (s : StateOf S m) (n : ready_word S (ledger_in S m) p ≡ 0 → ⊥) where
       abbrev N : Ledger
@@ -185,8 +175,9 @@ module _ (S : Settings) (m : List ℕ) (p : ℕ) where
 
 -- ---- what serving writes
 
-pub home_in : (S : Settings) (x : ℕ) → is_node S x ≡ true → owner x < S.ports
-home_in S x n = (node_from S x n).home
+-- the home of a list's first node is a port
+pub home_in : (S : Settings) (m : List ℕ) (l : ℕ) → StateOf S m → l < lists S → (get S m Count l ≡ 0 → ⊥) → owner (get S m Head l) < S.ports
+home_in S m l s h some = (node_from S (get S m Head l) (first_is_node S m l s h some)).home
 
 pub free_in : (S : Settings) → Roomy S → (h : ℕ) → h < S.ports → place# S (free h) < lists S
 free_in S ok h hh = place#_lt S (free h) (hh, omega (arith, ok.some_queues))
@@ -221,6 +212,8 @@ module _
         → m' ≡ serve_mem S p q P m
     unfolding serve_mem move_mem packet_at
     serve_mem_lem eh eg el en e = e ∙ rw (en, eh, eg, el)
+
+pub ruleset departs = (home_in, free_in, given_small, serve_mem_lem)
 
 -- what leaves, as the code has it
 pub turn_leaves : (S : Settings) (m : List ℕ) (p : ℕ) (hp : p < S.ports) (s : StateOf S m) (n : ready_word S (ledger_in S m) p ≡ 0 → ⊥)
