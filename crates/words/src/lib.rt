@@ -40,6 +40,6 @@ pub fn renew(m: &[u8], s: Shape, p: usize, q: usize, words: &mut [u64], made: &[
     ensures { Kept s m.now words.new made.now }
 {
     if made[p] == 1 {
-        words[p] = with_bit(words[p], q, turns::readiness(m, s, p, q));
+        words[p] = with_bit(words[p], q, u64::from(turns::is_ready(m, s, p, q)));
     }
 }
