@@ -5,8 +5,8 @@ use Rattle.layout.specs.Tables.{settings_of}
 use Rattle.memory.proofs.Rounds.{round_short, round_done}
 use Rattle.rounds.proofs.round.Goals as goal
 
-pub returns-then-room-ports : goal.returns-then-room-ports
-returns-then-room-ports c = let a = c.args in sym (round_short (settings_of a.s) a.m.now a.room.now (omega arith))
+pub returns-then-room-s : goal.returns-then-room-s
+returns-then-room-s c = let a = c.args in sym (round_short (settings_of a.s) a.m.now a.room.now (omega arith))
 
 pub stitch_each-requires : goal.stitch_each-requires
 stitch_each-requires c = c.requires

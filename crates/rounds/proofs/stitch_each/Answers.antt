@@ -17,7 +17,7 @@ stitch-requires c = c.loop-p.invariant.works
 
 pub loop-p-preserved : goal.loop-p-preserved
 loop-p-preserved c =
-    passed_next one c.loop-p.invariant c.loop-p-test.true c.m-1.given (ap (λ (o : Reply × List ℕ). o.1) c.stitch.ensures.acted)
+    passed_next one c.loop-p.invariant c.loop-p-test.true c.m-1.given (ap (λ (o : Reply × List ℕ). o.1) c.stitch.ensures)
 
 pub shape_of-m : goal.shape_of-m
 shape_of-m c = c.loop-p.invariant.same_length
