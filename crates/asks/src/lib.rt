@@ -95,6 +95,8 @@ fn whole(s: &[u8], tag: u8, v: usize, len: usize, next: usize, size: usize) -> A
 }
 
 // What is asked at a place of the fields of a run on a switch whose headers have so many bytes.
+// It is taken into the loop of a run, where a call of it costs time.
+#[inline(always)]
 #[tactic(auto, unfolding(memory::specs::Runs::asked_at))]
 pub fn asked_at(s: &[u8], at: usize, size: usize) -> Asked
     requires { size ≤ 12 }
