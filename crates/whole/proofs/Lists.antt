@@ -7,8 +7,7 @@ use native.Mathlib.Numerals.{add-one}
 use native.Mathlib.Omega.{arith}
 use borrow.Author.Count.{below_more}
 use lib.ListN.{length, replicate}
-use Rattle.ledger.specs.declared.Finding.{Finding}
-use Rattle.ledger.specs.declared.Finding.TheVariants.{Whole, At}
+use Rattle.std.specs.Prelude.{Option, None, Some}
 use Rattle.ledger.specs.Settings.{Settings, row, size}
 use Rattle.ledger.proofs.Tests.{true≢false}
 use Rattle.ledger.proofs.Places.{row_lt, row_div, row_mod}
@@ -69,9 +68,9 @@ module _ {S : Settings} {m ms sums : List ℕ} {l n : ℕ} (W : AtList S m ms su
         once true e = e
         once false e = absurd (none l (sym (scan_no W.scan some e) ∙ k.once))
 
-        fits : (rule : NodeRule) (f : Finding) → list_found rule S m l ≡ f → list_found rule S m l ≡ Whole
-        fits rule Whole e = e
-        fits rule (At x) e = absurd (none x (sym (fits_stop rule S m l some x e) ∙ W.fits rule ∙ k.fits rule))
+        fits : (rule : NodeRule) (f : Option ℕ) → list_found rule S m l ≡ f → list_found rule S m l ≡ None
+        fits rule None e = e
+        fits rule (Some x) e = absurd (none x (sym (fits_stop rule S m l some x e) ∙ W.fits rule ∙ k.fits rule))
 
     -- nor where it has too many nodes
     pub lists_many : few_in S m l ≡ false → Listed S m → ⊥
@@ -99,7 +98,7 @@ module _ {S : Settings} {m ms sums : List ℕ} {l n : ℕ} (W : AtList S m ms su
 
   -- where all are kept, the marks and the sums tell the rest
   module _ (past : lists S ≤ l) where
-    pub end_fits : (rule : NodeRule) → fits_found rule S m ≡ Whole
+    pub end_fits : (rule : NodeRule) → fits_found rule S m ≡ None
     end_fits rule = sym (W.fits rule) ∙ fits_end rule S m l (lists S - l) (omega arith)
 
     pub end_sums : sums ≡ sums_of S m
@@ -109,12 +108,12 @@ module _ {S : Settings} {m ms sums : List ℕ} {l n : ℕ} (W : AtList S m ms su
     pub end_slots : (i : ℕ) → i < lists S → few_in S m i ≡ true
     end_slots i h = W.slots i (omega arith)
 
-    pub end_once : n ≡ all S → once_found S m ≡ Whole
+    pub end_once : n ≡ all S → once_found S m ≡ None
     end_once e = scan_end W.scan past ∙ set_all (lists S) ms (W.met ∙ e ∙ sym W.scan.fits)
 
     pub end_left : (n ≡ all S → ⊥) → Listed S m → ⊥
     end_left d k = d (sym W.met ∙ all_set (lists S) ms (sym (scan_end W.scan past) ∙ k.once) ∙ W.scan.fits)
 
 -- rules (c) and (f) make the prices payable
-pub payable : (S : Settings) (m : List ℕ) → size S ≤ length m → once_found S m ≡ Whole → fits_found Record S m ≡ Whole → Payable S m
+pub payable : (S : Settings) (m : List ℕ) → size S ≤ length m → once_found S m ≡ None → fits_found Record S m ≡ None → Payable S m
 payable S m long e f = record { tidy = found_tidy S m long e; proper = (fits_means Record S m).0 f }

@@ -7,7 +7,7 @@ use native.Mathlib.Nat.{not-suc-le-zero, le_of_suc-le-suc}
 use native.Mathlib.Omega.{arith}
 use lib.ListN.{length, get_or, set, replicate}
 use lib.Dec.{ltb}
-use Rattle.ledger.specs.declared.Finding.TheVariants.{Whole, At}
+use Rattle.std.specs.Prelude.{None, Some}
 use Rattle.ledger.specs.Settings.{Settings}
 use Rattle.ledger.specs.Ready.{bit}
 use Rattle.ledger.proofs.Tests.{and_left, and_right}
@@ -38,21 +38,21 @@ set_le (k ∷ ks) = omega (arith, set_le ks, bit_le (ltb 0 k))
 
 -- ---- all marks are set exactly where none is found clear
 
-pub set_all : (n : ℕ) (ms : List ℕ) → set_marks ms ≡ length ms → unmarked n ms ≡ Whole
+pub set_all : (n : ℕ) (ms : List ℕ) → set_marks ms ≡ length ms → unmarked n ms ≡ None
 unfolding set_marks unmarked
 set_all n [] e = refl
 set_all n (k ∷ ks) e = go (ltb 0 k) refl (λ f. set_all (suc n) ks f)
   where
-    go : (b : Bool) → ltb 0 k ≡ b → (set_marks ks ≡ length ks → unmarked (suc n) ks ≡ Whole) → cond b (unmarked (suc n) ks) (At n) ≡ Whole
+    go : (b : Bool) → ltb 0 k ≡ b → (set_marks ks ≡ length ks → unmarked (suc n) ks ≡ None) → cond b (unmarked (suc n) ks) (Some n) ≡ None
     go true p rest = rest (let one : bit (ltb 0 k) ≡ 1 = rw p in omega arith)
     go false p rest = absurd (let none : bit (ltb 0 k) ≡ 0 = rw p in omega (arith, set_le ks))
 
-pub all_set : (n : ℕ) (ms : List ℕ) → unmarked n ms ≡ Whole → set_marks ms ≡ length ms
+pub all_set : (n : ℕ) (ms : List ℕ) → unmarked n ms ≡ None → set_marks ms ≡ length ms
 unfolding set_marks unmarked
 all_set n [] e = refl
 all_set n (k ∷ ks) e = go (ltb 0 k) refl e (λ f. all_set (suc n) ks f)
   where
-    go : (b : Bool) → ltb 0 k ≡ b → cond b (unmarked (suc n) ks) (At n) ≡ Whole → (unmarked (suc n) ks ≡ Whole → set_marks ks ≡ length ks)
+    go : (b : Bool) → ltb 0 k ≡ b → cond b (unmarked (suc n) ks) (Some n) ≡ None → (unmarked (suc n) ks ≡ None → set_marks ks ≡ length ks)
         → bit (ltb 0 k) + set_marks ks ≡ suc (length ks)
     go true p f rest = let one : bit (ltb 0 k) ≡ 1 = rw p in omega (arith, rest f)
     go false p f rest = absurd (let z : ◌≡◌ {A = ℕ} 0 1 = cc in omega arith)

@@ -1,11 +1,11 @@
 -- The steps of the walk: what is found in the whole is what is found in what remains. Assumes nothing.
 use mathlib.Core.Path.{◌≡◌, refl, sym, ◌∙◌}
-use mathlib.Core.Bool.{Bool, true, false, cond, ◌&&◌}
+use mathlib.Core.Bool.{Bool, true, false, false≢true, cond, ◌&&◌}
 use mathlib.Core.List.{List, [], ◌∷◌}
-use Prim.Native.Nat.{ℕ, ◌+◌, ◌-◌, ◌*◌, ◌/◌, ◌%◌, ◌^◌, ◌≤◌, ◌<◌}
+use Prim.Native.Nat.{ℕ, suc, ◌+◌, ◌-◌, ◌*◌, ◌/◌, ◌%◌, ◌^◌, ◌≤◌, ◌<◌}
 use native.Mathlib.Omega.{arith}
 use lib.Dec.{eqb}
-use Rattle.ledger.specs.declared.Finding.TheVariants.{Whole, At}
+use Rattle.std.specs.Prelude.{None, Some}
 use Rattle.ledger.specs.Settings.{Settings, row}
 use Rattle.ledger.proofs.Tests.{true≢false, and_left, and_right}
 use Rattle.layout.specs.declared.Table.TheVariants.{Head, Tail, Count, Next}
@@ -26,7 +26,7 @@ use Rattle.paid.proofs.Adding.{sums_more, add_sums}
 use Rattle.nodes.specs.Nodes.{fits_here, add_here}
 use Rattle.nodes.proofs.Here.{fits_each, each_fits}
 use Rattle.whole.specs.Whole.{ListKept}
-use Rattle.whole.specs.Walks.{count_most}
+use Rattle.whole.specs.Walks.{count_most, ListPassed}
 
 -- ---- prices that are added
 
@@ -57,6 +57,15 @@ module _ (S : Settings) (m : List ℕ) where
 
 -- ---- the nodes of a list
 
+-- where it is not kept, nothing is said of what is given back
+pub not_passed : {S : Settings} {m ms sums ms' sums' : List ℕ} {l : ℕ} → (ListKept S m ms l → ⊥) → ListPassed S m l ms sums ms' sums' false
+not_passed n = record {
+  answer = record { yes = λ e. absurd (false≢true e); no = λ e. n };
+  marks = λ e. absurd (false≢true e);
+  added = λ e. absurd (false≢true e);
+  held = λ e. absurd (false≢true e);
+}
+
 -- the walk of list l stands at node x, behind the node `last`, with `left` nodes to go
 pub record Passing (S : Settings) (m ms₀ sums₀ : List ℕ) (l : ℕ) (ms sums : List ℕ) (left x last : ℕ) : Type 0 where
   pub walk : Walking S m ms₀ l ms left x last
@@ -66,16 +75,17 @@ pub record Passing (S : Settings) (m ms₀ sums₀ : List ℕ) (l : ℕ) (ms sum
   pub held : Sums S sums (count_most * l + 255 * (get S m Count l - left))
 
 module _ {S : Settings} {m ms sums : List ℕ} {l : ℕ} where
-  pub pass_start : Walking S m ms l ms (get S m Count l) (get S m Head l) (get S m Tail l) → Sums S sums (count_most * l)
-      → Passing S m ms sums l ms sums (get S m Count l) (get S m Head l) (get S m Tail l)
+  pub pass_start : {left : ℕ} → left ≡ get S m Count l → Walking S m ms l ms left (get S m Head l) (get S m Tail l) → Sums S sums (count_most * l)
+      → Passing S m ms sums l ms sums left (get S m Head l) (get S m Tail l)
   unfolding nodes_of
-  pass_start w s = record {
-    walk = w;
-    low = omega arith;
-    fit = λ rule. refl;
-    add = sym (each_list S m sums l);
-    held = sums_more S sums (count_most * l) _ (omega arith) s;
-  }
+  pass_start e w s =
+      rw e (record {
+        walk = rw e at w;
+        low = omega arith;
+        fit = λ rule. refl;
+        add = sym (each_list S m sums l);
+        held = sums_more S sums (count_most * l) _ (omega arith) s;
+      })
 
 module _ {S : Settings} {m ms₀ sums₀ : List ℕ} {l : ℕ} {ms sums : List ℕ} {left x last : ℕ}
     (W : Passing S m ms₀ sums₀ l ms sums left x last) where
@@ -88,7 +98,7 @@ module _ {S : Settings} {m ms₀ sums₀ : List ℕ} {l : ℕ} {ms sums : List �
 
   module _ (some : 0 < left) where
     front : (rule : NodeRule) → list_found rule S m l
-        ≡ cond (node_test rule S m l x) (first_bad (node_test rule S m l) (chain S m (left - 1) (get S m Next (slot S x)))) (At x)
+        ≡ cond (node_test rule S m l x) (first_bad (node_test rule S m l) (chain S m (left - 1) (get S m Next (slot S x)))) (Some x)
     unfolding first_bad
     front rule = W.fit rule ∙ rw (chain_more S m left x some)
 
@@ -109,7 +119,7 @@ module _ {S : Settings} {m ms₀ sums₀ : List ℕ} {l : ℕ} {ms sums : List �
     step e =
         let fits = fits_each S m (l / row S) (l % row S) x (and_right (is_new S ms x) _ e) in
         record {
-          walk = walk_step W.walk some (and_left (is_new S ms x) _ e);
+          walk = walk_step W.walk (omega arith) (and_left (is_new S ms x) _ e);
           low = omega (arith, W.low);
           fit = λ rule. front rule ∙ rw (fits rule);
           add = W.add ∙ rw (chain_more S m left x some);
@@ -119,14 +129,16 @@ module _ {S : Settings} {m ms₀ sums₀ : List ℕ} {l : ℕ} {ms sums : List �
         }
 
     -- where it does, the walk goes on, with what was read and written on the way
-    pub pass_step : (is_new S ms x && fits_here S m (l / row S) (l % row S) x) ≡ true → {ms' sums' : List ℕ} {next c : ℕ} → c ≡ l % row S
-        → ms' ≡ mark S ms x → sums' ≡ add_here S m c sums x → next ≡ get S m Next (slot S x)
-        → Passing S m ms₀ sums₀ l ms' sums' (left - 1) next x
-    pass_step e column marks added read = rw (marks, added, column, read) (step e)
+    pub pass_step : (is_new S ms x && fits_here S m (l / row S) (l % row S) x) ≡ true → {ms' sums' : List ℕ} {next c rest : ℕ} → c ≡ l % row S
+        → ms' ≡ mark S ms x → sums' ≡ add_here S m c sums x → next ≡ get S m Next (slot S x) → left ≡ suc rest
+        → Passing S m ms₀ sums₀ l ms' sums' rest next x
+    pass_step e {rest = rest} column marks added read count =
+        let one : left - 1 ≡ rest = omega arith in
+        rw (marks, added, column, read) (rw one at (step e))
 
   pub pass_end : left ≤ 0
       → (right S m ms₀ l ≡ eqb last (get S m Tail l)) × (ms ≡ mark_all S ms₀ (nodes_of S m l)) × (sums ≡ add_list S m sums₀ l)
-      × ((rule : NodeRule) → list_found rule S m l ≡ Whole)
+      × ((rule : NodeRule) → list_found rule S m l ≡ None)
   unfolding add_each first_bad chain
   pass_end h =
       let e : left ≡ 0 = omega arith in

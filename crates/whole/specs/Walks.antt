@@ -1,5 +1,5 @@
 -- What the functions of the walk ask and give. Assumes nothing.
-use Rattle.std.specs.Prelude.{◌≡◌, Bool, true, false, List, [], ◌∷◌, ℕ, ◌+◌, ◌-◌, ◌*◌, ◌/◌, ◌%◌, ◌≤◌, ◌<◌, length, replicate, ltb}
+use Rattle.std.specs.Prelude.{◌≡◌, Bool, true, List, [], ◌∷◌, ℕ, ◌+◌, ◌-◌, ◌*◌, ◌/◌, ◌%◌, ◌≤◌, ◌<◌, length, replicate, ltb, Option, MatchOption}
 use Rattle.ledger.specs.Settings.{Settings, row, size}
 use Rattle.ledger.specs.Ready.{bit}
 use Rattle.layout.specs.declared.Shape.{Shape}
@@ -65,7 +65,6 @@ pub record ListPassed (S : Settings) (m : List ℕ) (l : ℕ) (ms sums ms' sums'
   pub added : r ≡ true → sums' ≡ add_list S m sums l
   pub held : r ≡ true → Sums S sums' (count_most * (l + 1))
 
--- after port p the walk stands at the first list of the next, or some rule is broken
-pub record PortPassed (S : Settings) (m : List ℕ) (p : ℕ) (ms sums : List ℕ) (n : ℕ) (r : Bool) : Type 0 where
-  pub yes : r ≡ true → AtList S m ms sums ((p + 1) * row S) n
-  pub no : r ≡ false → Listed S m → ⊥
+-- after port p the walk stands at the first list of the next, and has met n nodes; or some rule is broken
+abbrev pub PortPassed : Settings → List ℕ → ℕ → List ℕ → List ℕ → Option ℕ → Type 0
+PortPassed S m p ms sums r = MatchOption r (Listed S m → ⊥) (λ n. AtList S m ms sums ((p + 1) * row S) n)

@@ -9,13 +9,12 @@ ghost use Rattle.whole.specs.Whole.{Tells};
 ghost use Rattle.whole.specs.Walks.{ListLent, PortLent, AllLent, ListPassed, PortPassed};
 
 use layout::{Shape, Table};
-use ledger::{EntryId, Finding};
+use ledger::EntryId;
 
-// What the walk tells: every rule is kept; or one before (g) is broken, and what (d) to (f) find from this port's lists on is what they
-// find; or (g) alone is broken, first at this cell.
+// What the walk tells where a rule is broken: one before (g), and what (d) to (f) find from this port's lists on is what they find; or (g)
+// alone, first at this cell.
 #[derive(Clone, Copy)]
-pub enum Walk {
-    Kept,
+pub enum Fault {
     Stuck(usize),
     Due(usize),
 }
@@ -37,10 +36,9 @@ fn list_passes(
         (marks_in (settings_of s) marks.new) sums.new result }
 {
     let tail = layout::get2(m, s, Table::Tail, l);
-    let mut left = count;
     let mut x = layout::get2(m, s, Table::Head, l);
     let mut last = tail;
-    while 0 < left {
+    for _ in 0..count {
         let id = EntryId(x);
         if !geometry::is_node(s, id) {
             return false;
@@ -52,61 +50,50 @@ fn list_passes(
         }
         last = x;
         x = next;
-        left -= 1;
     }
     last == tail
 }
 
-// Walks the lists of a port, and answers whether each passed; the nodes that were met are counted on.
+// Walks the lists of a port, and answers how many nodes were met so far, where each list passed.
 fn port_passes(
     m: &[u8],
     s: Shape,
     port: usize,
     marks: &mut [u8],
     sums: &mut [u64],
-    met: &mut u32,
-) -> bool
-    requires { PortLent s m.now marks.old sums.old port met.old }
-    ensures { PortPassed (settings_of s) m.now port (marks_in (settings_of s) marks.new) sums.new
-        met.new result }
+    mut met: u32,
+) -> Option<u32>
+    requires { PortLent s m.now marks.old sums.old port met }
+    ensures { PortPassed (settings_of s) m.now port (marks_in (settings_of s) marks.new) sums.new result }
 {
-    let row = s.row;
-    let first = port * row;
-    let mut column: usize = 0;
-    while column < row {
-        let l = first + column;
+    for column in 0..s.row {
+        let l = port * s.row + column;
         let count = layout::get4(m, s, Table::Count, l);
         if !ranges::few_enough(s, column, count) {
-            return false;
+            return None;
         }
         if !list_passes(m, s, l, count, port, column, marks, sums) {
-            return false;
+            return None;
         }
-        *met = *met + count;
-        column += 1;
+        met += count;
     }
-    true
+    Some(met)
 }
 
 // All lists, and then the credits. Where each node that was met was new, as many were met as there are exactly if none was left out.
-pub fn whole(m: &[u8], s: Shape, marks: &mut [u8], sums: &mut [u64]) -> Walk
+pub fn whole(m: &[u8], s: Shape, marks: &mut [u8], sums: &mut [u64]) -> Result<(), Fault>
     requires { AllLent s m.now marks.old sums.old }
     ensures { Tells (settings_of s) m.now result }
 {
-    let ports = s.ports;
     let mut met: u32 = 0;
-    let mut port: usize = 0;
-    while port < ports {
-        if !port_passes(m, s, port, marks, sums, &mut met) {
-            return Walk::Stuck(port);
-        }
-        port += 1;
+    for port in 0..s.ports {
+        met = port_passes(m, s, port, marks, sums, met).ok_or(Fault::Stuck(port))?;
     }
     if met as usize != s.all {
-        return Walk::Stuck(port);
+        return Err(Fault::Stuck(s.ports));
     }
-    if let Finding::At(c) = paid::first_due(m, s, sums) {
-        return Walk::Due(c);
+    match paid::first_due(m, s, sums) {
+        Some(c) => Err(Fault::Due(c)),
+        None => Ok(()),
     }
-    Walk::Kept
 }

@@ -1,6 +1,6 @@
 -- What the loop of `whole::port_passes` keeps.
 use mathlib.Core.Path.{◌≡◌}
-use Prim.Native.Nat.{◌+◌, ◌-◌, ◌≤◌}
+use Prim.Native.Nat.{◌+◌, ◌*◌}
 use lib.ListN.{length}
 use Rattle.layout.specs.Tables.{settings_of}
 use Rattle.once.specs.Bits.{marks_in}
@@ -9,8 +9,5 @@ use Rattle.whole.proofs.port_passes.Given as goal
 
 abbrev pub invariant-loop-column : goal.invariant-loop-column
 invariant-loop-column l =
-    (l.column ≤ l.row) × (length l.marks ≡ length l.initial.marks) × AtList (settings_of l.s) l.m (marks_in (settings_of l.s) l.marks) l.sums
-    (l.first + l.column) l.met
-
-abbrev pub decreases-loop-column : goal.decreases-loop-column
-decreases-loop-column l = l.row - l.column
+    (length l.marks ≡ length l.initial.marks)
+    × AtList (settings_of l.s) l.m (marks_in (settings_of l.s) l.marks) l.sums (l.port * l.s.row + l.column) l.met

@@ -1,6 +1,6 @@
 -- What the loop of `whole::whole` keeps.
 use mathlib.Core.Path.{◌≡◌}
-use Prim.Native.Nat.{◌-◌, ◌*◌, ◌≤◌}
+use Prim.Native.Nat.{◌*◌}
 use lib.ListN.{length}
 use Rattle.ledger.specs.Settings.{row}
 use Rattle.layout.specs.Tables.{settings_of}
@@ -10,8 +10,5 @@ use Rattle.whole.proofs.whole.Given as goal
 
 abbrev pub invariant-loop-port : goal.invariant-loop-port
 invariant-loop-port l =
-    (l.port ≤ l.ports) × (length l.marks ≡ length l.initial.marks) × AtList (settings_of l.s) l.m (marks_in (settings_of l.s) l.marks) l.sums
-    (l.port * row (settings_of l.s)) l.met
-
-abbrev pub decreases-loop-port : goal.decreases-loop-port
-decreases-loop-port l = l.ports - l.port
+    (length l.marks ≡ length l.initial.marks)
+    × AtList (settings_of l.s) l.m (marks_in (settings_of l.s) l.marks) l.sums (l.port * row (settings_of l.s)) l.met
