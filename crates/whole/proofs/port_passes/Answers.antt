@@ -61,3 +61,8 @@ overflow_add-met c =
 
 pub loop-column-preserved : goal.loop-column-preserved
 loop-column-preserved c = (c.list_passes.auto.marks ∙ c.loop-column.invariant.0, went (goal.at.loop-column-preserved c).Else-not-list_passes)
+
+pub returns : goal.returns
+returns c =
+    let end : (c.args.port + 1) * c.args.s.row ≡ c.args.port * c.args.s.row + c.loop-column.column = omega arith in
+    rw (← c.requires.marks.laid.row_is, end) c.loop-column.invariant.1
