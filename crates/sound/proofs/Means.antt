@@ -3,8 +3,9 @@ use mathlib.Core.Path.{◌≡◌, refl, ap, subst, ◌∙◌}
 use mathlib.Core.List.{List}
 use Prim.Native.Nat.{ℕ}
 use native.Mathlib.Omega.{arith}
-use Rattle.ledger.specs.declared.Finding.TheVariants.{Whole as whole, At}
-use Rattle.ledger.specs.declared.Broken.TheVariants.{B, G}
+use Rattle.std.specs.Prelude.{None, Some, Ok, Err}
+use Rattle.ledger.specs.declared.Rule.TheVariants.{B, G}
+use Rattle.ledger.specs.declared.Refusal.TheVariants.{NoState}
 use Rattle.ledger.specs.Settings.{Settings}
 use Rattle.ledger.specs.Sound.{Shaped}
 use Rattle.ledger.proofs.Rows.{roomy}
@@ -16,7 +17,6 @@ use Rattle.memory.specs.Ends.{Tidy}
 use Rattle.memory.specs.Memory.{state_dec}
 use Rattle.memory.specs.Judged.{Works}
 use Rattle.memory.proofs.Chains.{length_tabulate, length_lists, state_tidy}
-use Rattle.ranges.specs.declared.Opened.TheVariants.{Wrong}
 use Rattle.ranges.specs.Opening.{shape_for, opened, Open}
 use Rattle.ranges.specs.Ranges.{ranges_found}
 use Rattle.ranges.proofs.Opening.{shape_is, opened_is, opened_fine}
@@ -31,8 +31,7 @@ use Rattle.paid.specs.Paid.{paid_found}
 use Rattle.paid.proofs.Owing.{paid_means}
 use Rattle.whole.specs.Whole.{Listed}
 use Rattle.halts.proofs.Laws.{marks_mean}
-use Rattle.sound.specs.declared.Tested.TheVariants.{State, NoState}
-use Rattle.sound.specs.Sound.{Clean, marks_broken, nodes_broken, open_broken, tested_by, tested_in}
+use Rattle.sound.specs.Sound.{breaks, Clean, marks_broken, nodes_broken, open_broken, tested_by, tested_in}
 use Rattle.ledger.specs.Ledger.{tall}
 
 -- ---- what the rules say together
@@ -45,31 +44,31 @@ shaped S m = record {
 }
 
 -- the three rules that are asked of nodes
-pub by_rule : (S : Settings) (m : List ℕ) → fits_found OwnPort S m ≡ whole → fits_found OwnQueue S m ≡ whole → fits_found Record S m ≡ whole
-    → (rule : NodeRule) → fits_found rule S m ≡ whole
+pub by_rule : (S : Settings) (m : List ℕ) → fits_found OwnPort S m ≡ None → fits_found OwnQueue S m ≡ None → fits_found Record S m ≡ None
+    → (rule : NodeRule) → fits_found rule S m ≡ None
 by_rule S m d e f OwnPort = d
 by_rule S m d e f OwnQueue = e
 by_rule S m d e f Record = f
 
 module _ (S : Settings) (m : List ℕ) where
   -- the rules before (i) are kept
-  pub marks_left : ranges_found S m ≡ whole → Listed S m → paid_found S m ≡ whole → open_broken S m ≡ marks_broken S m
+  pub marks_left : ranges_found S m ≡ None → Listed S m → paid_found S m ≡ None → open_broken S m ≡ marks_broken S m
   unfolding open_broken nodes_broken
   marks_left b k e = rw (b, k.once, k.fits OwnPort, k.fits OwnQueue, k.fits Record, e)
 
   -- (g) alone is broken
-  pub due_broken : (c : ℕ) → ranges_found S m ≡ whole → Listed S m → paid_found S m ≡ At c → open_broken S m ≡ G c
+  pub due_broken : (c : ℕ) → ranges_found S m ≡ None → Listed S m → paid_found S m ≡ Some c → open_broken S m ≡ Some (breaks G c)
   unfolding open_broken nodes_broken
   due_broken c b k e = rw (b, k.once, k.fits OwnPort, k.fits OwnQueue, k.fits Record, e)
 
   -- (b) is broken
-  pub range_broken : (i : ℕ) → ranges_found S m ≡ At i → open_broken S m ≡ B i
+  pub range_broken : (i : ℕ) → ranges_found S m ≡ Some i → open_broken S m ≡ Some (breaks B i)
   unfolding open_broken
   range_broken i e = rw e
 
 module _ (m : List ℕ) (s : Shape) where
   module _ (o : Open m s) where
-    pub passed_once : once_found (settings_of s) m ≡ whole → Tidy (settings_of s) m
+    pub passed_once : once_found (settings_of s) m ≡ None → Tidy (settings_of s) m
     passed_once e = found_tidy (settings_of s) m (rw o.settings_are o.long) e
 
     clean_state : Clean (settings_of s) m → StateOf (settings_of s) m
@@ -114,47 +113,50 @@ module _ (m : List ℕ) where
   works_state : (s : Shape) → Works s m → picture.State m
   works_state s w = subst (λ (S : Settings). StateOf S m) w.settings_are w.state
 
-  tested_is : (s : Shape) → Works s m → State s ≡ tested_in m
+  tested_is : (s : Shape) → Works s m → Ok s ≡ tested_in m
   unfolding tested_in
   tested_is s w = go (state_dec m)
     where
-      go : (d : Dec (picture.State m)) → State s ≡ tested_by m d
-      go (yes t) = ap State (shape_is s w.laid ∙ ap shape_for w.settings_are)
+      go : (d : Dec (picture.State m)) → Ok s ≡ tested_by m d
+      go (yes t) = ap Ok (shape_is s w.laid ∙ ap shape_for w.settings_are)
       go (no n) = absurd (n (works_state s w))
 
   -- the one walk decides: where the memory opens, by whether it is clean; and where it does not
-  pub clean_tested : (s : Shape) → Open m s → Clean (settings_of s) m → State s ≡ tested_in m
+  pub clean_tested : (s : Shape) → Open m s → Clean (settings_of s) m → Ok s ≡ tested_in m
   clean_tested s o k = tested_is s (record { laid = o.laid; settings_are = o.settings_are; state = clean_state m s o k })
 
-  tested_not : (picture.State m → ⊥) → NoState ≡ tested_in m
+  tested_not : (picture.State m → ⊥) → Err NoState ≡ tested_in m
   unfolding tested_in
   tested_not n = go (state_dec m)
     where
-      go : (d : Dec (picture.State m)) → NoState ≡ tested_by m d
+      go : (d : Dec (picture.State m)) → Err NoState ≡ tested_by m d
       go (yes t) = absurd (n t)
       go (no k) = refl
 
-  pub unclean_tested : (s : Shape) → Open m s → (Clean (settings_of s) m → ⊥) → NoState ≡ tested_in m
+  pub unclean_tested : (s : Shape) → Open m s → (Clean (settings_of s) m → ⊥) → Err NoState ≡ tested_in m
   unclean_tested s o n = tested_not (λ t. n (rw o.settings_are (state_clean (settings_in m) m t)))
 
-  pub unopened_tested : (i : ℕ) → opened m ≡ Wrong i → NoState ≡ tested_in m
+  pub unopened_tested : (i : ℕ) → opened m ≡ Err i → Err NoState ≡ tested_in m
   unopened_tested i e = tested_not (λ t. let p = opened_is m t.sound.rows t.long in let z : ◌≡◌ {A = ℕ} 0 1 = cc in omega arith)
 
-  pub tested_state : (s : Shape) → tested_in m ≡ State s → Works s m
+  pub tested_state : (s : Shape) → tested_in m ≡ Ok s → Works s m
   unfolding tested_in
   tested_state s = go (state_dec m)
     where
-      go : (d : Dec (picture.State m)) → tested_by m d ≡ State s → Works s m
+      go : (d : Dec (picture.State m)) → tested_by m d ≡ Ok s → Works s m
       go (yes t) e =
           let p : shape_for (settings_in m) ≡ s = cc in
           let o = opened_fine m (shape_for (settings_in m)) (opened_is m t.sound.rows t.long) in
           subst (λ (r : Shape). Works r m) p (record { laid = o.laid; settings_are = refl; state = t })
       go (no n) e = absurd (let z : ◌≡◌ {A = ℕ} 0 1 = cc in omega arith)
 
-  pub tested_none : tested_in m ≡ NoState → picture.State m → ⊥
+  pub tested_none : tested_in m ≡ Err NoState → picture.State m → ⊥
   unfolding tested_in
   tested_none e t = go (state_dec m) e
     where
-      go : (d : Dec (picture.State m)) → tested_by m d ≡ NoState → ⊥
+      go : (d : Dec (picture.State m)) → tested_by m d ≡ Err NoState → ⊥
       go (yes t) e = let z : ◌≡◌ {A = ℕ} 0 1 = cc in omega arith
       go (no n) e = n t
+
+-- what the test of a memory comes to, in each case
+pub ruleset testing = (opened_fine, clean_tested, unclean_tested, unopened_tested)

@@ -1,7 +1,5 @@
 -- Which rule a memory breaks first, and whether it is a switch state. Assumes nothing.
-use Rattle.std.specs.Prelude.{◌≡◌, cond, List, ℕ}
-use Rattle.ledger.specs.declared.Finding.{Finding}
-use Rattle.ledger.specs.declared.Finding.TheVariants.{Whole as whole, At}
+use Rattle.std.specs.Prelude.{◌≡◌, cond, List, ℕ, Option, None, Some, Result, Ok, Err}
 use Rattle.ledger.specs.Settings.{Settings}
 use Rattle.layout.specs.declared.Shape.{Shape}
 use Rattle.layout.specs.Tables.{settings_of}
@@ -16,26 +14,31 @@ use Rattle.fits.specs.declared.NodeRule.TheVariants.{OwnPort, OwnQueue, Record}
 use Rattle.fits.specs.Fits.{fits_found}
 use Rattle.paid.specs.Paid.{paid_found}
 use Rattle.halts.specs.Marks.{marks_found}
-use Rattle.whole.specs.declared.Walk.TheVariants.{Stuck}
+use Rattle.whole.specs.declared.Fault.TheVariants.{Stuck}
 use Rattle.whole.specs.Whole.{Tells}
 use Rattle.ledger.specs.declared.Broken.{Broken}
-use Rattle.ledger.specs.declared.Broken.TheVariants.{Nothing, A, B, C, D, E, F, G, I}
-use Rattle.sound.specs.declared.Tested.{Tested}
-use Rattle.sound.specs.declared.Tested.TheVariants.{State, NoState}
+use Rattle.ledger.specs.declared.Rule.{Rule}
+use Rattle.ledger.specs.declared.Rule.TheVariants.{A, B, C, D, E, F, G, I}
+use Rattle.ledger.specs.declared.Refusal.{Refusal}
+use Rattle.ledger.specs.declared.Refusal.TheVariants.{NoState}
 
 -- ---- the first rule that is broken
 
+-- a rule is broken, and an item shows it
+abbrev pub breaks : Rule → ℕ → Broken
+breaks rule item = record { rule = rule; item = item }
+
 -- what a rule finds breaks it; else what comes after it counts
-abbrev pub or_next : Finding → (ℕ → Broken) → Broken → Broken
-or_next whole rule next = next
-or_next (At i) rule next = rule i
+abbrev pub or_next : Option ℕ → Rule → Option Broken → Option Broken
+or_next None rule next = next
+or_next (Some i) rule next = Some (breaks rule i)
 
 -- (i), the last; (h) is a later request's
-abbrev pub marks_broken : Settings → List ℕ → Broken
-marks_broken S m = or_next (marks_found S m) I Nothing
+abbrev pub marks_broken : Settings → List ℕ → Option Broken
+marks_broken S m = or_next (marks_found S m) I None
 
 -- (d) to (i)
-unfoldable pub nodes_broken : Settings → List ℕ → Broken
+unfoldable pub nodes_broken : Settings → List ℕ → Option Broken
 nodes_broken S m =
     or_next (fits_found OwnPort S m) D
     (or_next (fits_found OwnQueue S m) E
@@ -43,27 +46,27 @@ nodes_broken S m =
     (or_next (paid_found S m) G (marks_broken S m))))
 
 -- (b) to (i)
-unfoldable pub open_broken : Settings → List ℕ → Broken
+unfoldable pub open_broken : Settings → List ℕ → Option Broken
 open_broken S m = or_next (ranges_found S m) B (or_next (once_found S m) C (nodes_broken S m))
 
-unfoldable pub broken_in : List ℕ → Broken
-broken_in m = cond (opens m) (open_broken (settings_in m) m) (A (out_at m))
+unfoldable pub broken_in : List ℕ → Option Broken
+broken_in m = cond (opens m) (open_broken (settings_in m) m) (Some (breaks A (out_at m)))
 
 -- ---- whether it is a switch state
 
 -- every rule from (b) on finds nothing
 pub record Clean (S : Settings) (m : List ℕ) : Type 0 where
-  pub ranges : ranges_found S m ≡ whole
-  pub once : once_found S m ≡ whole
-  pub fits : (rule : NodeRule) → fits_found rule S m ≡ whole
-  pub paid : paid_found S m ≡ whole
-  pub marked : marks_found S m ≡ whole
+  pub ranges : ranges_found S m ≡ None
+  pub once : once_found S m ≡ None
+  pub fits : (rule : NodeRule) → fits_found rule S m ≡ None
+  pub paid : paid_found S m ≡ None
+  pub marked : marks_found S m ≡ None
 
-abbrev pub tested_by : (m : List ℕ) → Dec (picture.State m) → Tested
-tested_by m (yes s) = State (shape_for (settings_in m))
-tested_by m (no n) = NoState
+abbrev pub tested_by : (m : List ℕ) → Dec (picture.State m) → Result Shape Refusal
+tested_by m (yes s) = Ok (shape_for (settings_in m))
+tested_by m (no n) = Err NoState
 
-unfoldable pub tested_in : List ℕ → Tested
+unfoldable pub tested_in : List ℕ → Result Shape Refusal
 tested_in m = tested_by m (state_dec m)
 
 -- ---- what the functions ask
@@ -71,10 +74,10 @@ tested_in m = tested_by m (state_dec m)
 -- a memory of shape s, of which the one walk stuck at port p
 pub record StuckAt (s : Shape) (m : List ℕ) (p : ℕ) : Type 0 where
   pub opens : Open m s
-  pub stuck : Tells (settings_of s) m (Stuck p)
+  pub stuck : Tells (settings_of s) m (Err (Stuck p))
 
 -- and that keeps rules (b) and (c)
 pub record Tied (s : Shape) (m : List ℕ) (p : ℕ) : Type 0 where
   pub stuck : StuckAt s m p
-  pub ranges : ranges_found (settings_of s) m ≡ whole
-  pub once : once_found (settings_of s) m ≡ whole
+  pub ranges : ranges_found (settings_of s) m ≡ None
+  pub once : once_found (settings_of s) m ≡ None
