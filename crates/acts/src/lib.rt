@@ -1,7 +1,7 @@
 // The acts without the test, for benchmarks alone: on a memory that is known to be a switch state, each does what the public call does. And
 // the storing of a packet by itself.
 // A caller from C has to know it: these are no part of the public surface.
-#![tactic(auto)]
+#![tactic(auto, using(memory::proofs::Demands::on_works))]
 
 ghost use Rattle.std.specs.Prelude.{◌≡◌, List, ℕ, ◌+◌, ◌≤◌, length};
 ghost use Rattle.ledger.specs.Settings.{slot_bytes};
@@ -17,18 +17,13 @@ ghost use Rattle.rooms.specs.Rooms.{told, told_in, entry_room, record_room, sent
 
 use layout::Shape;
 use ledger::{EntryId, Load};
-use ranges::Opened;
 
-// The shape of a memory that is a switch state.
+// The shape of a memory that is a switch state, which is always opened.
 fn shape(m: &[u8]) -> Shape
     requires { State m.now }
     ensures { Works result m.now }
 {
-    match ranges::open(m) {
-        Opened::Fine(s) => s,
-        // Never so: a state is opened.
-        Opened::Wrong(_) => layout::shape_of(settings::ten_bytes(1, 64, 1, 0)),
-    }
+    ranges::open(m).unwrap()
 }
 
 #[unsafe(no_mangle)]
@@ -48,10 +43,7 @@ pub extern "C" fn act_stitch(mem: &mut [u8], port: u32, room: &mut [u8; 10]) -> 
         (told_in record_room room.old (M (act (stitch port)) mem.old)) }
 {
     let s = shape(mem);
-    let out = moves::stitch(mem, s, port);
-    let answer = out.answer;
-    let bytes = out.record;
-    rooms::put_record(answer, bytes, room)
+    rooms::put_record(moves::stitch(mem, s, port), room)
 }
 
 #[unsafe(no_mangle)]
