@@ -5,15 +5,13 @@ ghost use Rattle.std.specs.Prelude.{◌≡◌};
 ghost use Rattle.sound.specs.Sound.{tested_in};
 ghost use Rattle.rules.specs.Numbers.{test_number};
 
-use sound::Tested;
-
 // What every call but setup, the finding and the repair asks first: 0 for a switch state, else 3, the number of the refusal.
 #[unsafe(no_mangle)]
 pub extern "C" fn rule_test(mem: &[u8]) -> u32
     ensures { result ≡ test_number (tested_in mem.now) }
 {
     match sound::test(mem) {
-        Tested::State(_) => 0,
-        Tested::NoState => 3,
+        Ok(_) => 0,
+        Err(no) => u32::from(no),
     }
 }
