@@ -9,8 +9,7 @@ use native.Mathlib.Omega.{arith}
 use lib.ListN.{length, get_or}
 use lib.Dec.{ltb}
 use Rattle.numbers.specs.Bytes.{number}
-use Rattle.ledger.specs.declared.Finding.{Finding}
-use Rattle.ledger.specs.declared.Finding.TheVariants.{Whole, At}
+use Rattle.std.specs.Prelude.{Option, None, Some}
 use Rattle.ledger.specs.Settings.{Settings, setting_count, in_row, in_rows, first_out, ids, size}
 use Rattle.ledger.specs.Ledger.{Packet, place_of}
 use Rattle.ledger.specs.Halt.{is_mark}
@@ -82,14 +81,14 @@ module _ (m : List ℕ) (shut : opens m ≡ false) where
       row_means : 2 * setting_count ≤ length m → (k : ℕ) → k < setting_count → (in_row (settings_in m) k ≡ true) ↔ SettingRight m k
       row_means there k h = (λ t. record { is_in_row = λ i l. t; long = λ e. absurd (omega arith) }, λ r. r.is_in_row h there)
 
-      out : 2 * setting_count ≤ length m → (f : Finding) → first (in_row (settings_in m)) setting_count ≡ f
+      out : 2 * setting_count ≤ length m → (f : Option ℕ) → first (in_row (settings_in m)) setting_count ≡ f
           → FirstOf (SettingRight m) (1 + setting_count) (found_or setting_count f)
-      out there Whole e = record {
+      out there None e = record {
         inside = omega arith;
         wrong = λ r. too_short (first_out_lem (settings_in m) ∙ ap (found_or setting_count) e) (r.long refl);
         before = λ k l. (row_means there k l).0 ((first_all (in_row (settings_in m)) setting_count).0 e k l);
       }
-      out there (At x) e =
+      out there (Some x) e =
           let f = first_wrong (in_row (settings_in m)) (SettingRight m) setting_count (row_means there) x e in
           record { inside = omega (arith, f.0); wrong = f.1; before = f.2 }
 
@@ -124,7 +123,7 @@ module _ (S : Settings) (m : List ℕ) where
           let e : k ≡ S.ports + ids + j = omega arith in
           ap (fits_at S m) e ∙ (slots_mean S m j some (omega arith)).1 (r.slots j e)
 
-  pub range_first : Roomy S → (i : ℕ) → ranges_found S m ≡ At i → FirstOf (RangeRight S (ledger_in S m)) (S.ports + ids + S.ports * S.queues) i
+  pub range_first : Roomy S → (i : ℕ) → ranges_found S m ≡ Some i → FirstOf (RangeRight S (ledger_in S m)) (S.ports + ids + S.ports * S.queues) i
   unfolding ranges_found
   range_first R i e =
       let f = first_wrong (fits_at S m) (RangeRight S (ledger_in S m)) (items S) (range_means (omega (arith, R.some_queues))) i e in
@@ -132,7 +131,7 @@ module _ (S : Settings) (m : List ℕ) where
 
   -- ---- (c)
 
-  pub list_first : Roomy S → (i : ℕ) → once_found S m ≡ At i → FirstOf (ListRight S m) (lists S + all S) i
+  pub list_first : Roomy S → (i : ℕ) → once_found S m ≡ Some i → FirstOf (ListRight S m) (lists S + all S) i
   list_first R i e =
       let f = once_first S m R (ListRight S m)
       (λ l h. (λ r. (r.hangs h, r.once h), λ t. record { hangs = λ k. t.0; once = λ k. t.1; met = λ j n. absurd (omega arith) }))
@@ -149,7 +148,7 @@ module _ (S : Settings) (m : List ℕ) where
 
   -- ---- (d), (e) and (f)
 
-  pub node_first : (rule : NodeRule) (i : ℕ) → fits_found rule S m ≡ At i → FirstNode (λ l k. NodeHolds rule S (place_of S l) k) (ledger_in S m).lists i
+  pub node_first : (rule : NodeRule) (i : ℕ) → fits_found rule S m ≡ Some i → FirstNode (λ l k. NodeHolds rule S (place_of S l) k) (ledger_in S m).lists i
   node_first rule i e =
       let b = fits_first rule S m i e in
       record {
@@ -167,7 +166,7 @@ module _ (S : Settings) (m : List ℕ) where
 
   -- ---- (g)
 
-  pub cell_first : Roomy S → Payable S m → (i : ℕ) → paid_found S m ≡ At i → FirstOf (CellRight S (ledger_in S m)) (cells S) i
+  pub cell_first : Roomy S → Payable S m → (i : ℕ) → paid_found S m ≡ Some i → FirstOf (CellRight S (ledger_in S m)) (cells S) i
   unfolding due_found
   cell_first R P i e =
       let f = first_wrong (settled_at S m (sums_of S m)) (CellRight S (ledger_in S m)) (cells S) (cell_means S m R P) i e in
@@ -175,7 +174,7 @@ module _ (S : Settings) (m : List ℕ) where
 
   -- ---- (i)
 
-  pub mark_first : (i : ℕ) → marks_found S m ≡ At i → FirstOf (MarkRight (ledger_in S m)) S.ports i
+  pub mark_first : (i : ℕ) → marks_found S m ≡ Some i → FirstOf (MarkRight (ledger_in S m)) S.ports i
   unfolding marks_found
   mark_first i e =
       let f = first_wrong (λ p. is_mark (get S m Halted p)) (MarkRight (ledger_in S m)) S.ports

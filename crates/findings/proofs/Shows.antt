@@ -6,8 +6,9 @@ use Prim.Native.Nat.{ℕ, zero, suc, ◌+◌, ◌-◌, ◌*◌, ◌/◌, ◌%◌
 use native.Mathlib.Nat.{div-lt_iff_lt-mul, mod-lt}
 use native.Mathlib.Omega.{arith}
 use lib.ListN.{take}
-use Rattle.ledger.specs.declared.Finding.{Finding}
-use Rattle.ledger.specs.declared.Finding.TheVariants.{Whole, At}
+use Rattle.std.specs.Prelude.{Option, None, Some}
+use Rattle.ledger.specs.declared.Rule.{Rule}
+use Rattle.ledger.specs.declared.Rule.TheVariants.{A, B, C, D, E, F, G, I}
 use Rattle.ledger.specs.Settings.{Settings, setting_count, in_row, in_rows, ids}
 use Rattle.ledger.specs.Ledger.{Packet, last, mapped, Ledger}
 use Rattle.ledger.specs.Ready.{bit}
@@ -22,7 +23,7 @@ use Rattle.ranges.specs.First.{first}
 use Rattle.ranges.proofs.First.{first_all}
 use Rattle.ranges.proofs.FirstItem.{first_wrong, found_or, first_out_lem}
 use Rattle.memory.proofs.Audit.{node_at_lem}
-use Rattle.findings.specs.Findings.{Letter, rule_a, rule_b, rule_c, rule_d, rule_e, rule_f, rule_g, rule_i, letter#, ledger_of, Holds, FirstItem}
+use Rattle.findings.specs.Findings.{letter#, ledger_of, Holds, FirstItem}
 use Rattle.findings.specs.Findings.{SettingRight, RangeRight, ListRight, CellRight, FirstNode, Settled}
 use Rattle.findings.proofs.Items.{All-middle}
 
@@ -31,9 +32,9 @@ use Rattle.findings.proofs.Items.{All-middle}
 each_row : (S : Settings) → in_rows S ≡ true → (k : ℕ) → k < setting_count → in_row S k ≡ true
 each_row S r = go (first (in_row S) setting_count) refl
   where
-    go : (f : Finding) → first (in_row S) setting_count ≡ f → (k : ℕ) → k < setting_count → in_row S k ≡ true
-    go Whole e = (first_all (in_row S) setting_count).0 e
-    go (At x) e =
+    go : (f : Option ℕ) → first (in_row S) setting_count ≡ f → (k : ℕ) → k < setting_count → in_row S k ≡ true
+    go None e = (first_all (in_row S) setting_count).0 e
+    go (Some x) e =
         let w = first_wrong (in_row S) (λ k. in_row S k ≡ true) setting_count (λ k h. (λ t. t, λ t. t)) x e in
         let n : found_or setting_count (first (in_row S) setting_count) ≡ setting_count = sym (first_out_lem S) ∙ eqb_yes _ _ (sym (rows_out S) ∙ r) in
         let z : x ≡ setting_count = sym (ap (found_or setting_count) e) ∙ n in
@@ -58,13 +59,13 @@ no_node {P} f e = f.wrong (All-middle (P f.list) f.front f.packet f.rest (subst 
 
 module _ (S : Settings) (R : Roomy S) where
   range_right : (L : Ledger) → InRange S L → (i : ℕ) → i < S.ports + ids + S.ports * S.queues → RangeRight S L i
-  range_right L I i h = record {
-    last_served = λ l. I.numbers_in last i l;
-    entry = λ d l e. I.numbers_in mapped d l;
+  range_right L r i h = record {
+    last_served = λ l. r.numbers_in last i l;
+    entry = λ d l e. r.numbers_in mapped d l;
     slots = λ j e.
         let some : 0 < S.queues = omega (arith, R.some_queues) in
         let low : j < S.ports * S.queues = omega arith in
-        I.slots_in (j / S.queues) (j % S.queues) ((div-lt_iff_lt-mul some).1 low) (mod-lt j some);
+        r.slots_in (j / S.queues) (j % S.queues) ((div-lt_iff_lt-mul some).1 low) (mod-lt j some);
   }
 
   list_right : (m : List ℕ) → ((l : ℕ) → l < lists S → Hangs S m l) → Once S (ledger_in S m).lists → (i : ℕ) → i < lists S + all S → ListRight S m i
@@ -86,12 +87,12 @@ module _ (S : Settings) (R : Roomy S) where
 pub room : (m : List ℕ) → opens m ≡ true → Roomy (settings_in m)
 room m o = roomy (settings_in m) ((opens_means m).0 o).0
 
-pub item_shows : (m : List ℕ) (r : Letter) (i : ℕ) → ((q : Letter) → letter# q < letter# r → Holds q m) → FirstItem r m i → Holds r m → ⊥
-item_shows m rule_a i b f h = f.wrong (setting_right m h i)
-item_shows m rule_b i b f h = f.wrong (range_right (settings_in m) (room m (b rule_a (omega arith))) (ledger_of m) h i f.inside)
-item_shows m rule_c i b f h = f.wrong (list_right (settings_in m) (room m (b rule_a (omega arith))) m h.0 h.1 i f.inside)
-item_shows m rule_d i b f h = no_node f h
-item_shows m rule_e i b f h = no_node f h
-item_shows m rule_f i b f h = no_node f h
-item_shows m rule_g i b f h = f.wrong (cell_right (settings_in m) (room m (b rule_a (omega arith))) (ledger_of m) h i f.inside)
-item_shows m rule_i i b f h = f.wrong (h i f.inside)
+pub item_shows : (m : List ℕ) (r : Rule) (i : ℕ) → ((q : Rule) → letter# q < letter# r → Holds q m) → FirstItem r m i → Holds r m → ⊥
+item_shows m A i b f h = f.wrong (setting_right m h i)
+item_shows m B i b f h = f.wrong (range_right (settings_in m) (room m (b A (omega arith))) (ledger_of m) h i f.inside)
+item_shows m C i b f h = f.wrong (list_right (settings_in m) (room m (b A (omega arith))) m h.0 h.1 i f.inside)
+item_shows m D i b f h = no_node f h
+item_shows m E i b f h = no_node f h
+item_shows m F i b f h = no_node f h
+item_shows m G i b f h = f.wrong (cell_right (settings_in m) (room m (b A (omega arith))) (ledger_of m) h i f.inside)
+item_shows m I i b f h = f.wrong (h i f.inside)

@@ -7,10 +7,9 @@ use Prim.Native.Nat.{ℕ, zero, suc, ◌-◌, ◌/◌, ◌%◌, ◌<◌}
 use native.Mathlib.Omega.{arith}
 use lib.ListN.{replicate}
 use lib.Dec.{eqb, ltb, leb}
-use Rattle.ledger.specs.declared.Finding.{Finding}
-use Rattle.ledger.specs.declared.Finding.TheVariants.{At}
+use Rattle.std.specs.Prelude.{Option, None, Some}
 use Rattle.ledger.specs.declared.Broken.{Broken}
-use Rattle.ledger.specs.declared.Broken.TheVariants.{Nothing, B}
+use Rattle.ledger.specs.declared.Rule.TheVariants.{B}
 use Rattle.ledger.specs.Settings.{Settings, ids, row}
 use Rattle.ledger.specs.Buckets.{stop}
 use Rattle.ledger.specs.Halt.{is_mark}
@@ -33,7 +32,7 @@ use Rattle.fits.specs.declared.NodeRule.TheVariants.{OwnPort, OwnQueue, Record}
 use Rattle.fits.specs.Fits.{spared, rule_test, first_bad, or_else, list_found, fits_from, fits_found}
 use Rattle.paid.specs.Paid.{add_node, add_all, add_list, add_from, sums_of, settled_at, due_found, paid_found}
 use Rattle.halts.specs.Marks.{marks_found}
-use Rattle.sound.specs.Sound.{nodes_broken, open_broken, broken_in}
+use Rattle.sound.specs.Sound.{breaks, nodes_broken, open_broken, broken_in}
 use Rattle.findings.specs.Findings.{FindingsUnread}
 
 either : {A : Type 0} (b : Bool) {x y u w : A} → (b ≡ true → x ≡ u) → y ≡ w → cond b x y ≡ cond b u w
@@ -83,7 +82,7 @@ module _ (S : Settings) (m : List ℕ) (i v : ℕ) (hi : i < many S Buckets) whe
   scans zero l ms = refl
   scans (suc k) l ms =
       rw (nodes l, behind Tail (omega arith) l)
-      (ap (λ (f : Finding). cond (ends S ms (nodes_of S m l) (get S m Tail l) (get S m Tail l)) f (At l)) (scans k (suc l) (mark_all S ms (nodes_of S m l))))
+      (ap (λ (f : Option ℕ). cond (ends S ms (nodes_of S m l) (get S m Tail l) (get S m Tail l)) f (Some l)) (scans k (suc l) (mark_all S ms (nodes_of S m l))))
 
   once : once_found S n ≡ once_found S m
   unfolding once_found
@@ -142,8 +141,8 @@ findings_unread m i v hi =
 
 -- ---- a finding that tells of a full bucket is none
 
-abbrev pub full : List ℕ → Broken
-full m = cond (eqb (get (settings_in m) m Buckets 0) stop) (B 0) Nothing
+abbrev pub full : List ℕ → Option Broken
+full m = cond (eqb (get (settings_in m) m Buckets 0) stop) (Some (breaks B 0)) None
 
 pub full_told : (m : List ℕ) → opens m ≡ true → FindingsUnread full → ⊥
 unfolding FindingsUnread
@@ -154,7 +153,7 @@ full_told m o same =
     let kept : (v : ℕ) → settings_in (put S Buckets 0 v m) ≡ S =
     λ v. settings_put S m Buckets 0 v hi (λ e. let z : ◌≡◌ {A = ℕ} 0 1 = cc in omega arith)
     in
-    let one : B 0 ≡ full m = rw (kept stop, get_put S m Buckets 0 stop a.1 hi (omega arith)) at (same m 0 stop hi) in
-    let other : Nothing ≡ full m = rw (kept 0, get_put S m Buckets 0 0 a.1 hi (omega arith)) at (same m 0 0 hi) in
+    let one : Some (breaks B 0) ≡ full m = rw (kept stop, get_put S m Buckets 0 stop a.1 hi (omega arith)) at (same m 0 stop hi) in
+    let other : None ≡ full m = rw (kept 0, get_put S m Buckets 0 0 a.1 hi (omega arith)) at (same m 0 0 hi) in
     let z : ◌≡◌ {A = ℕ} 0 1 = cc in
     omega arith

@@ -1,8 +1,9 @@
 -- Paper 02, Q-11: what a finding says. The first rule of soundness that a memory breaks, "(a) to (i)" in their order, and the
 -- first item that shows it, in words of the ledger that the memory shows and none of the walks that look for it. Assumes nothing.
-use Rattle.std.specs.Prelude.{◌≡◌, true, List, [], ◌∷◌, ◌++◌, ℕ, suc, ◌+◌, ◌-◌, ◌*◌, ◌/◌, ◌%◌, ◌≤◌, ◌<◌, length, get_or, take}
+use Rattle.std.specs.Prelude.{◌≡◌, true, List, [], ◌∷◌, ◌++◌, ℕ, suc, ◌+◌, ◌-◌, ◌*◌, ◌/◌, ◌%◌, ◌≤◌, ◌<◌, length, get_or, take, Option, None, Some}
 use Rattle.ledger.specs.declared.Broken.{Broken}
-use Rattle.ledger.specs.declared.Broken.TheVariants.{Nothing, A, B, C, D, E, F, G, I}
+use Rattle.ledger.specs.declared.Rule.{Rule}
+use Rattle.ledger.specs.declared.Rule.TheVariants.{A, B, C, D, E, F, G, I}
 use Rattle.ledger.specs.Settings.{Settings, setting_count, in_row, ids, size}
 use Rattle.ledger.specs.Ledger.{is_node, Packet, Place, prefetched, place_of, buckets, tall, Ledger, list_at, arrival_of, last_of, map_of, mark_of}
 use Rattle.ledger.specs.Halt.{is_mark}
@@ -16,18 +17,15 @@ use Rattle.layout.specs.Picture.{settings_in, opens, ledger_in, Hangs, State}
 -- ---- the rules, by their letters
 
 -- (h) comes with a later request, and keeps its number
-pub data Letter : Type 0 where
-  rule_a rule_b rule_c rule_d rule_e rule_f rule_g rule_i : Letter
-
-abbrev pub letter# : Letter → ℕ
-letter# rule_a = 1
-letter# rule_b = 2
-letter# rule_c = 3
-letter# rule_d = 4
-letter# rule_e = 5
-letter# rule_f = 6
-letter# rule_g = 7
-letter# rule_i = 9
+abbrev pub letter# : Rule → ℕ
+letter# A = 1
+letter# B = 2
+letter# C = 3
+letter# D = 4
+letter# E = 5
+letter# F = 6
+letter# G = 7
+letter# I = 9
 
 -- the ledger that a memory shows by its own settings
 abbrev pub ledger_of : List ℕ → Ledger
@@ -42,15 +40,15 @@ abbrev pub Settled : Settings → Ledger → ℕ → ℕ → Type 0
 Settled S L p q = arrival_of S L p q + weigh (owed S p q) L.lists ≡ S.credit
 
 -- the rule, of a memory; that its lists hang together is part of (c)
-abbrev pub Holds : Letter → List ℕ → Type 0
-Holds rule_a m = opens m ≡ true
-Holds rule_b m = InRange (settings_in m) (ledger_of m)
-Holds rule_c m = ((l : ℕ) → l < lists (settings_in m) → Hangs (settings_in m) m l) × Once (settings_in m) (ledger_of m).lists
-Holds rule_d m = Everywhere (placed OwnPort (settings_in m)) (ledger_of m).lists
-Holds rule_e m = Everywhere (placed OwnQueue (settings_in m)) (ledger_of m).lists
-Holds rule_f m = Everywhere (placed (WellRecorded (settings_in m)) (settings_in m)) (ledger_of m).lists
-Holds rule_g m = (p q : ℕ) → p < (settings_in m).ports → 0 < q → q < (settings_in m).queues → Settled (settings_in m) (ledger_of m) p q
-Holds rule_i m = Marked (settings_in m) (ledger_of m)
+abbrev pub Holds : Rule → List ℕ → Type 0
+Holds A m = opens m ≡ true
+Holds B m = InRange (settings_in m) (ledger_of m)
+Holds C m = ((l : ℕ) → l < lists (settings_in m) → Hangs (settings_in m) m l) × Once (settings_in m) (ledger_of m).lists
+Holds D m = Everywhere (placed OwnPort (settings_in m)) (ledger_of m).lists
+Holds E m = Everywhere (placed OwnQueue (settings_in m)) (ledger_of m).lists
+Holds F m = Everywhere (placed (WellRecorded (settings_in m)) (settings_in m)) (ledger_of m).lists
+Holds G m = (p q : ℕ) → p < (settings_in m).ports → 0 < q → q < (settings_in m).queues → Settled (settings_in m) (ledger_of m) p q
+Holds I m = Marked (settings_in m) (ledger_of m)
 
 -- ---- the items of a rule, in their order, and what is right of each
 
@@ -102,37 +100,31 @@ pub record FirstNode (P : ℕ → Packet → Type 0) (ls : List (List Packet)) (
   pub before : All (P list) front
   pub earlier : (l : ℕ) → l < list → All (P l) (get_or ls l [])
 
-abbrev pub FirstItem : Letter → List ℕ → ℕ → Type 0
-FirstItem rule_a m = FirstOf (SettingRight m) (suc setting_count)
-FirstItem rule_b m = let S = settings_in m in FirstOf (RangeRight S (ledger_of m)) (S.ports + ids + S.ports * S.queues)
-FirstItem rule_c m = let S = settings_in m in FirstOf (ListRight S m) (lists S + all S)
-FirstItem rule_d m = FirstNode (placed OwnPort (settings_in m)) (ledger_of m).lists
-FirstItem rule_e m = FirstNode (placed OwnQueue (settings_in m)) (ledger_of m).lists
-FirstItem rule_f m = FirstNode (placed (WellRecorded (settings_in m)) (settings_in m)) (ledger_of m).lists
-FirstItem rule_g m = let S = settings_in m in FirstOf (CellRight S (ledger_of m)) (cells S)
-FirstItem rule_i m = FirstOf (MarkRight (ledger_of m)) (settings_in m).ports
+abbrev pub FirstItem : Rule → List ℕ → ℕ → Type 0
+FirstItem A m = FirstOf (SettingRight m) (suc setting_count)
+FirstItem B m = let S = settings_in m in FirstOf (RangeRight S (ledger_of m)) (S.ports + ids + S.ports * S.queues)
+FirstItem C m = let S = settings_in m in FirstOf (ListRight S m) (lists S + all S)
+FirstItem D m = FirstNode (placed OwnPort (settings_in m)) (ledger_of m).lists
+FirstItem E m = FirstNode (placed OwnQueue (settings_in m)) (ledger_of m).lists
+FirstItem F m = FirstNode (placed (WellRecorded (settings_in m)) (settings_in m)) (ledger_of m).lists
+FirstItem G m = let S = settings_in m in FirstOf (CellRight S (ledger_of m)) (cells S)
+FirstItem I m = FirstOf (MarkRight (ledger_of m)) (settings_in m).ports
 
 -- ---- a finding
 
 -- rule r is the first that is broken, and item i the first that shows it
-pub record Finds (r : Letter) (i : ℕ) (m : List ℕ) : Type 0 where
-  pub before : (q : Letter) → letter# q < letter# r → Holds q m
+pub record Finds (r : Rule) (i : ℕ) (m : List ℕ) : Type 0 where
+  pub before : (q : Rule) → letter# q < letter# r → Holds q m
   pub broken : Holds r m → ⊥
   pub first : FirstItem r m i
 
-abbrev pub Means : Broken → List ℕ → Type 0
-Means Nothing m = State m
-Means (A i) m = Finds rule_a i m
-Means (B i) m = Finds rule_b i m
-Means (C i) m = Finds rule_c i m
-Means (D i) m = Finds rule_d i m
-Means (E i) m = Finds rule_e i m
-Means (F i) m = Finds rule_f i m
-Means (G i) m = Finds rule_g i m
-Means (I i) m = Finds rule_i i m
+-- what a finding means: none, that the memory is a switch state
+abbrev pub Means : Option Broken → List ℕ → Type 0
+Means None m = State m
+Means (Some b) m = Finds b.rule b.item m
 
 -- ---- no bucket is read (paper 02, Q-13)
 
 -- whatever number is put in a bucket, the same is found, of every memory
-unfoldable pub FindingsUnread : (List ℕ → Broken) → Type 0
+unfoldable pub FindingsUnread : (List ℕ → Option Broken) → Type 0
 FindingsUnread find = (m : List ℕ) (i v : ℕ) → i < tall (settings_in m) buckets → find (put (settings_in m) Buckets i v m) ≡ find m
