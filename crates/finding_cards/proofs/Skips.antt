@@ -8,10 +8,9 @@ use lib.ListN.{get_or, drop}
 use lib.Seq.{get_or-drop}
 use lib.Dec.{eqb, ltb}
 use Rattle.numbers.specs.Bytes.{number}
-use Rattle.ledger.specs.declared.Finding.{Finding}
-use Rattle.ledger.specs.declared.Finding.TheVariants.{At}
+use Rattle.std.specs.Prelude.{Option, Some}
 use Rattle.ledger.specs.declared.Broken.{Broken}
-use Rattle.ledger.specs.declared.Broken.TheVariants.{A, B, C}
+use Rattle.ledger.specs.declared.Rule.TheVariants.{A, B, C}
 use Rattle.ledger.specs.Settings.{Settings, setting_count, ids}
 use Rattle.ledger.specs.Ledger.{last, mapped}
 use Rattle.ledger.specs.Sound.{All}
@@ -25,7 +24,7 @@ use Rattle.ranges.specs.Opening.{out_at}
 use Rattle.ranges.specs.Ranges.{fits_at, ranges_found}
 use Rattle.ranges.proofs.Items.{fits_number}
 use Rattle.once.specs.Once.{once_found}
-use Rattle.sound.specs.Sound.{or_next, nodes_broken, open_broken, broken_in}
+use Rattle.sound.specs.Sound.{breaks, or_next, nodes_broken, open_broken, broken_in}
 use Rattle.finding_cards.specs.Cards.{Card, Holds}
 
 -- the first n bytes are zero, as far as there are so many
@@ -54,9 +53,9 @@ pass ok (suc a) i n h =
         ∙ unfold first_from in (rw (h i (omega arith) (omega arith)))
 
 -- the search of n numbers from i on, then of k from j on where those pass
-abbrev pub twice : (ℕ → Bool) → ℕ → ℕ → ℕ → ℕ → Finding
+abbrev pub twice : (ℕ → Bool) → ℕ → ℕ → ℕ → ℕ → Option ℕ
 twice ok i zero j k = first_from ok j k
-twice ok i (suc n) j k = cond (ok i) (twice ok (suc i) n j k) (At i)
+twice ok i (suc n) j k = cond (ok i) (twice ok (suc i) n j k) (Some i)
 
 -- a search of n numbers, a that pass, and k
 split : (ok : ℕ → Bool) (n i a k : ℕ) → ((x : ℕ) → i + n ≤ x → x < i + n + a → ok x ≡ true) → first_from ok i (n + (a + k)) ≡ twice ok i n (i + n + a) k
@@ -65,9 +64,9 @@ split ok zero i a k h =
     ∙ pass ok a i k (λ x low high. h x (omega arith) (omega arith))
     ∙ (let e : i + a ≡ i + 0 + a = omega arith in ap (λ (j : ℕ). first_from ok j k) e)
 split ok (suc n) i a k h =
-    one ∙ ap (λ (f : Finding). cond (ok i) f (At i)) (split ok n (suc i) a k (λ x low high. h x (omega arith) (omega arith)) ∙ next)
+    one ∙ ap (λ (f : Option ℕ). cond (ok i) f (Some i)) (split ok n (suc i) a k (λ x low high. h x (omega arith) (omega arith)) ∙ next)
   where
-    one : first_from ok i (suc n + (a + k)) ≡ cond (ok i) (first_from ok (suc i) (n + (a + k))) (At i)
+    one : first_from ok i (suc n + (a + k)) ≡ cond (ok i) (first_from ok (suc i) (n + (a + k))) (Some i)
     one =
         (let e : suc n + (a + k) ≡ suc (n + (a + k)) = omega arith in ap (first_from ok i) e)
         ∙ unfold first_from in refl
@@ -76,12 +75,13 @@ split ok (suc n) i a k h =
     next = let e : suc i + n + a ≡ i + suc n + a = omega arith in ap (λ (j : ℕ). twice ok (suc i) n j k) e
 
 -- rule (b) without the map's entries
-abbrev pub besides : Settings → List ℕ → Finding
+abbrev pub besides : Settings → List ℕ → Option ℕ
 besides S m = twice (fits_at S m) 0 S.ports (S.ports + ids) (S.ports * S.queues)
 
-abbrev pub skipping : List ℕ → Broken
+abbrev pub skipping : List ℕ → Option Broken
 skipping m =
-    cond (opens m) (or_next (besides (settings_in m) m) B (or_next (once_found (settings_in m) m) C (nodes_broken (settings_in m) m))) (A (out_at m))
+    cond (opens m) (or_next (besides (settings_in m) m) B (or_next (once_found (settings_in m) m) C (nodes_broken (settings_in m) m)))
+    (Some (breaks A (out_at m)))
 
 module _ (m : List ℕ) (z : zeros ids (drop (2 * setting_count) m) ≡ true) where
   entry_zero : (S : Settings) (d : ℕ) → d < ids → get S m Mapped d ≡ 0
