@@ -1,7 +1,7 @@
 -- The laws of the checksum: what one bit, one byte and one place further give. Assumes nothing.
 use mathlib.Core.Path.{◌≡◌, ◌∙◌}
 use mathlib.Core.List.{List}
-use Prim.Native.Nat.{ℕ, zero, suc, ◌+◌, ◌-◌, ◌*◌, ◌^◌, ◌<◌, ◌≤◌}
+use Prim.Native.Nat.{ℕ, suc, ◌+◌, ◌-◌, ◌*◌, ◌^◌, ◌<◌, ◌≤◌}
 use native.Mathlib.Nat.{mod-eq_of_lt, zero-add}
 use native.Mathlib.Numerals.{add-one}
 use native.Mathlib.Omega.{arith}
@@ -28,10 +28,14 @@ pub byte_starts : (c b : ℕ) → b < 256 → crc_bits 8 (bit_xor c b) ≡ crc_b
 unfolding crc_byte
 byte_starts c b small = rw (mod-eq_of_lt small)
 
-pub bits_fall : (n x : ℕ) → 0 < n → crc_bits (n - 1) (crc_bit x) ≡ crc_bits n x
+-- of n bits k were taken: the next, until none is left
+pub bits_fall : (n k x : ℕ) → k < n → crc_bits (n - (k + 1)) (crc_bit x) ≡ crc_bits (n - k) x
 unfolding crc_bits
-bits_fall zero x h = absurd (omega arith)
-bits_fall (suc n) x h = let e : suc n - 1 ≡ n = omega arith in rw e
+bits_fall n k x h = let e : n - k ≡ suc (n - (k + 1)) = omega arith in rw e
+
+pub bits_none : (n k x : ℕ) → n ≤ k → crc_bits (n - k) x ≡ x
+unfolding crc_bits
+bits_none n k x h = let e : n - k ≡ 0 = omega arith in rw e
 
 -- the byte at place i is the next of those that are left, until none is
 pub from_next : (c : ℕ) (bs : List ℕ) (i : ℕ) → i < length bs → crc_from c (drop i bs) ≡ crc_from (crc_byte c (get_or bs i 0)) (drop (i + 1) bs)

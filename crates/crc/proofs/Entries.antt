@@ -6,8 +6,10 @@ use Prim.Native.Nat.{ℕ, zero, suc, ◌+◌, ◌<◌}
 use native.Mathlib.Nat.{add-zero, zero-add, add-suc, suc-add, le_of_suc-le-suc, not-suc-le-zero}
 use lib.Dec.{T, eqb, eqb→eq}
 use lib.ListN.{length, get_or}
-use Rattle.crc.specs.Crc.{Steps, crc_bit, crc_bits}
+use lib.Bits.{bit_xor, xor_lt}
+use Rattle.crc.specs.Crc.{Steps, crc_bit, crc_bits, crc_byte}
 use Rattle.crc.specs.declared.table.TheConstants.{STEPS}
+use Rattle.crc.proofs.Crc.{byte_starts}
 
 -- each entry is the rule's answer at its place; the places are counted from i
 abbrev obeys : (ℕ → ℕ) → ℕ → List ℕ → Bool
@@ -38,3 +40,7 @@ step_at t is = is
 pub table_right : Steps STEPS
 unfolding crc_bit crc_bits
 table_right = tested STEPS tt refl
+
+-- so a byte's entry is found by the sum and the byte, joined
+pub byte_entry : (c b : ℕ) → c < 256 → b < 256 → get_or STEPS (bit_xor c b) 0 ≡ crc_byte c b
+byte_entry c b small few = step_at STEPS table_right (bit_xor c b) (xor_lt 8 c b small few) ∙ byte_starts c b few

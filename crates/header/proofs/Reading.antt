@@ -1,29 +1,30 @@
--- The laws of reading a header: where its fields stand, that the answer's meaning determines it, and that what was found says what the bytes
--- are. Assumes nothing.
+-- The laws of reading a header: where its fields stand, that the answer's meaning determines it, and what the code's load is. Assumes nothing.
 use mathlib.Core.Path.{◌≡◌, refl, sym, ap, ap₂, ◌∙◌, subst}
-use mathlib.Core.Bool.{Bool, true, false}
 use mathlib.Core.List.{List, [], ◌∷◌, ◌++◌}
 use Prim.Native.Nat.{ℕ, ◌+◌, ◌-◌, ◌*◌, ◌/◌, ◌^◌, ◌≤◌, ◌<◌}
 use native.Mathlib.Omega.{arith}
 use lib.ListN.{length}
-use lib.Dec.{eqb}
-use lib.Pow.{high}
+use lib.Pow.{high, pow_mono}
 use Rattle.std.specs.Prelude.{Option, None, Some}
 use Rattle.numbers.specs.Bytes.{number}
-use Rattle.numbers.specs.Fields.{total, unpack}
+use Rattle.numbers.specs.Fields.{bits, total, unpack}
 use Rattle.numbers.proofs.Bytes.{number_lt, number_split, pow_bytes}
+use Rattle.numbers.proofs.Fields.{bits_lt}
 use Rattle.numbers.proofs.Parts.{unpack_parts, bytewise, numbers_at, pow_total, unpack_bytes}
-use Rattle.ledger.specs.Header.{Form, Fields, fields_of, front_bytes, body_size, header_size, widths, in_order, Load, bytes_in, missized, miscounted}
+use Rattle.ledger.specs.Header.{Form, Fields, fields_of, front_bytes, body_size, header_size, widths, in_order, bytes_in, missized, miscounted}
 use Rattle.ledger.specs.Answers.{load_of}
 use Rattle.ledger.specs.declared.Load as code
 use Rattle.ledger.specs.declared.Load.TheVariants as load
-use Rattle.ledger.proofs.Tests.{eqb_yes, not_yes, ltb_no}
 use Rattle.header.specs.Front.{front_widths}
-use Rattle.header.specs.Parse.{fields, wrong_size, parsed, header_of, parsed_of}
+use Rattle.header.specs.Parse.{header_of, parsed_of}
 use Rattle.header.specs.Loads.{misfit, other}
 use Rattle.header.specs.declared.HeaderFields.{HeaderFields}
 
 -- ---- where the fields stand
+
+-- a field of eight bits or fewer is a byte
+pub bits_few : (lo width w : ℕ) → width ≤ 8 → bits lo width w < 256
+bits_few lo width w few = omega (arith, bits_lt lo width w, pow_mono few)
 
 -- the bytes of the fields behind the front: timestamp, credit, transaction
 abbrev pub back_bytes : Form → List ℕ
@@ -100,37 +101,9 @@ parsed_of_injective (Some a) None e = cc
 parsed_of_injective None (Some b) e = cc
 parsed_of_injective None None e = refl
 
-module _ (F : Form) (h : Load) where
-  -- by the size
-  pub parsed_right : missized F h ≡ false → parsed F h ≡ fields (fields_of F (bytes_in h))
-  unfolding parsed
-  parsed_right e = rw e
-
-  pub parsed_other : missized F h ≡ true → parsed F h ≡ wrong_size
-  unfolding parsed
-  parsed_other e = rw e
-
-  -- and back, from what was found
-  pub parsed_size : (f : Fields) → parsed F h ≡ fields f → missized F h ≡ false
-  parsed_size f e = go (missized F h) refl
-    where
-      go : (t : Bool) → missized F h ≡ t → missized F h ≡ false
-      go true t = let other = parsed_other t in cc
-      go false t = t
-
-  pub parsed_fields : (f : Fields) → parsed F h ≡ fields f → f ≡ fields_of F (bytes_in h)
-  parsed_fields f e = let right = parsed_right (parsed_size f e) in cc
-
-  pub parsed_wrong : parsed F h ≡ wrong_size → missized F h ≡ true
-  parsed_wrong e = go (missized F h) refl
-    where
-      go : (t : Bool) → missized F h ≡ t → missized F h ≡ true
-      go true t = t
-      go false t = let found = parsed_right t in cc
-
 -- ---- the code's load
 
--- it says of the bytes what the load itself does, and bytes that fit have a header in front
+-- it says of the bytes what the load itself does
 pub misfit_is : (F : Form) (l : code.Load) (b : List ℕ) → missized F (load_of l b) ≡ misfit l (length b) (header_size F)
 misfit_is F load.Header b = refl
 misfit_is F (load.Packet room) b = refl
@@ -142,7 +115,3 @@ other_is F (load.Packet room) b = refl
 pub bytes_are : (l : code.Load) (b : List ℕ) → bytes_in (load_of l b) ≡ b
 bytes_are load.Header b = refl
 bytes_are (load.Packet room) b = refl
-
-pub fit_long : (l : code.Load) (n size : ℕ) → misfit l n size ≡ false → size ≤ n
-fit_long load.Header n size e = let s = eqb_yes n size (not_yes (eqb n size) e) in omega arith
-fit_long (load.Packet room) n size e = ltb_no n size e

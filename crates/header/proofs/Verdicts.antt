@@ -1,22 +1,20 @@
--- The laws of judging a header: the answer's meaning determines it, and each verdict by the tests that lead to it. Assumes nothing.
+-- The laws of judging a header: an arrival's verdict by its parts, what a verdict says, and that the answer's meaning determines it. Assumes
+-- nothing.
 use mathlib.Core.Path.{◌≡◌, refl, sym}
 use mathlib.Core.Bool.{Bool, true, false, not}
 use mathlib.Core.List.{List, [], ◌∷◌, ◌++◌}
 use Prim.Native.Nat.{ℕ}
 use lib.Dec.{eqb}
-use lib.ListN.{take}
-use borrow.Author.Tests.{eq-eqb, ne_eqb}
+use borrow.Author.Tests.{eq-eqb}
 use Rattle.std.specs.Prelude.{Result, Ok, Err}
-use Rattle.crc.specs.Crc.{crc8}
-use Rattle.ledger.specs.Header.{Form, Fields, fields_of, body_size, Load, bytes_in, size_number, missized, miscounted, arrival_rules}
+use Rattle.ledger.specs.Header.{Form, Fields, fields_of, Load, bytes_in, miscounted, arrival_rules}
 use Rattle.ledger.specs.Rules.{Rule, refuse, guard, Clear}
 use Rattle.ledger.specs.declared.Refusal.{Refusal}
 use Rattle.ledger.proofs.Passes.{Passes, passes, guard_after}
 use Rattle.ledger.proofs.Answers.{number_inj}
-use Rattle.header.specs.Parse.{fields, wrong_size, parsed}
 use Rattle.header.specs.Judge.{bad, good, verdict, verdict_of, byte_rules, field_rules, opened, settled}
 use Rattle.header.specs.declared.HeaderFields.{HeaderFields}
-use Rattle.header.proofs.Reading.{header_of_injective, parsed_size, parsed_fields, parsed_wrong}
+use Rattle.header.proofs.Reading.{header_of_injective}
 
 -- ---- rules one after another
 
@@ -32,34 +30,6 @@ pub first_good : (rs : List Rule) (f g : Fields) → good g ≡ guard rs bad (go
 first_good [] f g e = (cc, tt)
 first_good (refuse n true ∷ rs) f g e = cc
 first_good (refuse n false ∷ rs) f g e = let later = first_good rs f g e in (later.0, (refl, later.1))
-
--- ---- the bytes
-
-module _ (F : Form) (h : Load) where
-  pub of_size : parsed F h ≡ wrong_size → bad (size_number h) ≡ opened F h
-  of_size e = rw (parsed_wrong F h e)
-
-  -- from here on the size is right, and f has the header's fields
-  module _ (f : Fields) (found : parsed F h ≡ fields f) where
-    size : missized F h ≡ false
-    size = parsed_size F h f found
-
-    same : fields_of F (bytes_in h) ≡ f
-    same = sym (parsed_fields F h f found)
-
-    pub of_sum : (f.check ≡ crc8 (take (body_size F) (bytes_in h)) → ⊥) → bad 7 ≡ opened F h
-    of_sum wrong = rw (same, size, ne_eqb f.check (crc8 (take (body_size F) (bytes_in h))) wrong)
-
-    -- and the checksum too
-    module _ (sum : f.check ≡ crc8 (take (body_size F) (bytes_in h))) where
-      abbrev summed : eqb f.check (crc8 (take (body_size F) (bytes_in h))) ≡ true
-      summed = eq-eqb f.check (crc8 (take (body_size F) (bytes_in h))) sum
-
-      pub of_reserved : (f.reserved ≡ 0 → ⊥) → bad 20 ≡ opened F h
-      of_reserved set = rw (same, size, summed, ne_eqb f.reserved 0 set)
-
-      pub of_bytes : f.reserved ≡ 0 → good f ≡ opened F h
-      of_bytes clear = rw (same, size, summed, eq-eqb f.reserved 0 clear)
 
 -- ---- an arrival
 

@@ -43,6 +43,7 @@ struct Front {
 }
 
 // A field of at most eight bits.
+#[tactic(auto, using(crate::proofs::Reading::bits_few))]
 fn small(w: u32, lo: u32, width: u32) -> u8
     requires { (lo < 32) × (width ≤ 8) }
     ensures { result ≡ bits lo width w }
@@ -51,6 +52,7 @@ fn small(w: u32, lo: u32, width: u32) -> u8
 }
 
 // The front of a header as a number: its three or four bytes stand first, and what a word of four has beside them goes.
+#[tactic(auto, using(crate::proofs::Reading::front_of_word))]
 fn front_word(h: &[u8], form: HeaderForm) -> u32
     requires { header_size (form_in form) ≤ length h.now }
     ensures { result ≡ number form.front h.now 0 }
@@ -152,6 +154,7 @@ fn size_refusal(load: Load) -> Refusal
 }
 
 // The fields of what arrives: none where its size is wrong. Nothing but the size is asked.
+#[tactic(auto, using(crate::proofs::Reading::misfit_is, crate::proofs::Reading::bytes_are), unfolding(crate::specs::Parse::parsed))]
 pub fn parse(load: Load, h: &[u8], form: HeaderForm) -> Option<HeaderFields>
     ensures { parsed_of result ≡ parsed (form_in form) (load_of load h.now) }
 {
@@ -162,6 +165,7 @@ pub fn parse(load: Load, h: &[u8], form: HeaderForm) -> Option<HeaderFields>
 }
 
 // The refusals that are tested before the source: of the bytes, and of the reserved bits.
+#[tactic(auto, using(crate::proofs::Reading::misfit_is, crate::proofs::Reading::bytes_are), unfolding(crate::specs::Parse::parsed, ledger::specs::Header::header_size))]
 fn open(load: Load, h: &[u8], form: HeaderForm) -> Result<HeaderFields, Refusal>
     ensures { verdict_of result ≡ opened (form_in form) (load_of load h.now) }
 {

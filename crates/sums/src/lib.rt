@@ -5,6 +5,7 @@ ghost use Rattle.std.specs.Prelude.{◌≡◌};
 ghost use Rattle.crc.specs.Crc.{crc_bit, crc_byte, crc8};
 
 // One bit. Where a one falls out at the top, the polynomial's highest bit goes with it, and 7 is left of 0x107.
+#[tactic(auto, using(crc::proofs::Crc::bit_low, crc::proofs::Crc::bit_high))]
 fn bit(c: u8) -> u8
     ensures { result ≡ crc_bit c }
 {
@@ -12,6 +13,7 @@ fn bit(c: u8) -> u8
 }
 
 // One byte: it is joined to the sum so far, and its eight bits are shifted out.
+#[tactic(auto, using(crc::proofs::Crc::byte_starts, crc::proofs::Crc::bits_fall, crc::proofs::Crc::bits_none))]
 fn step(c: u8, b: u8) -> u8
     ensures { result ≡ crc_byte c b }
 {
@@ -23,6 +25,7 @@ fn step(c: u8, b: u8) -> u8
 }
 
 // All bytes.
+#[tactic(auto, using(crc::proofs::Crc::from_next, crc::proofs::Crc::from_end), unfolding(crc::specs::Crc::crc8))]
 fn bitwise(s: &[u8]) -> u8
     ensures { result ≡ crc8 s.now }
 {
