@@ -139,6 +139,7 @@ fn body(v: Label, form: HeaderForm) -> [u8; 12]
 }
 
 // The whole header, with its checksum.
+#[tactic(auto, using(crate::proofs::Labels::header_stored))]
 fn seal(v: Label, form: HeaderForm) -> [u8; 12]
     requires { Fit (widths (form_in form)) (values (label_in v)) }
     ensures { result ≡ padded (header_for (form_in form) (label_in v)) }

@@ -115,3 +115,5 @@ other_is F (load.Packet room) b = refl
 pub bytes_are : (l : code.Load) (b : List ℕ) → bytes_in (load_of l b) ≡ b
 bytes_are load.Header b = refl
 bytes_are (load.Packet room) b = refl
+
+pub ruleset loads = (misfit_is, bytes_are)

@@ -154,7 +154,7 @@ fn size_refusal(load: Load) -> Refusal
 }
 
 // The fields of what arrives: none where its size is wrong. Nothing but the size is asked.
-#[tactic(auto, using(crate::proofs::Reading::misfit_is, crate::proofs::Reading::bytes_are), unfolding(crate::specs::Parse::parsed))]
+#[tactic(auto, using(crate::proofs::Reading::loads), unfolding(crate::specs::Parse::parsed))]
 pub fn parse(load: Load, h: &[u8], form: HeaderForm) -> Option<HeaderFields>
     ensures { parsed_of result ≡ parsed (form_in form) (load_of load h.now) }
 {
@@ -165,7 +165,7 @@ pub fn parse(load: Load, h: &[u8], form: HeaderForm) -> Option<HeaderFields>
 }
 
 // The refusals that are tested before the source: of the bytes, and of the reserved bits.
-#[tactic(auto, using(crate::proofs::Reading::misfit_is, crate::proofs::Reading::bytes_are), unfolding(crate::specs::Parse::parsed, ledger::specs::Header::header_size))]
+#[tactic(auto, using(crate::proofs::Reading::loads), unfolding(crate::specs::Parse::parsed, ledger::specs::Header::header_size))]
 fn open(load: Load, h: &[u8], form: HeaderForm) -> Result<HeaderFields, Refusal>
     ensures { verdict_of result ≡ opened (form_in form) (load_of load h.now) }
 {
