@@ -8,7 +8,7 @@ use lib.Dec.{T, eqb, eqb→eq}
 use lib.ListN.{length, get_or}
 use lib.Bits.{bit_xor, xor_lt}
 use Rattle.crc.specs.Crc.{Steps, crc_bit, crc_bits, crc_byte}
-use Rattle.crc.specs.declared.table.TheConstants.{STEPS}
+use Rattle.crc.specs.declared.table.TheConstants.{TABLE}
 use Rattle.crc.proofs.Crc.{byte_starts}
 
 -- each entry is the rule's answer at its place; the places are counted from i
@@ -37,10 +37,10 @@ unfolding Steps
 step_at t is = is
 
 -- the code's table is one
-pub table_right : Steps STEPS
+pub table_right : Steps TABLE
 unfolding crc_bit crc_bits
-table_right = tested STEPS tt refl
+table_right = tested TABLE tt refl
 
 -- so a byte's entry is found by the sum and the byte, joined
-pub byte_entry : (c b : ℕ) → c < 256 → b < 256 → get_or STEPS (bit_xor c b) 0 ≡ crc_byte c b
-byte_entry c b small few = step_at STEPS table_right (bit_xor c b) (xor_lt 8 c b small few) ∙ byte_starts c b few
+pub byte_entry : (c b : ℕ) → c < 256 → b < 256 → get_or TABLE (bit_xor c b) 0 ≡ crc_byte c b
+byte_entry c b small few = step_at TABLE table_right (bit_xor c b) (xor_lt 8 c b small few) ∙ byte_starts c b few

@@ -2,7 +2,7 @@
 // the part of a port's memory that has it is handed back. And whether a switch keeps packets, in memories of which size.
 #![tactic(auto)]
 
-ghost use Rattle.std.specs.Prelude.{◌≡◌, List, ℕ, ◌+◌, ◌≤◌, length};
+ghost use Rattle.std.specs.Prelude.{◌≡◌, List, ℕ, ◌+◌, ◌++◌, ◌≤◌, drop, length};
 ghost use Rattle.ledger.specs.Settings.{slot_bytes, keeps_packets};
 ghost use Rattle.ledger.specs.Calls.{other_size};
 ghost use Rattle.ledger.specs.Packets.{slot_at, stored};
@@ -38,14 +38,21 @@ pub fn slot_of(id: EntryId) -> usize
     usize::from(id.index()) * SLOT
 }
 
-// A packet stored in its node's slot, whose rest stays: the slot's part of the memory is lent on to the copier.
-#[tactic(auto, unfolding(ledger::specs::Packets::stored))]
+// The copier: a packet to the front of a slot, whose rest stays.
+fn copy(slot: &mut [u8], packet: &[u8])
+    requires { length packet.now ≤ length slot.old }
+    ensures { slot.new ≡ packet.now ++ drop (length packet.now) slot.old }
+{
+    slot[..packet.len()].copy_from_slice(packet);
+}
+
+// A packet stored in its node's slot: the slot's part of the memory is lent on to the copier.
 pub fn keep(packets: &mut [u8], id: EntryId, packet: &[u8])
     requires { (slot_at id.0 + slot_bytes ≤ length packets.old) × (length packet.now ≤ slot_bytes) }
     ensures { packets.new ≡ stored (slot_at id.0) packet.now packets.old }
 {
     let at = slot_of(id);
-    packets[at..at + packet.len()].copy_from_slice(packet);
+    copy(&mut packets[at..at + SLOT], packet);
 }
 
 // n bytes of a port's memory, one of four, from byte `at` on.
