@@ -10,8 +10,8 @@ ghost use Rattle.labels.specs.Labels.{label_at, label_numbers, label_room, writt
 use codec::{Label, Written};
 use ledger::Refusal;
 
-// The label that the eight numbers say.
-// kept: the C interface: these are the numbers of struct vr_header, of which codec, where a From of its Label would stand, knows nothing.
+// The label that the eight numbers say, and below its numbers.
+// kept: the C interface: they are those of struct vr_header, of which codec, where a From for its Label would have to stand, knows nothing.
 pub fn label_at(fields: &[u32; 8]) -> Label
     ensures { label_in result ≡ label_at fields.now }
 {
