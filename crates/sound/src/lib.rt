@@ -2,8 +2,9 @@
 // first, and where it doesn't tell, the rules in the paper's order, a walk each, up to the first that is broken.
 #![tactic(auto)]
 
-ghost use Rattle.std.specs.Prelude.{◌≡◌, ◌*◌, ◌≤◌};
+ghost use Rattle.std.specs.Prelude.{◌≡◌, ◌*◌, ◌≤◌, IfOk};
 ghost use Rattle.layout.specs.Tables.{settings_of};
+ghost use Rattle.memory.specs.Judged.{Works};
 ghost use Rattle.ranges.specs.Opening.{Open};
 ghost use Rattle.once.specs.Once.{once_found};
 ghost use Rattle.once.specs.Walks.{Blank};
@@ -92,7 +93,8 @@ fn whole_in(m: &[u8], s: Shape) -> bool
 // Whether a memory is a switch state. Which rule it breaks isn't asked, so that one walk of the lists decides.
 #[tactic(auto, using(crate::proofs::Means::testing))]
 pub fn test(m: &[u8]) -> Result<Shape, Refusal>
-    ensures { result ≡ tested_in m.now }
+    ensures told { result ≡ tested_in m.now }
+    ensures works { IfOk result (λ s. Works s m.now) }
 {
     match ranges::open(m) {
         Ok(s) if whole_in(m, s) => Ok(s),
