@@ -5,26 +5,21 @@ use mathlib.Core.Path.{◌≡◌, refl, sym, ap, ◌∙◌}
 use mathlib.Core.List.{List, []}
 use Prim.Native.Nat.{ℕ}
 use native.Mathlib.Omega.{arith}
-use borrow.Fn.Claims.{AllOf}
-use contract.Lifetimes.{Lfts}
-use denote.Ref.{MutBor}
-use denote.Triple.Entry.{Args, Res}
-use denote.Triple.Clauses.{Lasts, at_exit}
+use denote.Ref.{Bor, MutBor}
 use lib.ListN.{get_or, replicate}
-use Rattle.ledger.specs.Answers.{stitch_reply}
-use Rattle.ledger.specs.Outcome.{Contract, OneOutcome}
-use Rattle.ledger.specs.Calls.{Reply, refused}
+use Rattle.std.specs.Prelude.{Result, Err}
+use Rattle.ledger.specs.Answers.{reply_by, stitch_reply}
+use Rattle.ledger.specs.Outcome.{OneOutcome}
+use Rattle.ledger.specs.Calls.{Reply, refused, stitched}
 use Rattle.ledger.specs.Calls as calls
 use Rattle.ledger.specs.Desk.{act}
-use Rattle.ledger.specs.declared.Plain.TheVariants.{No}
+use Rattle.ledger.specs.declared.Refusal.{Refusal}
 use Rattle.ledger.specs.declared.Refusal.TheVariants.{NoState}
 use Rattle.ledger.proofs.Answers.{plain_inj, stitch_inj, entry_inj, turn_inj, ready_inj, where_inj, report_inj, bucket_inj, show_inj}
 use Rattle.memory.specs.Memory.{M}
 use Rattle.memory.proofs.Demands.{off_state}
 use Rattle.memory.proofs.Image.{zero_no_state}
 use Rattle.runs.proofs.Outcomes.{outcome_inj}
-use Rattle.ledger.specs.Answers.{record_in}
-use Rattle.ledger.specs.declared.Stitched.{Stitched}
 use Rattle.switch.specs.contracts.set_up
 use Rattle.switch.proofs.set_up.Reads as set_up_says
 use Rattle.switch.specs.contracts.arrive
@@ -96,6 +91,9 @@ pub arrive_packet_one : OneOutcome arrive_packet.ended arrive_packet_says.Learnt
 arrive_packet_one κs a r r₂ left left₂ p q =
     let t = roomed {B = List ℕ × (List ℕ × (Unit {0} × (Unit {0} × Unit {0})))} (λ m k. (m, (k, (tt, (tt, tt))))) p q in (entry_inj r r₂ t.0, t.1)
 
+pub stitch_one : OneOutcome stitch.ended stitch_says.Learnt
+stitch_one κs a r r₂ left left₂ p q = fixed stitch_inj left.1 p q
+
 pub prefetch_one : OneOutcome prefetch.ended prefetch_says.Learnt
 prefetch_one κs a r r₂ left left₂ p q = fixed entry_inj left.1 p q
 
@@ -136,13 +134,13 @@ bucket_one κs a r r₂ left left₂ p q = (bucket_inj r r₂ (p ∙ sym q), ref
 pub show_at_one : OneOutcome show_at.ended show_at_says.Learnt
 show_at_one κs a r r₂ left left₂ p q = (show_inj r r₂ (p ∙ sym q), refl)
 
--- Of show: the same number, the same bytes, at the same place of the same block. (What else a reference has, the name under which proofs
--- track its value, is no part of an outcome: no program has it.)
-pub show_one : (κs : Lfts (show.ended).signature.lifetimes) (a : Args (show.ended).signature κs) (r r₂ : Res (show.ended).signature κs)
-    (left left₂ : Lasts show.ended κs a) → show_says.Learnt κs a r (at_exit show.ended κs a left) → show_says.Learnt κs a r₂ (at_exit show.ended κs a left₂)
-    → (◌≡◌ {A = List ℕ × (ℕ × ℕ)} (r.now, r.ref_ptr) (r₂.now, r₂.ref_ptr)) × (left ≡ left₂)
+-- Of show: the same number, the same bytes, at the same place of the same block. A reference is no more than these.
+part_alike : (k k₂ : Bor (List ℕ)) → ◌≡◌ {A = List ℕ × (ℕ × ℕ)} (k.now, k.ref_ptr) (k₂.now, k₂.ref_ptr) → k ≡ k₂
+part_alike k k₂ e i = record { ref_ptr = ap (λ (o : List ℕ × (ℕ × ℕ)). o.1) e i; now = ap (λ (o : List ℕ × (ℕ × ℕ)). o.0) e i }
+
+pub show_one : OneOutcome show.ended show_says.Learnt
 show_one κs a r r₂ left left₂ p q =
-    (p.1 ∙ sym q.1, ap (λ (n : ℕ). (tt, (tt, (tt, (tt, (tt, (tt, (tt, (n, tt))))))))) (p.0 ∙ sym q.0))
+    (part_alike r r₂ (p.1 ∙ sym q.1), ap (λ (n : ℕ). (tt, (tt, (tt, (tt, (n, tt)))))) (p.0 ∙ sym q.0))
 
 pub audit_one : OneOutcome audit.ended audit_says.Learnt
 audit_one κs a r r₂ left left₂ p q = let t = parted {C = Unit {0} × (List ℕ × Unit {0})} (λ x. (tt, (x, tt))) p q in (plain_inj r r₂ t.0, t.1)
@@ -159,16 +157,6 @@ where_is_one κs a r r₂ left left₂ p q = (where_inj r r₂ (p ∙ sym q), re
 pub where_past_one : OneOutcome where_past.ended where_past_says.Learnt
 where_past_one κs a r r₂ left left₂ p q = (where_inj r r₂ (p 65536 (omega arith) ∙ sym (q 65536 (omega arith))), refl)
 
--- stitch's first equation fixes answer and memory, its second the ten bytes
-stitched_alike : (r r₂ : Stitched) → r.answer ≡ r₂.answer → r.«record» ≡ r₂.«record» → r ≡ r₂
-stitched_alike r r₂ p q i = record { answer = p i; «record» = q i }
-
-pub stitch_one : OneOutcome stitch.ended stitch_says.Learnt
-stitch_one κs a r r₂ left left₂ p q =
-    let t = parted (λ m. m) p.0 q.0 in
-    let answer = (stitch_inj r.answer r₂.answer r.«record» r₂.«record» t.0).0 in
-    (stitched_alike r r₂ answer (p.1 ∙ sym q.1), ap (λ (m : List ℕ). (m, left.1)) t.1)
-
 -- the same in the contract's own words: a memory is its bytes, wherever it lies
 abbrev pub lent : List ℕ → MutBor (List ℕ)
 lent m = record { ref_ptr = (0, 0); ghost_name = 0; now = m }
@@ -178,24 +166,28 @@ module _ (m : List ℕ) (port : ℕ) where
   out = M (act (calls.stitch port)) m
 
   pub stitch_in_words :
-      (r r₂ : Stitched) (left left₂ : List ℕ)
-      → (stitch_reply r.answer r.«record», left) ≡ out
-      → r.«record» ≡ record_in out.0
-      → (stitch_reply r₂.answer r₂.«record», left₂) ≡ out
-      → r₂.«record» ≡ record_in out.0
+      (r r₂ : Result (List ℕ) Refusal) (left left₂ : List ℕ)
+      → (stitch_reply r, left) ≡ out
+      → (stitch_reply r₂, left₂) ≡ out
       → (r ≡ r₂) × (left ≡ left₂)
-  stitch_in_words r r₂ left left₂ p s q t =
-      let u = stitch_one ([], tt) (lent m, (port, tt)) r r₂ (left, (tt, tt)) (left₂, (tt, tt)) (p, s) (q, t) in
+  stitch_in_words r r₂ left left₂ p q =
+      let u = stitch_one ([], tt) (lent m, (port, tt)) r r₂ (left, (tt, tt)) (left₂, (tt, tt)) p q in
       (u.0, ap (λ (x : List ℕ × (Unit {0} × Unit {0})). x.0) u.1)
 
--- the first alone would not do: beside a refusal any ten bytes might stand
-abbrev pub first_alone : Contract stitch.ended
-first_alone κs a r left = AllOf (stitch_says.ensures-acted-read κs a tt r left).tells
+-- The record stands in the answer. Ten bytes beside an answer, fixed by this equation alone, would not do: beside a refusal any might stand.
+abbrev pub beside : Result Unit Refusal → List ℕ → Reply
+beside a bytes = reply_by (λ u. stitched bytes) a
 
-pub second_needed : OneOutcome stitch.ended first_alone → ⊥
+abbrev pub FirstAlone : Type 0
+FirstAlone =
+    (m : List ℕ) (port : ℕ) (a a₂ : Result Unit Refusal) (bytes bytes₂ left left₂ : List ℕ)
+    → (beside a bytes, left) ≡ M (act (calls.stitch port)) m
+    → (beside a₂ bytes₂, left₂) ≡ M (act (calls.stitch port)) m
+    → bytes ≡ bytes₂
+
+pub second_needed : FirstAlone → ⊥
 second_needed one =
-    let no : List ℕ → Stitched = λ b. record { answer = No NoState; «record» = b } in
     let e : (refused 3, []) ≡ M (act (calls.stitch 0)) [] = sym (off_state [] (zero_no_state 0) (calls.stitch 0)) in
-    let t = one ([], tt) (lent [], (0, tt)) (no (replicate 10 0)) (no (replicate 10 1)) ([], (tt, tt)) ([], (tt, tt)) e e in
-    let z : ◌≡◌ {A = ℕ} 0 1 = ap (λ (r : Stitched). get_or r.«record» 0 0) t.0 in
+    let t = one [] 0 (Err NoState) (Err NoState) (replicate 10 0) (replicate 10 1) [] [] e e in
+    let z : ◌≡◌ {A = ℕ} 0 1 = ap (λ (b : List ℕ). get_or b 0 0) t in
     omega arith

@@ -3,10 +3,10 @@
 use mathlib.Core.Path.{◌≡◌, refl, sym, ap, ◌∙◌}
 use mathlib.Core.Bool.{not}
 use mathlib.Core.List.{List, [], ◌∷◌}
-use Prim.Native.Nat.{ℕ, ◌<◌}
+use Prim.Native.Nat.{ℕ, min, ◌<◌}
 use native.Mathlib.Omega.{arith}
 use denote.Ref.{Bor}
-use lib.ListN.{length}
+use lib.ListN.{length, get_or, get_or-map}
 use lib.Dec.{eqb}
 use Rattle.ledger.specs.Settings.{Settings}
 use Rattle.ledger.specs.Header.{whole}
@@ -21,12 +21,11 @@ use Rattle.memory.specs.Memory.{M}
 use Rattle.memory.specs.Packets.{packet_on}
 use Rattle.memory.proofs.Demands.{answered_state}
 use Rattle.memory.proofs.Packets.{memory_part_within}
-use Rattle.packets.specs.Parts.{among, shown_of}
-use Rattle.packets.proofs.Laws.{among_map}
+use Rattle.packets.specs.Parts.{nowhere, shown_of}
 
 -- four memories, by their ports
 abbrev pub four : List ℕ → List ℕ → List ℕ → List ℕ → Memories
-four a b c d = λ p. among p a b c d
+four a b c d p = get_or (a ∷ b ∷ c ∷ d ∷ []) (min p 3) []
 
 -- with four ports, their lengths are those that show is told
 pub four_lengths : (S : Settings) → S.ports ≡ 4 → (a b c d : List ℕ)
@@ -34,7 +33,7 @@ pub four_lengths : (S : Settings) → S.ports ≡ 4 → (a b c d : List ℕ)
 four_lengths S e a b c d = rw e
 
 -- the bytes that show hands back are those that its answer stands for
-pub shown_bytes : (r : Reply) (a b c d : Bor (List ℕ)) → (shown_of r a b c d).0 ≡ part_in (four a.now b.now c.now d.now) r
+pub shown_bytes : (r : Reply) (a b c d : Bor (List ℕ)) → (shown_of r (a ∷ b ∷ c ∷ d ∷ [])).0 ≡ part_in (four a.now b.now c.now d.now) r
 shown_bytes (refused n) a b c d = refl
 shown_bytes done a b c d = refl
 shown_bytes (entry x) a b c d = refl
@@ -45,7 +44,7 @@ shown_bytes (word w n) a b c d = refl
 shown_bytes (found v i) a b c d = refl
 shown_bytes (reported n) a b c d = refl
 shown_bytes (counted n) a b c d = refl
-shown_bytes (part x n) a b c d = ap (bytes_at (slot_at x) n) (among_map (λ x. x.now) (owner x) a b c d)
+shown_bytes (part x n) a b c d = ap (bytes_at (slot_at x) n) (sym (get_or-map (λ (k : Bor (List ℕ)). k.now) (a ∷ b ∷ c ∷ d ∷ []) (min (owner x) 3) nowhere))
 
 -- and the owner is one of four ports
 pub owner_in_four : (m ns : List ℕ) (p q x n : ℕ) → (M (act (show ns p q)) m).0 ≡ part x n → owner x < 4
