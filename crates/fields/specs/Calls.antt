@@ -1,5 +1,5 @@
 -- The call that the field at a place tells. Assumes nothing.
-use Rattle.std.specs.Prelude.{cond, List, [], ◌∷◌, ℕ, ◌+◌, eqb, get_or}
+use Rattle.std.specs.Prelude.{cond, List, [], ◌∷◌, Option, Some, None, ℕ, zero, suc, ◌+◌, ◌≡◌, eqb, get_or}
 use Rattle.numbers.specs.Bytes.{number}
 use Rattle.fields.specs.Field.{field_at}
 use Rattle.fields.specs.declared.Field.{Field}
@@ -8,6 +8,28 @@ use Rattle.fields.specs.declared.Order.{Order}
 use Rattle.fields.specs.declared.Order.TheVariants.{Setup, Arrive, Stitch, Prefetch, Turn, Credit, Map}
 use Rattle.fields.specs.declared.Read.{Read}
 use Rattle.fields.specs.declared.Read.TheVariants.{Call, Bad, End}
+use Rattle.fields.specs.declared.Tag.{Tag}
+use Rattle.fields.specs.declared.Tag.TheVariants as tags
+
+-- a tag's number
+abbrev pub tag# : Tag → ℕ
+tag# tags.Setup = 1
+tag# tags.Arrive = 2
+tag# tags.Stitch = 3
+tag# tags.Prefetch = 4
+tag# tags.Turn = 5
+tag# tags.Credit = 6
+tag# tags.Map = 7
+
+-- a number is none of 1 to k, in the form that a match leaves
+abbrev pub NoneTo : ℕ → ℕ → Type 0
+NoneTo zero n = Unit
+NoneTo (suc k) n = NoneTo k n × (n ≡ suc k → ⊥)
+
+-- the tag that a number is; none, where it is no tag's
+abbrev pub Tells : ℕ → Option Tag → Type 0
+Tells n (Some t) = n ≡ tag# t
+Tells n None = NoneTo 7 n
 
 -- a setup and a credit, from the value at v
 abbrev pub setup_at : List ℕ → ℕ → Order

@@ -1,12 +1,14 @@
 // The tagged fields of a bench run, read from bytes: a tag, the length of its value, and the value; and the call that each tells.
 #![tactic(auto)]
 
-ghost use Rattle.std.specs.Prelude.{◌≡◌, ◌+◌, ◌≤◌, length};
-ghost use Rattle.numbers.specs.Bytes.{number};
+ghost use Rattle.std.specs.Prelude.{◌≡◌, ℕ, ◌+◌, ◌≤◌, length};
 ghost use Rattle.fields.specs.Field.{field_at};
-ghost use Rattle.fields.specs.Calls.{setup_at, credit_at, size_of, call_of, whole_told, order_at};
+ghost use Rattle.fields.specs.Calls.{tag#, Tells, size_of, call_of, whole_told, order_at};
+
+use numbers::Number;
 
 // What stands at a place of the bytes.
+// kept: there are three outcomes, and a Result of an Option is no plainer.
 #[derive(Clone, Copy)]
 pub enum Field {
     // A whole field: its value is the len bytes from start on, and next is past it.
@@ -57,6 +59,7 @@ pub enum Order {
 }
 
 // What is read at a place: a call and the place past its field, a field that tells none, or the end.
+// kept: there are three outcomes, and a Result of an Option is no plainer.
 #[derive(Clone, Copy)]
 pub enum Read {
     Call { order: Order, next: usize },
@@ -65,6 +68,7 @@ pub enum Read {
 }
 
 // The field at a place.
+#[tactic(auto, using(crate::proofs::Fields::field_end, crate::proofs::Fields::field_cut, crate::proofs::Fields::field_whole))]
 pub fn field_at(s: &[u8], at: usize) -> Field
     ensures { result ≡ field_at s.now at }
 {
@@ -74,8 +78,8 @@ pub fn field_at(s: &[u8], at: usize) -> Field
     if s.len() - at < 3 {
         return Field::Cut;
     }
-    let tag = numbers::read1(s, at);
-    let len = numbers::read2(s, at + 1) as usize;
+    let tag = u8::read(s, at);
+    let len = usize::from(u16::read(s, at + 1));
     let next = at + 3 + len;
     if s.len() < next {
         return Field::Cut;
@@ -88,122 +92,108 @@ pub fn field_at(s: &[u8], at: usize) -> Field
     }
 }
 
-// How long the value of a tag is. No field of another tag tells a call.
-fn size_of(tag: u8) -> usize
-    ensures { result ≡ size_of tag }
-{
-    match tag {
-        1 => 7,
-        2 => 11,
-        3 => 1,
-        4 => 2,
-        5 => 1,
-        6 => 4,
-        7 => 2,
-        _ => 0,
+// The tags of the fields that tell a call.
+#[derive(Clone, Copy)]
+enum Tag {
+    Setup = 1,
+    Arrive = 2,
+    Stitch = 3,
+    Prefetch = 4,
+    Turn = 5,
+    Credit = 6,
+    Map = 7,
+}
+
+impl Tag {
+    // The tag that a number is, where it is one.
+    fn of(n: u8) -> Option<Tag>
+        ensures { Tells n result }
+    {
+        match n {
+            1 => Some(Tag::Setup),
+            2 => Some(Tag::Arrive),
+            3 => Some(Tag::Stitch),
+            4 => Some(Tag::Prefetch),
+            5 => Some(Tag::Turn),
+            6 => Some(Tag::Credit),
+            7 => Some(Tag::Map),
+            _ => None,
+        }
     }
-}
 
-// A number of one byte, and of two, as a call takes it.
-fn read1(s: &[u8], at: usize) -> u32
-    requires { at + 1 ≤ length s.now }
-    ensures { result ≡ number 1 s.now at }
-{
-    numbers::read1(s, at) as u32
-}
-
-fn read2(s: &[u8], at: usize) -> u32
-    requires { at + 2 ≤ length s.now }
-    ensures { result ≡ number 2 s.now at }
-{
-    numbers::read2(s, at) as u32
-}
-
-// As a function, so that an arm of call_of is short.
-fn call(order: Order, next: usize) -> Read
-    ensures { result ≡ Read.Call order next }
-{
-    Read::Call { order, next }
-}
-
-// A setup from its value at v.
-fn setup(s: &[u8], v: usize) -> Order
-    requires { v + 7 ≤ length s.now }
-    ensures { result ≡ setup_at s.now v }
-{
-    let nodes = read2(s, v);
-    let beat = read2(s, v + 2);
-    let slots = read1(s, v + 4);
-    let credit = read2(s, v + 5);
-    Order::Setup {
-        nodes,
-        beat,
-        slots,
-        credit,
+    // How long its field's value is.
+    #[tactic(auto, unfolding(crate::specs::Calls::size_of))]
+    fn size(self) -> usize
+        ensures { result ≡ size_of (tag# self) }
+    {
+        match self {
+            Tag::Setup => 7,
+            Tag::Arrive => 11,
+            Tag::Stitch => 1,
+            Tag::Prefetch => 2,
+            Tag::Turn => 1,
+            Tag::Credit => 4,
+            Tag::Map => 2,
+        }
     }
-}
 
-// A credit from its value at v.
-fn credit(s: &[u8], v: usize) -> Order
-    requires { v + 4 ≤ length s.now }
-    ensures { result ≡ credit_at s.now v }
-{
-    let port = read1(s, v);
-    let queue = read1(s, v + 1);
-    let amount = read2(s, v + 2);
-    Order::Credit {
-        port,
-        queue,
-        amount,
-    }
-}
-
-// The call of a tag, from its value at v.
-fn call_of(s: &[u8], tag: u8, v: usize, next: usize) -> Read
-    requires { v + size_of tag ≤ length s.now }
-    ensures { result ≡ call_of s.now tag v next }
-{
-    match tag {
-        1 => call(setup(s, v), next),
-        2 => {
-            let port = read1(s, v);
-            call(Order::Arrive { port, at: v + 1 }, next)
+    // The call that its field tells, from its value at v.
+    #[tactic(auto, unfolding(crate::specs::Calls::size_of, crate::specs::Calls::call_of))]
+    fn order(self, s: &[u8], v: usize) -> Order
+        requires { v + size_of (tag# self) ≤ length s.now }
+        ensures { (next : ℕ) → Read.Call result next ≡ call_of s.now (tag# self) v next }
+    {
+        match self {
+            Tag::Setup => Order::Setup {
+                nodes: u32::from(u16::read(s, v)),
+                beat: u32::from(u16::read(s, v + 2)),
+                slots: u32::from(u8::read(s, v + 4)),
+                credit: u32::from(u16::read(s, v + 5)),
+            },
+            Tag::Arrive => Order::Arrive {
+                port: u32::from(u8::read(s, v)),
+                at: v + 1,
+            },
+            Tag::Stitch => Order::Stitch {
+                port: u32::from(u8::read(s, v)),
+            },
+            Tag::Prefetch => Order::Prefetch {
+                port: u32::from(u8::read(s, v)),
+                queue: u32::from(u8::read(s, v + 1)),
+            },
+            Tag::Turn => Order::Turn {
+                port: u32::from(u8::read(s, v)),
+            },
+            Tag::Credit => Order::Credit {
+                port: u32::from(u8::read(s, v)),
+                queue: u32::from(u8::read(s, v + 1)),
+                amount: u32::from(u16::read(s, v + 2)),
+            },
+            Tag::Map => Order::Map {
+                id: u32::from(u8::read(s, v)),
+                port: u32::from(u8::read(s, v + 1)),
+            },
         }
-        3 => {
-            let port = read1(s, v);
-            call(Order::Stitch { port }, next)
-        }
-        4 => {
-            let port = read1(s, v);
-            let queue = read1(s, v + 1);
-            call(Order::Prefetch { port, queue }, next)
-        }
-        5 => {
-            let port = read1(s, v);
-            call(Order::Turn { port }, next)
-        }
-        6 => call(credit(s, v), next),
-        7 => {
-            let id = read1(s, v);
-            let port = read1(s, v + 1);
-            call(Order::Map { id, port }, next)
-        }
-        _ => Read::Bad,
     }
 }
 
 // The call of a whole field, whose value is the len bytes from v on: told if the length is its tag's.
+#[tactic(auto, using(crate::proofs::Tables::whole_none))]
 pub fn order_of(s: &[u8], tag: u8, v: usize, len: usize, next: usize) -> Read
     requires { v + len ≤ length s.now }
     ensures { result ≡ whole_told s.now tag v len next }
 {
-    if len == size_of(tag) {
-        return call_of(s, tag, v, next);
+    match Tag::of(tag) {
+        Some(t) if len == t.size() => Read::Call {
+            order: t.order(s, v),
+            next,
+        },
+        _ => Read::Bad,
     }
-    Read::Bad
 }
 
 // The call that the field at a place tells.
+#[tactic(auto, using(crate::proofs::Fields::whole_inside))]
 pub fn order_at(s: &[u8], at: usize) -> Read
     ensures { result ≡ order_at s.now at }
 {
