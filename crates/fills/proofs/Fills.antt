@@ -18,8 +18,7 @@ use Rattle.layout.specs.declared.Table.TheVariants.{Setting, Last, Arrival, Head
 use Rattle.layout.specs.Tables.{many, lists, cells, put}
 use Rattle.layout.proofs.Tables.{length_put, put_append}
 use Rattle.memory.specs.Image.{fill, setting_at, linked, all_linked, written, image, setup_mem}
-use Rattle.fills.specs.declared.Line.{Line}
-use Rattle.fills.specs.Fills.{along, freed}
+use Rattle.fills.specs.Fills.{filled, freed}
 
 -- ---- a loop over the memory
 
@@ -146,30 +145,6 @@ module _ (S : Settings) where
       let counts = fill_front tails Count (λ p. p * row S) (λ p. S.nodes) S.ports (free_in refl) in
       (links_front counts S.ports (omega arith)).same
 
-  written_over : (m : List ℕ) → written S (replicate (size S) 0 ++ drop (size S) m) ≡ setup_mem S m
-  unfolding setup_mem image
+  pub written_over : (m : List ℕ) → freed S (filled S (replicate (size S) 0 ++ drop (size S) m)) ≡ setup_mem S m
+  unfolding written setup_mem image
   written_over m = written_append (replicate (size S) 0) (drop (size S) m) (omega (arith, length-replicate {A = ℕ} (size S) 0))
-
-  -- ---- the code's lines
-
-  pub freed_along : (places heads tails : Line)
-      → ((p : ℕ) → along places p ≡ p * row S) → ((p : ℕ) → along heads p ≡ entry_id p 0) → ((p : ℕ) → along tails p ≡ entry_id p (S.nodes - 1))
-      → (m : List ℕ)
-      → all_linked S S.ports
-      (fill S Count (λ p. p * row S) (λ p. S.nodes) S.ports
-      (fill S Tail (along places) (along tails) S.ports
-      (fill S Head (along places) (along heads) S.ports m)))
-      ≡ freed S m
-  freed_along places heads tails a h t m = rw (
-    fill_same S Tail (along places) (along tails) (λ p. p * row S) (λ p. entry_id p (S.nodes - 1)) S.ports _ a t,
-    fill_same S Head (along places) (along heads) (λ p. p * row S) (λ p. entry_id p 0) S.ports m a h,
-  )
-
-  pub written_along : (each credit : Line) → ((c : ℕ) → along each c ≡ c) → ((c : ℕ) → along credit c ≡ S.credit) → (m : List ℕ)
-      → freed S
-      (fill S Arrival (along each) (along credit) (cells S)
-      (fill S Last (λ p. p) (λ p. S.queues - 1) S.ports
-      (fill S Setting (λ i. i) (setting_at S) setting_count (replicate (size S) 0 ++ drop (size S) m))))
-      ≡ setup_mem S m
-  unfolding written
-  written_along each credit a k m = ap (freed S) (fill_same S Arrival (along each) (along credit) (λ c. c) (λ c. S.credit) (cells S) _ a k) ∙ written_over m

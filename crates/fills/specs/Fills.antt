@@ -1,29 +1,27 @@
 -- What the parts of setup ask of their arguments, and what they leave beyond one fill. Assumes nothing.
-use Rattle.std.specs.Prelude.{◌≡◌, List, ℕ, ◌+◌, ◌-◌, ◌*◌, ◌≤◌, ◌<◌, length}
-use Rattle.ledger.specs.Settings.{Settings, row, size}
+use Rattle.std.specs.Prelude.{◌≡◌, List, ℕ, ◌-◌, ◌*◌, ◌≤◌, ◌<◌, length}
+use Rattle.ledger.specs.Settings.{Settings, setting_count, row, size}
 use Rattle.ledger.specs.Ledger.{entry_id}
-use Rattle.layout.specs.declared.Shape.{Shape}
-use Rattle.layout.specs.declared.Table.{Table}
-use Rattle.layout.specs.declared.Table.TheVariants.{Head, Tail, Count}
-use Rattle.layout.specs.Tables.{width, many, settings_of, Laid}
-use Rattle.memory.specs.Image.{fill, all_linked}
-use Rattle.fills.specs.declared.Line.{Line}
-
--- number i of a line
-abbrev pub along : Line → ℕ → ℕ
-along l i = l.first + i * l.step
+use Rattle.layout.specs.declared.shape.Shape.{Shape}
+use Rattle.layout.specs.declared.Table.TheVariants.{Setting, Last, Arrival, Head, Tail, Count}
+use Rattle.layout.specs.Tables.{cells}
+use Rattle.layout.specs.Shapes.{settings_of}
+use Rattle.memory.specs.Image.{fill, setting_at, all_linked}
 
 -- memory with room for a state of shape s
 pub record Room (s : Shape) (m : List ℕ) : Type 0 where
-  pub laid : Laid s
   pub long : size (settings_of s) ≤ length m
 
--- the first n of the places are in the table, whose elements have two bytes, and the first n of the values fit there
-pub record Fillable (s : Shape) (t : Table) (places values : Line) (n : ℕ) (m : List ℕ) : Type 0 where
-  pub room : Room s m
-  pub wide : width t ≡ 2
-  pub inside : (i : ℕ) → i < n → along places i < many (settings_of s) t
-  pub small : (i : ℕ) → i < n → along values i < 65536
+-- what stands in R to a number below n is the number that f gives it, by the value of what stands there
+abbrev pub Gives : {N : Type 0} → (N → ℕ) → (ℕ → N → Type 0) → ℕ → (ℕ → ℕ) → Type 0
+Gives {N} value R n f = (i : ℕ) (r : N) → i < n → R i r → value r ≡ f i
+
+-- the settings, the queue that each port served last, the credits: the first part of what setup writes
+abbrev pub filled : Settings → List ℕ → List ℕ
+filled S m =
+    fill S Arrival (λ c. c) (λ c. S.credit) (cells S)
+    (fill S Last (λ p. p) (λ p. S.queues - 1) S.ports
+    (fill S Setting (λ i. i) (setting_at S) setting_count m))
 
 -- of each port the free list with all its nodes: the last part of what setup writes
 abbrev pub freed : Settings → List ℕ → List ℕ
