@@ -2,17 +2,32 @@
 #![tactic(auto)]
 
 ghost use Rattle.std.specs.Prelude.{◌≤◌};
-ghost use Rattle.layout.specs.Tables.{Laid};
 
-use layout::{Shape, Table};
+use layout::Table;
 use settings::Settings;
 use std::io;
 
-fn start(rt: &impl Print, s: Shape, t: Table) -> io::Result<()>
-    requires { Laid s }
-{
-    print!(rt; " {}", layout::start_of(s, t))
-}
+// The tables, in their order.
+const TABLES: [Table; 18] = [
+    Table::Setting,
+    Table::Mapped,
+    Table::Last,
+    Table::Halted,
+    Table::Arrival,
+    Table::Outward,
+    Table::Buckets,
+    Table::Head,
+    Table::Tail,
+    Table::Count,
+    Table::Next,
+    Table::Length,
+    Table::Stamp,
+    Table::Queue,
+    Table::Dest,
+    Table::Poisoned,
+    Table::Transaction,
+    Table::Price,
+];
 
 fn line(rt: &impl Print, nodes: u32) -> io::Result<()>
     requires { (1 ≤ nodes) × (nodes ≤ 2048) }
@@ -28,33 +43,15 @@ fn line(rt: &impl Print, nodes: u32) -> io::Result<()>
         packets: 0,
     });
     print!(rt; "{nodes}")?;
-    start(rt, s, Table::Setting)?;
-    start(rt, s, Table::Mapped)?;
-    start(rt, s, Table::Last)?;
-    start(rt, s, Table::Halted)?;
-    start(rt, s, Table::Arrival)?;
-    start(rt, s, Table::Outward)?;
-    start(rt, s, Table::Buckets)?;
-    start(rt, s, Table::Head)?;
-    start(rt, s, Table::Tail)?;
-    start(rt, s, Table::Count)?;
-    start(rt, s, Table::Next)?;
-    start(rt, s, Table::Length)?;
-    start(rt, s, Table::Stamp)?;
-    start(rt, s, Table::Queue)?;
-    start(rt, s, Table::Dest)?;
-    start(rt, s, Table::Poisoned)?;
-    start(rt, s, Table::Transaction)?;
-    start(rt, s, Table::Price)?;
+    for t in TABLES {
+        print!(rt; " {}", layout::start_of(s, t))?;
+    }
     println!(rt; " {}", layout::size_of(s))
 }
 
 fn main(rt: HostRuntime) -> io::Result<()> {
-    line(&rt, 1)?;
-    line(&rt, 2)?;
-    line(&rt, 16)?;
-    line(&rt, 255)?;
-    line(&rt, 256)?;
-    line(&rt, 257)?;
-    line(&rt, 2048)
+    for nodes in [1, 2, 16, 255, 256, 257, 2048] {
+        line(&rt, nodes)?;
+    }
+    Ok(())
 }

@@ -1,5 +1,5 @@
 -- The code's settings as the paper's. Assumes nothing.
-use Rattle.std.specs.Prelude.{Bool, ◌&&◌, ℕ, leb}
+use Rattle.std.specs.Prelude.{cond, Option, None, Some, ℕ, eqb}
 use Rattle.ledger.specs.Settings as ledger
 use Rattle.settings.specs.declared.Settings.{Settings}
 
@@ -15,6 +15,6 @@ told_settings t = record {
   packets = t.packets;
 }
 
--- a row of two bounds
-abbrev pub between : ℕ → ℕ → ℕ → Bool
-between low n high = leb low n && leb n high
+-- the first setting that is not in its row, where one is not
+abbrev pub one_out : ledger.Settings → Option ℕ
+one_out S = cond (eqb (ledger.first_out S) ledger.setting_count) None (Some (ledger.first_out S))

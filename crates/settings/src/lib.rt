@@ -2,8 +2,8 @@
 #![tactic(auto)]
 
 ghost use Rattle.std.specs.Prelude.{◌≡◌, ◌<◌};
-ghost use Rattle.ledger.specs.Settings.{settings, is_beat, ports_in, queues_in, packets_in, in_row, in_rows, first_out};
-ghost use Rattle.settings.specs.Told.{told_settings, between};
+ghost use Rattle.ledger.specs.Settings.{settings, is_beat, ports_in, queues_in, packets_in, in_row, in_rows};
+ghost use Rattle.settings.specs.Told.{told_settings, one_out};
 
 // In their rows or not.
 #[derive(Clone, Copy)]
@@ -35,43 +35,37 @@ pub fn ten_bytes(nodes: u32, beat: u32, slots: u32, credit: u32) -> Settings
 }
 
 // The numbers from 64 to 512 that have a single one among their bits.
+#[tactic(auto, using(ledger::proofs::Rows::beat_is, ledger::proofs::Rows::beat_values))]
 fn is_beat(b: u32) -> bool
     ensures { result ≡ is_beat b }
 {
-    match b {
-        64 | 128 | 256 | 512 => true,
-        _ => false,
-    }
-}
-
-// Whether a number is in a row of two bounds.
-fn between(low: u32, n: u32, high: u32) -> bool
-    ensures { result ≡ between low n high }
-{
-    low <= n && n <= high
+    matches!(b, 64 | 128 | 256 | 512)
 }
 
 // Whether an edition has switches of so many ports.
+#[tactic(auto, unfolding(ledger::specs::Settings::ports_in))]
 pub fn ports_in(edition: u32, ports: u32) -> bool
     ensures { result ≡ ports_in edition ports }
 {
     if edition == 0 {
         return ports == 4;
     }
-    between(2, ports, 32)
+    (2..=32).contains(&ports)
 }
 
 // And of so many queues.
+#[tactic(auto, unfolding(ledger::specs::Settings::queues_in))]
 pub fn queues_in(edition: u32, queues: u32) -> bool
     ensures { result ≡ queues_in edition queues }
 {
     if edition == 0 {
         return queues == 24;
     }
-    between(2, queues, 64)
+    (2..=64).contains(&queues)
 }
 
 // And those that keep packets, or that don't.
+#[tactic(auto, unfolding(ledger::specs::Settings::packets_in))]
 fn packets_in(edition: u32, packets: u32) -> bool
     ensures { result ≡ packets_in edition packets }
 {
@@ -89,32 +83,26 @@ fn in_row(told: Settings, i: usize) -> bool
     match i {
         0 => ports_in(told.edition, told.ports),
         1 => queues_in(told.edition, told.queues),
-        2 => between(1, told.nodes, 2048),
+        2 => (1..=2048).contains(&told.nodes),
         3 => is_beat(told.beat),
-        4 => between(1, told.slots, 8),
+        4 => (1..=8).contains(&told.slots),
         5 => told.credit <= 65535,
         6 => told.edition <= 1,
         _ => packets_in(told.edition, told.packets),
     }
 }
 
-// The first setting that isn't in its row; 8 where each is.
-pub fn first_out(told: Settings) -> usize
-    ensures { result ≡ first_out (told_settings told) }
+// The first setting that isn't in its row, where one isn't.
+pub fn first_out(told: Settings) -> Option<usize>
+    ensures { result ≡ one_out (told_settings told) }
 {
-    let mut i = 0;
-    while i < 8 {
-        if !in_row(told, i) {
-            return i;
-        }
-        i += 1;
-    }
-    i
+    (0..8).find(|i| !in_row(told, *i))
 }
 
 // Whether each is.
+#[tactic(auto, using(ledger::proofs::Rows::rows_out))]
 pub fn in_rows(told: Settings) -> bool
     ensures { result ≡ in_rows (told_settings told) }
 {
-    first_out(told) == 8
+    first_out(told).is_none()
 }

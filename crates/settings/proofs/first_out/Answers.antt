@@ -1,22 +1,15 @@
--- `settings::first_out` meets its contract. The loop's invariant: the first that is out is the first from here on. Assumes nothing.
-use mathlib.Core.Path.{sym, ◌∙◌}
-use native.Mathlib.Omega.{arith}
-use borrow.Author.Tests.{not-true, not-false}
-use Rattle.ledger.proofs.Rows.{left_all, left_out, left_next, left_none}
+-- `settings::first_out` meets its contract: a search of the settings. Assumes nothing.
+use Rattle.std.proofs.Common.{◌≡◌, true, false, rules}
+use Rattle.std.proofs.lemmas.Iterator.{first_from_Range}
+use borrow.Author.Tests.{tests}
+use Rattle.ledger.specs.Settings.{in_row}
+use Rattle.settings.specs.Told.{told_settings}
+use Rattle.settings.proofs.Rows.{one_found}
 use Rattle.settings.proofs.first_out.Goals as goal
 
-pub returns-then-not-in_row : goal.returns-then-not-in_row
-returns-then-not-in_row c =
-    let at = c.loop-i in
-    left_out _ at.i at.invariant (omega arith) (sym c.in_row.ensures ∙ not-true _ c.if-not-in_row.true-raw)
-
-pub loop-i-preserved : goal.loop-i-preserved
-loop-i-preserved c =
-    let at = c.loop-i in
-    left_next _ at.i at.invariant (omega arith) (sym c.in_row.ensures ∙ not-false _ c.if-not-in_row.false-raw)
-
 pub returns : goal.returns
-returns c = left_none _ c.loop-i.i c.loop-i.invariant (omega arith)
-
-pub loop-i-init : goal.loop-i-init
-loop-i-init c = left_all _
+returns c =
+    let S = told_settings c.args.told in
+    one_found S c.find.result
+    (first_from_Range _ _ _ c.find.result (λ i. in_row S i ≡ false) (λ i. in_row S i ≡ true) c.find.ensures.ran
+    (λ i q k. search (rules, tests)) (λ i q k. search (rules, tests)))
