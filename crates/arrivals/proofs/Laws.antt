@@ -17,9 +17,10 @@ use Rattle.ledger.proofs.Passes as ledger
 use Rattle.ledger.proofs.Steps.{cleared}
 use Rattle.header.specs.Judge.{Verdict, bad, good, verdict}
 use Rattle.header.proofs.Verdicts.{good_means}
-use Rattle.layout.specs.declared.Shape.{Shape}
+use Rattle.layout.specs.declared.shape.Shape.{Shape}
 use Rattle.layout.specs.declared.Table.TheVariants.{Arrival, Count}
-use Rattle.layout.specs.Tables.{lists, get, settings_of}
+use Rattle.layout.specs.Tables.{lists, get}
+use Rattle.layout.specs.Shapes.{settings_of}
 use Rattle.layout.specs.Picture.{ledger_in}
 use Rattle.memory.specs.Ends.{pop_mem, push_mem, Tidy}
 use Rattle.memory.specs.Writes.{head_of, record_mem, credit_mem, arrive_mem, mark_mem, refused_mem}
@@ -155,15 +156,14 @@ arrives s m w p h k e =
     let fine = judged_plainly S m p h ∙ ap plainly (sym e) in
     let c = judged_clear S (ledger_in S m) (arrive p h) fine in
     let a = ledger.admits S (ledger_in S m) p h c in
-    let inside = (lists_in S w.laid.roomy p a.port).0 in
+    let inside = (lists_in S s.laid.roomy p a.port).0 in
     let f = e ∙ cleared (rules S (ledger_in S m) (arrive p h)) rejected (accepted (packet_of S m p h)) c in
     let is : k ≡ packet_of S m p h = cc in
     let first : (first_of S (ledger_in S m) (free p)).node ≡ head_of S m (free p) =
-    ap (λ (j : Packet). j.node) (pop_item S w.laid.roomy m (state_tidy S m w.state) (place# S (free p)) inside a.some)
+    ap (λ (j : Packet). j.node) (pop_item S s.laid.roomy m (state_tidy S m w.state) (place# S (free p)) inside a.some)
     ∙ item_node S m (place# S (free p)) (head_of S m (free p)) in
     record {
       take = record {
-        laid = w.laid;
         tidy = state_tidy S m w.state;
         port = a.port;
         queue = rw is (queue_in_range S (head_of S m (free p)) (fields_of (form S) (bytes_in h)) a.header.queue);
@@ -184,7 +184,7 @@ module _ (s : Shape) (p : ℕ) (k : Packet) (m : List ℕ) (t : CanTakeIn s p k 
   popped = pop_mem S (place# S (free p)) m
 
   inside : place# S (free p) < lists S
-  inside = (lists_in S t.laid.roomy p t.port).0
+  inside = (lists_in S s.laid.roomy p t.port).0
 
   pub popped_tidy : Tidy S popped
   popped_tidy = pop_tidy S m (place# S (free p)) t.tidy inside t.some
@@ -196,7 +196,7 @@ module _ (s : Shape) (p : ℕ) (k : Packet) (m : List ℕ) (t : CanTakeIn s p k 
   node_gone = rw t.node (pop_gone S m (place# S (free p)) t.tidy inside t.some)
 
   pub recorded_tidy : Tidy S (record_mem S k popped)
-  recorded_tidy = (record_kept S t.laid.roomy popped popped_tidy k.node node_on node_gone k refl).tidy
+  recorded_tidy = (record_kept S s.laid.roomy popped popped_tidy k.node node_on node_gone k refl).tidy
 
 -- the four writes, one after another
 pub taken_in : (S : Settings) (p : ℕ) (k : Packet) (m : List ℕ) {m₁ m₂ m₃ m₄ : List ℕ} {b x v q n : ℕ}

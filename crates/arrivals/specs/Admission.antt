@@ -8,9 +8,10 @@ use Rattle.ledger.specs.Calls.{arrive, no_port, other_kind, wrong_memory, last_r
 use Rattle.ledger.specs.Answers.{number_of, sent_of}
 use Rattle.ledger.specs.declared.Refusal.{Refusal}
 use Rattle.ledger.specs.declared.Sent.{Sent}
-use Rattle.layout.specs.declared.Shape.{Shape}
+use Rattle.layout.specs.declared.shape.Shape.{Shape}
 use Rattle.layout.specs.declared.Table.TheVariants.{Count}
-use Rattle.layout.specs.Tables.{get, settings_of, Laid}
+use Rattle.layout.specs.Tables.{get}
+use Rattle.layout.specs.Shapes.{settings_of}
 use Rattle.layout.specs.Picture.{ledger_in}
 use Rattle.memory.specs.Ends.{Tidy}
 use Rattle.memory.specs.Judged.{Judgement, good, bad}
@@ -54,7 +55,6 @@ judged_fields S m p f = guard (last_rules S (ledger_in S m) p (packet_for S m p 
 
 -- a header whose price fits
 pub record CanPrice (s : Shape) (f : Fields) : Type 0 where
-  pub laid : Laid s
   pub len : f.len < 2 ^ 13
 
 -- and a port of a memory long enough, and a queue of the switch
@@ -66,7 +66,6 @@ pub record CanAdmit (s : Shape) (p : ℕ) (f : Fields) (m : List ℕ) : Type 0 w
 
 -- packet k is of port p's first free node, and its price can be paid
 pub record CanTakeIn (s : Shape) (p : ℕ) (k : Packet) (m : List ℕ) : Type 0 where
-  pub laid : Laid s
   pub tidy : Tidy (settings_of s) m
   pub port : p < s.ports
   pub queue : k.queue < s.queues

@@ -8,7 +8,7 @@ ghost use Rattle.ledger.specs.Answers.{sent_of, load_of, entry_reply};
 ghost use Rattle.ledger.specs.Calls.{Reply, arrive, lacks};
 ghost use Rattle.header.specs.Judge.{verdict, verdict_of};
 ghost use Rattle.header.specs.Parse.{header_of};
-ghost use Rattle.layout.specs.Tables.{settings_of, Laid};
+ghost use Rattle.layout.specs.Shapes.{settings_of};
 ghost use Rattle.layout.specs.Picture.{ledger_in};
 ghost use Rattle.parts.specs.Parts.{InCell};
 ghost use Rattle.memory.specs.Writes.{arrive_mem};
@@ -65,7 +65,6 @@ fn admit(m: &[u8], s: Shape, p: usize, f: HeaderFields) -> Result<Sent, Refusal>
 
 // The header's own refusals, by the form of the headers that the switch takes.
 fn judge_header(load: Load, h: &[u8], s: Shape, port: u32) -> Result<HeaderFields, Refusal>
-    requires { Laid s }
     ensures { verdict_of result ≡ verdict (form (settings_of s)) s.queues port (load_of load h.now) }
 {
     let queues = s.queues as u32;
@@ -89,7 +88,6 @@ fn judge_at(m: &[u8], s: Shape, load: Load, port: u32, h: &[u8]) -> Result<Sent,
 // Those before it: a switch that keeps packets takes no header alone, and another no packet; and a packet memory has its size.
 #[tactic(auto, unfolding(crate::specs::Admission::judged_kind))]
 fn judge_kind(s: Shape, load: Load) -> Result<(), Refusal>
-    requires { Laid s }
     ensures { (b : List ℕ) → judgement_of result ≡ judged_kind (settings_of s) (load_of load b) }
 {
     match load {

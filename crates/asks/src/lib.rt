@@ -8,6 +8,7 @@ ghost use Rattle.memory.specs.Runs.{of_call, of_bench, is_own, whole_asked, aske
 ghost use Rattle.asks.specs.Asks.{ask_of, asked_of, Within, Stands};
 
 use fields::{Field, Order, Read};
+use numbers::Number;
 
 // One call of a run. An arrival's header is the size bytes from at on.
 #[derive(Clone, Copy)]
@@ -83,7 +84,7 @@ fn whole(s: &[u8], tag: u8, v: usize, len: usize, next: usize, size: usize) -> A
     ensures within { (at : ℕ) → v ≡ at + 3 → Within at (length s.now) result }
 {
     if is_own(tag, len, size) {
-        let port = u32::from(numbers::read1(s, v));
+        let port = u32::from(u8::read(s, v));
         let task = Task::Arrive {
             port,
             at: v + 1,

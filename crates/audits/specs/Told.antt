@@ -3,9 +3,10 @@ use Rattle.std.specs.Prelude.{◌≡◌, true, List, [], ◌∷◌, ◌++◌, �
 use Rattle.ledger.specs.Settings.{Settings, size}
 use Rattle.ledger.specs.Ledger.{is_node, Place, place_of}
 use Rattle.ledger.specs.Audit.{place_bytes}
-use Rattle.layout.specs.declared.Shape.{Shape}
+use Rattle.layout.specs.declared.shape.Shape.{Shape}
 use Rattle.layout.specs.declared.Table.TheVariants.{Next}
-use Rattle.layout.specs.Tables.{lists, all, get, settings_of, Laid}
+use Rattle.layout.specs.Tables.{lists, all, get}
+use Rattle.layout.specs.Shapes.{settings_of}
 use Rattle.layout.specs.Picture.{slot, nodes_of}
 use Rattle.memory.specs.Judged.{Works}
 
@@ -45,7 +46,6 @@ pub record ListLent (s : Shape) (l : ℕ) (m room : List ℕ) : Type 0 where
 
 -- node x of it
 pub record NodeLent (s : Shape) (x : ℕ) (m room : List ℕ) : Type 0 where
-  pub laid : Laid s
   pub long : size (settings_of s) ≤ length m
   pub wide : 8 * all (settings_of s) ≤ length room
   pub node : is_node (settings_of s) x ≡ true

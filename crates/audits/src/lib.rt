@@ -5,7 +5,8 @@
 ghost use Rattle.std.specs.Prelude.{◌≡◌, List, ℕ, ◌+◌, ◌≤◌, length};
 ghost use Rattle.ledger.specs.Answers.{kind_of, plain_reply};
 ghost use Rattle.ledger.specs.Calls.{Reply};
-ghost use Rattle.layout.specs.Tables.{lists, settings_of};
+ghost use Rattle.layout.specs.Tables.{lists};
+ghost use Rattle.layout.specs.Shapes.{settings_of};
 ghost use Rattle.memory.specs.Judged.{Works};
 ghost use Rattle.memory.specs.Audit.{audited};
 ghost use Rattle.audits.specs.Told.{put_eight, told_list, told_lists, Lent, ListLent, NodeLent, Told};
@@ -29,7 +30,7 @@ fn tell(m: &[u8], s: Shape, x: EntryId, kind: ListKind, i: u16, room: &mut [u8])
 {
     let at = geometry::slot_of(s, x);
     put(room, 8 * at, rooms::place_bytes(x, kind, i));
-    EntryId(layout::get2(m, s, Table::Next, at))
+    EntryId(layout::get(m, s, Table::Next, at))
 }
 
 // Tells the nodes of list l.

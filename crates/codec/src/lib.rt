@@ -16,6 +16,7 @@ ghost use Rattle.codec.specs.Writer.{holds, body_for, header_for, writes, padded
 use forms::HeaderForm;
 use header::HeaderFields;
 use ledger::Refusal;
+use numbers::Number;
 pub use written::Written;
 
 // A label: numbers of any size.
@@ -131,10 +132,10 @@ fn body(v: Label, form: HeaderForm) -> [u8; 12]
     let front = front_from(v, form);
     let credit = numbers::join(v.credit, 8 * (2 - form.offer), 0) as u16;
     let transaction = v.transaction as u8;
-    numbers::write4(&mut b, 0, front);
-    numbers::write4(&mut b, at, v.timestamp);
-    numbers::write2(&mut b, at + 4, credit);
-    numbers::write1(&mut b, last, transaction);
+    front.write(&mut b, 0);
+    v.timestamp.write(&mut b, at);
+    credit.write(&mut b, at + 4);
+    transaction.write(&mut b, last);
     b
 }
 
@@ -147,7 +148,7 @@ fn seal(v: Label, form: HeaderForm) -> [u8; 12]
     let mut b = body(v, form);
     let last = (form.size - 1) as usize;
     let sum = crc::checksum(&b[..last]);
-    numbers::write1(&mut b, last, sum);
+    sum.write(&mut b, last);
     b
 }
 

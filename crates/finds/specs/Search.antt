@@ -1,8 +1,9 @@
 -- The search for a node, by the ids in memory: what the walk of a list finds, and the search of the lists. Assumes nothing.
 use Rattle.std.specs.Prelude.{cond, Option, None, Some, List, [], ◌∷◌, ℕ, zero, suc, ◌<◌, eqb}
 use Rattle.ledger.specs.Settings.{Settings}
-use Rattle.layout.specs.declared.Shape.{Shape}
-use Rattle.layout.specs.Tables.{lists, settings_of}
+use Rattle.layout.specs.declared.shape.Shape.{Shape}
+use Rattle.layout.specs.Tables.{lists}
+use Rattle.layout.specs.Shapes.{settings_of}
 use Rattle.layout.specs.Picture.{nodes_of}
 use Rattle.memory.specs.Judged.{Works}
 

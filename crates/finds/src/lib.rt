@@ -5,7 +5,8 @@ ghost use Rattle.std.specs.Prelude.{◌≡◌};
 ghost use Rattle.ledger.specs.Answers.{where_reply};
 ghost use Rattle.ledger.specs.Calls.{where_is};
 ghost use Rattle.layout.specs.declared.Table.TheVariants.{Next};
-ghost use Rattle.layout.specs.Tables.{lists, get, settings_of};
+ghost use Rattle.layout.specs.Tables.{lists, get};
+ghost use Rattle.layout.specs.Shapes.{settings_of};
 ghost use Rattle.layout.specs.Picture.{slot, nodes_of};
 ghost use Rattle.memory.specs.Judged.{Works};
 ghost use Rattle.memory.specs.Memory.{acted};
@@ -20,7 +21,7 @@ fn next(m: &[u8], s: Shape, x: EntryId) -> EntryId
     requires { InRecords s x.0 m.now }
     ensures { result.0 ≡ get (settings_of s) m.now Next (slot (settings_of s) x.0) }
 {
-    EntryId(layout::get2(m, s, Table::Next, geometry::slot_of(s, x)))
+    EntryId(layout::get(m, s, Table::Next, geometry::slot_of(s, x)))
 }
 
 // At which position node x stands in list l, if it does.

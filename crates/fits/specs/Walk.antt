@@ -2,9 +2,10 @@
 use Rattle.std.specs.Prelude.{◌≡◌, true, false, List, ℕ, ◌≤◌, ◌<◌, length}
 use Rattle.ledger.specs.Settings.{Settings, size}
 use Rattle.ledger.specs.Ledger.{is_node}
-use Rattle.layout.specs.declared.Shape.{Shape}
+use Rattle.layout.specs.declared.shape.Shape.{Shape}
 use Rattle.layout.specs.declared.Table.TheVariants.{Length, Queue, Dest, Poisoned, Price}
-use Rattle.layout.specs.Tables.{lists, all, get, settings_of, Laid}
+use Rattle.layout.specs.Tables.{lists, all, get}
+use Rattle.layout.specs.Shapes.{settings_of}
 use Rattle.memory.specs.Ends.{Tidy}
 use Rattle.fits.specs.declared.NodeRule.{NodeRule}
 use Rattle.fits.specs.declared.Note.{Note}
@@ -12,13 +13,11 @@ use Rattle.fits.specs.Fits.{spared}
 
 -- a whole memory of shape s, in which x is a node
 pub record NodeOf (s : Shape) (x : ℕ) (m : List ℕ) : Type 0 where
-  pub laid : Laid s
   pub long : size (settings_of s) ≤ length m
   pub node : is_node (settings_of s) x ≡ true
 
 -- element i of the tables of nodes
 pub record RecordOf (s : Shape) (i : ℕ) (m : List ℕ) : Type 0 where
-  pub laid : Laid s
   pub long : size (settings_of s) ≤ length m
   pub inside : i < all (settings_of s)
 
@@ -37,7 +36,6 @@ pub record Spoken (rule : NodeRule) (c : ℕ) (s : Shape) (x : ℕ) (m : List �
 
 -- memory of shape s that has passed rule (c)
 pub record Walkable (s : Shape) (m : List ℕ) : Type 0 where
-  pub laid : Laid s
   pub tidy : Tidy (settings_of s) m
 
 -- and a list of it

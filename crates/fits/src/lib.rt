@@ -4,7 +4,8 @@
 
 ghost use Rattle.std.specs.Prelude.{◌≡◌, ◌-◌, ◌^◌, ◌≤◌, ◌<◌, eqb};
 ghost use Rattle.ledger.specs.Header.{price as priceOf};
-ghost use Rattle.layout.specs.Tables.{lists, settings_of, Laid};
+ghost use Rattle.layout.specs.Tables.{lists};
+ghost use Rattle.layout.specs.Shapes.{settings_of};
 ghost use Rattle.layout.specs.Picture.{packet_at};
 ghost use Rattle.fits.specs.Fits.{spared, queue_at, range_test, fields_test, proper_test, rule_test, list_found, fits_from};
 ghost use Rattle.fits.specs.Walk.{NodeOf, RecordOf, NoteOf, Spoken, Walkable, ListOf};
@@ -51,19 +52,18 @@ impl Note {
         ensures { NoteOf (settings_of s) m.now at result }
     {
         Note {
-            len: layout::get2(m, s, Table::Length, at),
-            queue: layout::get1(m, s, Table::Queue, at),
-            dest: layout::get1(m, s, Table::Dest, at),
-            poisoned: layout::get1(m, s, Table::Poisoned, at),
-            price: layout::get1(m, s, Table::Price, at),
+            len: layout::get(m, s, Table::Length, at),
+            queue: layout::get(m, s, Table::Queue, at),
+            dest: layout::get(m, s, Table::Dest, at),
+            poisoned: layout::get(m, s, Table::Poisoned, at),
+            price: layout::get(m, s, Table::Price, at),
         }
     }
 
     // (f), of what can be out of range in the bytes that hold it.
     #[tactic(auto, unfolding(crate::specs::Fits::range_test))]
     fn in_range(self, s: Shape) -> bool
-        requires { Laid s }
-        ensures { result ≡ range_test (settings_of s) self.len self.queue self.dest self.poisoned }
+            ensures { result ≡ range_test (settings_of s) self.len self.queue self.dest self.poisoned }
     {
         s.least <= usize::from(self.len)
             && self.len < 8192
@@ -90,8 +90,7 @@ impl Note {
     // (f): every field is in range, and the price is that of the queue and the length.
     #[tactic(auto, using(crate::proofs::Walk::range_len), unfolding(crate::specs::Fits::fields_test))]
     pub fn proper(self, s: Shape) -> bool
-        requires { Laid s }
-        ensures { result ≡ fields_test (settings_of s) self.len self.queue self.dest self.poisoned self.price }
+            ensures { result ≡ fields_test (settings_of s) self.len self.queue self.dest self.poisoned self.price }
     {
         self.in_range(s) && self.fair(s.beat)
     }
@@ -118,7 +117,7 @@ impl NodeRule {
         match self {
             NodeRule::OwnPort => usize::from(x.port()) == port,
             NodeRule::OwnQueue => {
-                let queue = layout::get1(m, s, Table::Queue, geometry::slot_of(s, x));
+                let queue = layout::get::<u8>(m, s, Table::Queue, geometry::slot_of(s, x));
                 own_queue(s, column, queue)
             }
             NodeRule::Record => Note::read(m, s, geometry::slot_of(s, x)).proper(s),
@@ -137,14 +136,14 @@ fn list_fits(m: &[u8], s: Shape, rule: NodeRule, l: usize) -> Option<usize>
     if rule.spares(column) {
         return None;
     }
-    let count = layout::get4(m, s, Table::Count, l);
-    let mut x = layout::get2(m, s, Table::Head, l);
+    let count = layout::get::<u32>(m, s, Table::Count, l);
+    let mut x = layout::get::<u16>(m, s, Table::Head, l);
     for _ in 0..count {
         let id = EntryId(x);
         if !rule.holds(m, s, port, column, id) {
             return Some(usize::from(x));
         }
-        x = layout::get2(m, s, Table::Next, geometry::slot_of(s, id));
+        x = layout::get(m, s, Table::Next, geometry::slot_of(s, id));
     }
     None
 }

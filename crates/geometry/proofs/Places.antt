@@ -4,7 +4,8 @@ use Prim.Native.Nat.{ℕ, suc, ◌+◌, ◌-◌, ◌*◌, ◌/◌, ◌%◌, ◌�
 use native.Mathlib.Nat.{mod-lt, div-lt_iff_lt-mul}
 use native.Mathlib.Omega.{arith}
 use Rattle.ledger.specs.Settings.{Settings, row}
-use Rattle.ledger.specs.Ledger.{Place, free, ingress, egress, prefetched, place_in, place_of}
+use Rattle.ledger.specs.Ledger.{Place, free, ingress, egress, prefetched, place#, place_in, place_of}
+use Rattle.ledger.specs.Buckets.{bucket#}
 use Rattle.ledger.proofs.Tests.{ltb_is, ltb_not}
 use Rattle.layout.specs.Tables.{lists}
 
@@ -40,3 +41,28 @@ module _ (S : Settings) (l : ℕ) {r : ℕ} (is : r ≡ row S) where
 
     pub prefetch_kind : S.queues ≤ l % r - 2 → prefetched (l / r) (l % r - 2 - S.queues) ≡ place_of S l
     prefetch_kind h = there (sym (ap (place_in S (l / r)) second ∙ rw (ltb_not (l % r - 2) S.queues h)))
+
+-- what a list's kind comes to, in each case
+pub ruleset kinds = (free_kind, ingress_kind, egress_kind, column_in_lem)
+
+-- the number of each list of port p, and of each of its buckets
+module _ (S : Settings) (p : ℕ) where
+  pub free_place : place# S (free p) ≡ p * row S + 0
+  unfolding place#
+  free_place = omega arith
+
+  pub ingress_place : place# S (ingress p) ≡ p * row S + 1
+  unfolding place#
+  ingress_place = omega arith
+
+  pub egress_place : (q : ℕ) → place# S (egress p q) ≡ p * row S + (2 + q)
+  unfolding place#
+  egress_place q = omega arith
+
+  pub prefetch_place : (q : ℕ) → place# S (prefetched p q) ≡ p * row S + (2 + (S.queues + q))
+  unfolding place#
+  prefetch_place q = omega arith
+
+pub bucket_place : (p b : ℕ) → bucket# p b ≡ p * 33 + b
+unfolding bucket#
+bucket_place p b = omega arith

@@ -6,7 +6,7 @@ ghost use Rattle.ledger.specs.Settings.{row};
 ghost use Rattle.ledger.specs.Ledger.{is_node, free, ingress, egress, prefetched, place#, place_of, cell};
 ghost use Rattle.ledger.specs.Buckets.{bucket#};
 ghost use Rattle.ledger.specs.Answers.{kind_of};
-ghost use Rattle.layout.specs.Tables.{settings_of, Laid};
+ghost use Rattle.layout.specs.Shapes.{settings_of};
 ghost use Rattle.layout.specs.Picture.{slot};
 ghost use Rattle.geometry.specs.Places.{OfPort, InRow, OfQueue, HasCell, HasBucket, InLists};
 
@@ -16,41 +16,36 @@ use ledger::{EntryId, ListKind};
 // ---- nodes
 
 // Whether an id is a node's.
+#[tactic(auto, unfolding(ledger::specs::Ledger::is_node))]
 pub fn is_node(s: Shape, x: EntryId) -> bool
     ensures { result ≡ is_node (settings_of s) x.0 }
 {
-    let ports = s.ports;
-    let nodes = s.nodes;
-    let port = x.port() as usize;
-    let index = x.index() as usize;
-    port < ports && index < nodes
+    usize::from(x.port()) < s.ports && usize::from(x.index()) < s.nodes
 }
 
 // The element of a node in the tables of nodes.
+#[tactic(auto, unfolding(layout::specs::Picture::slot))]
 pub fn slot_of(s: Shape, x: EntryId) -> usize
-    requires { Laid s }
     ensures { result ≡ slot (settings_of s) x.0 }
 {
-    let nodes = s.nodes;
-    let port = x.port() as usize;
-    let index = x.index() as usize;
-    port * nodes + index
+    usize::from(x.port()) * s.nodes + usize::from(x.index())
 }
 
 // ---- credits
 
 // The element of a port and a queue in the tables of credits, in which queue 0 has none.
+#[tactic(auto, unfolding(ledger::specs::Ledger::cell))]
 pub fn cell_of(s: Shape, p: usize, q: usize) -> usize
     requires { HasCell s p q }
     ensures { result ≡ cell (settings_of s) p (q - 1) }
 {
-    let queues = s.queues;
-    p * (queues - 1) + (q - 1)
+    p * (s.queues - 1) + (q - 1)
 }
 
 // ---- buckets
 
 // The element of a port's bucket in the table of buckets.
+#[tactic(auto, using(crate::proofs::Places::bucket_place))]
 pub fn bucket_of(s: Shape, p: usize, b: usize) -> usize
     requires { HasBucket s p b }
     ensures { result ≡ bucket# p b }
@@ -65,10 +60,10 @@ fn number(s: Shape, p: usize, c: usize) -> usize
     requires { InRow s p c }
     ensures { result ≡ p * row (settings_of s) + c }
 {
-    let row = s.row;
-    p * row + c
+    p * s.row + c
 }
 
+#[tactic(auto, using(crate::proofs::Places::free_place), unfolding(ledger::specs::Settings::row))]
 pub fn free_list(s: Shape, p: usize) -> usize
     requires { OfPort s p }
     ensures { result ≡ place# (settings_of s) (free p) }
@@ -76,6 +71,7 @@ pub fn free_list(s: Shape, p: usize) -> usize
     number(s, p, 0)
 }
 
+#[tactic(auto, using(crate::proofs::Places::ingress_place), unfolding(ledger::specs::Settings::row))]
 pub fn ingress_list(s: Shape, p: usize) -> usize
     requires { OfPort s p }
     ensures { result ≡ place# (settings_of s) (ingress p) }
@@ -83,6 +79,7 @@ pub fn ingress_list(s: Shape, p: usize) -> usize
     number(s, p, 1)
 }
 
+#[tactic(auto, using(crate::proofs::Places::egress_place), unfolding(ledger::specs::Settings::row))]
 pub fn egress_list(s: Shape, p: usize, q: usize) -> usize
     requires { OfQueue s p q }
     ensures { result ≡ place# (settings_of s) (egress p q) }
@@ -90,23 +87,22 @@ pub fn egress_list(s: Shape, p: usize, q: usize) -> usize
     number(s, p, 2 + q)
 }
 
+#[tactic(auto, using(crate::proofs::Places::prefetch_place), unfolding(ledger::specs::Settings::row))]
 pub fn prefetch_list(s: Shape, p: usize, q: usize) -> usize
     requires { OfQueue s p q }
     ensures { result ≡ place# (settings_of s) (prefetched p q) }
 {
-    let queues = s.queues;
-    number(s, p, 2 + (queues + q))
+    number(s, p, 2 + (s.queues + q))
 }
 
 // Which list a list's number is.
+#[tactic(auto, using(crate::proofs::Places::kinds))]
 pub fn kind_of(s: Shape, l: usize) -> ListKind
     requires { InLists s l }
     ensures { kind_of result ≡ place_of (settings_of s) l }
 {
-    let queues = s.queues;
-    let row = s.row;
-    let port = (l / row) as u8;
-    let column = l % row;
+    let port = (l / s.row) as u8;
+    let column = l % s.row;
     if column == 0 {
         return ListKind::Free { port };
     }
@@ -114,7 +110,7 @@ pub fn kind_of(s: Shape, l: usize) -> ListKind
         return ListKind::Ingress { port };
     }
     let k = column - 2;
-    if k < queues {
+    if k < s.queues {
         return ListKind::Egress {
             port,
             queue: k as u8,
@@ -122,6 +118,6 @@ pub fn kind_of(s: Shape, l: usize) -> ListKind
     }
     ListKind::Prefetch {
         port,
-        queue: (k - queues) as u8,
+        queue: (k - s.queues) as u8,
     }
 }

@@ -8,7 +8,8 @@ ghost use Rattle.ledger.specs.Halt.{halts, is_mark, marks, held_up};
 ghost use Rattle.ledger.specs.Answers.{number_of, plain_reply, report_reply};
 ghost use Rattle.ledger.specs.Calls.{Reply, clear, report};
 ghost use Rattle.layout.specs.declared.Table.TheVariants.{Halted};
-ghost use Rattle.layout.specs.Tables.{get, settings_of};
+ghost use Rattle.layout.specs.Tables.{get};
+ghost use Rattle.layout.specs.Shapes.{settings_of};
 ghost use Rattle.layout.specs.Picture.{ledger_in};
 ghost use Rattle.memory.specs.Writes.{mark_mem};
 ghost use Rattle.memory.specs.Judged.{Works};
@@ -37,7 +38,7 @@ fn marking(m: &[u8], s: Shape, p: usize, n: u8) -> bool
     requires { Held s m.now }
     ensures { result ≡ marks (settings_of s) p (get (settings_of s) m.now Halted p) n }
 {
-    p < s.ports && layout::get1(m, s, Table::Halted, p) == 0 && halting(n)
+    p < s.ports && layout::get::<u8>(m, s, Table::Halted, p) == 0 && halting(n)
 }
 
 // The port at which an arrival was refused, marked for it if the refusal halts and no mark stands.
@@ -99,7 +100,7 @@ fn right_mark(m: &[u8], s: Shape, p: usize) -> bool
     requires { Held s m.now × (p < s.ports) }
     ensures { result ≡ is_mark (get (settings_of s) m.now Halted p) }
 {
-    let n = layout::get1(m, s, Table::Halted, p);
+    let n = layout::get::<u8>(m, s, Table::Halted, p);
     n == 0 || halting(n)
 }
 

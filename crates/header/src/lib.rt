@@ -15,6 +15,7 @@ ghost use Rattle.header.specs.Judge.{verdict_of, verdict, opened, settled, reada
 
 use forms::HeaderForm;
 use ledger::{Load, Refusal};
+use numbers::Number;
 
 // The fields of a header, the front's six and then a field for each run of whole bytes.
 #[derive(Clone, Copy)]
@@ -57,7 +58,7 @@ fn front_word(h: &[u8], form: HeaderForm) -> u32
     requires { header_size (form_in form) ≤ length h.now }
     ensures { result ≡ number form.front h.now 0 }
 {
-    numbers::read4(h, 0) >> (8 * (4 - form.front))
+    u32::read(h, 0) >> (8 * (4 - form.front))
 }
 
 // Its fields, from the last to the first.
@@ -90,9 +91,9 @@ fn offered_at(h: &[u8], at: usize, bytes: u32) -> u16
     ensures { result ≡ number bytes h.now at }
 {
     if bytes == 1 {
-        u16::from(numbers::read1(h, at))
+        u16::from(u8::read(h, at))
     } else {
-        numbers::read2(h, at)
+        u16::read(h, at)
     }
 }
 
@@ -104,11 +105,11 @@ fn fields(h: &[u8], form: HeaderForm) -> HeaderFields
     let w = front_word(h, form);
     let front = front_fields(w, form);
     let at = form.front as usize;
-    let stamp = numbers::read4(h, at);
+    let stamp = u32::read(h, at);
     let offered = offered_at(h, at + 4, form.offer);
     let last = (form.size - 2) as usize;
-    let transaction = numbers::read1(h, last);
-    let check = numbers::read1(h, last + 1);
+    let transaction = u8::read(h, last);
+    let check = u8::read(h, last + 1);
     HeaderFields {
         dest: front.dest,
         source: front.source,

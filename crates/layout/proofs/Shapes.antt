@@ -9,9 +9,11 @@ use lib.ListN.{length}
 use Rattle.numbers.specs.Bytes.{number, store}
 use Rattle.ledger.specs.Settings.{Settings, row}
 use Rattle.ledger.specs.Sound.{Roomy}
-use Rattle.layout.specs.declared.Shape.{Shape}
+use Rattle.layout.specs.declared.shape.Shape.{Shape}
 use Rattle.layout.specs.declared.Table.{Table}
-use Rattle.layout.specs.Tables.{cells, lists, all, start_of, get, put, settings_of, Laid}
+use Rattle.layout.specs.Tables.{cells, lists, all, start_of, get, put}
+use Rattle.layout.specs.Held.{Lays}
+use Rattle.layout.specs.Shapes.{settings_of}
 use Rattle.layout.specs.Access.{Reads}
 use Rattle.layout.proofs.Tables.{within}
 
@@ -34,28 +36,10 @@ few S r =
       few_all = mul-le-mul r.few_ports r.few_nodes;
     }
 
-pub record Small (s : Shape) : Type 0 where
-  pub small_ports : s.ports ≤ 32
-  pub small_cells : s.cells ≤ 2016
-  pub small_lists : s.lists ≤ 4160
-  pub small_all : s.all ≤ 65536
-  pub small_arrival : s.arrival ≤ 65536
-  pub small_head : s.head ≤ 131072
-  pub small_next : s.next ≤ 262144
-
-pub small : (s : Shape) → Laid s → Small s
+-- the bytes of a state, as a shape's numbers give them, are few
+pub small : {S : Settings} {r c l a at head next least dests : ℕ} → Lays S r c l a at head next least dests → next + 13 * a ≤ 1114112
 unfolding start_of
-small s l =
-    let f = few (settings_of s) l.roomy in
-    record {
-      small_ports = l.roomy.few_ports;
-      small_cells = omega arith;
-      small_lists = omega arith;
-      small_all = omega arith;
-      small_arrival = omega arith;
-      small_head = omega arith;
-      small_next = omega arith;
-    }
+small {S} k = let f = few S k.roomy in omega arith
 
 -- a one shifted by fewer places than its type has bits
 pub one_shifted : (w k : ℕ) → w < k → 1 * 2 ^ w % 2 ^ k ≡ 2 ^ w

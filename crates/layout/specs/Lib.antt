@@ -1,3 +1,5 @@
 pub mod Tables
+pub mod Held
+pub mod Shapes
 pub mod Picture
 pub mod Access

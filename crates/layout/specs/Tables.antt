@@ -1,12 +1,10 @@
 -- The state as a row of tables in lent bytes. A table has an element width in bytes and a number of elements; its start is the sum of
 -- the sizes of the tables before it. Nothing else knows an offset. Assumes nothing.
-use Rattle.std.specs.Prelude.{List, [], ◌∷◌, map, ℕ, ◌+◌, ◌-◌, ◌*◌, ◌^◌, take, ◌≡◌}
+use Rattle.std.specs.Prelude.{List, [], ◌∷◌, map, ℕ, ◌+◌, ◌-◌, ◌*◌, take}
 use Rattle.numbers.specs.Bytes.{number, store}
 use Rattle.ledger.specs.Settings.{Settings, setting_count, ids, bucket_count, row}
-use Rattle.ledger.specs.Header.{form, least_length}
 use Rattle.ledger.specs.Ledger.{Column, arrival, outward, last, mapped, halted, buckets}
-use Rattle.ledger.specs.Sound.{sum, Roomy}
-use Rattle.layout.specs.declared.Shape.{Shape}
+use Rattle.ledger.specs.Sound.{sum}
 use Rattle.layout.specs.declared.Table.{Table}
 use Rattle.layout.specs.declared.Table.TheVariants.{Setting, Mapped, Last, Halted, Arrival, Outward, Buckets, Head, Tail, Count, Next, Length, Stamp}
 use Rattle.layout.specs.declared.Table.TheVariants.{Queue, Dest, Poisoned, Transaction, Price}
@@ -118,31 +116,3 @@ get S m t i = number (width t) m (start_of S t + i * width t)
 
 unfoldable pub put : Settings → Table → ℕ → ℕ → List ℕ → List ℕ
 put S t i v m = store (width t) m (start_of S t + i * width t) v
-
--- ---- the code's Shape
-
--- the settings that a shape was made from
-abbrev pub settings_of : Shape → Settings
-settings_of s = record {
-  ports = s.ports;
-  queues = s.queues;
-  nodes = s.nodes;
-  beat = s.beat;
-  slots = s.slots;
-  credit = s.credit;
-  edition = s.edition;
-  packets = s.packets;
-}
-
--- a shape holds what its settings say, and they are a switch's
-pub record Laid (s : Shape) : Type 0 where
-  pub roomy : Roomy (settings_of s)
-  pub row_is : s.row ≡ row (settings_of s)
-  pub cells_are : s.cells ≡ cells (settings_of s)
-  pub lists_are : s.lists ≡ lists (settings_of s)
-  pub all_are : s.all ≡ all (settings_of s)
-  pub arrival_at : s.arrival ≡ start_of (settings_of s) Arrival
-  pub head_at : s.head ≡ start_of (settings_of s) Head
-  pub next_at : s.next ≡ start_of (settings_of s) Next
-  pub least_is : s.least ≡ least_length (form (settings_of s))
-  pub dests_are : s.dests ≡ 2 ^ (form (settings_of s)).port_bits

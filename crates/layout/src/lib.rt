@@ -1,15 +1,20 @@
 // The state in lent bytes: a row of tables. A Shape holds what the settings fix, so that a call computes it once.
 #![tactic(auto)]
 
+mod shape;
+
 ghost use Rattle.std.specs.Prelude.{◌≡◌, ◌+◌, ◌-◌, ◌*◌, ◌^◌};
 ghost use Rattle.ledger.specs.Settings.{row, size};
 ghost use Rattle.ledger.specs.Header.{form, least_length};
 ghost use Rattle.ledger.specs.Sound.{Roomy};
 ghost use Rattle.settings.specs.Told.{told_settings};
-ghost use Rattle.layout.specs.Tables.{start_of, get, put, settings_of, Laid};
-ghost use Rattle.layout.specs.Access.{Reads, Made};
+ghost use Rattle.layout.specs.Tables.{start_of, get, put};
+ghost use Rattle.layout.specs.Shapes.{settings_of, Laid};
+ghost use Rattle.layout.specs.Access.{Reads};
 
+use numbers::Number;
 use settings::Settings;
+pub use shape::Shape;
 
 #[derive(Clone, Copy)]
 pub enum Table {
@@ -33,30 +38,8 @@ pub enum Table {
     Price,
 }
 
-// The settings, and what follows from them: how many lists a port has, how many credit cells, lists and nodes there are, where three tables
-// start, the least length of a packet, and how many destinations a header can name.
-#[derive(Clone, Copy)]
-pub struct Shape {
-    pub ports: usize,
-    pub queues: usize,
-    pub nodes: usize,
-    pub beat: usize,
-    pub slots: usize,
-    pub credit: usize,
-    pub edition: usize,
-    pub packets: usize,
-    pub row: usize,
-    pub cells: usize,
-    pub lists: usize,
-    pub all: usize,
-    pub arrival: usize,
-    pub head: usize,
-    pub next: usize,
-    pub least: usize,
-    pub dests: usize,
-}
-
 // The least length of a packet: its header and two bytes more.
+#[tactic(auto, using(ledger::proofs::Header::header_small), unfolding(ledger::specs::Header::least_length))]
 fn least_of(told: Settings) -> usize
     requires { Roomy (told_settings told) }
     ensures { result ≡ least_length (form (told_settings told)) }
@@ -66,6 +49,7 @@ fn least_of(told: Settings) -> usize
 }
 
 // How many destinations a header can name: as many as its field holds.
+#[tactic(auto, using(crate::proofs::Shapes::one_shifted))]
 fn dests_of(told: Settings) -> usize
     requires { Roomy (told_settings told) }
     ensures { result ≡ 2 ^ (form (told_settings told)).port_bits }
@@ -75,9 +59,10 @@ fn dests_of(told: Settings) -> usize
 }
 
 // The shape of a switch with these settings.
+#[tactic(auto, using(crate::proofs::Shapes::few), unfolding(crate::specs::Tables::start_of, ledger::specs::Settings::row))]
 pub fn shape_of(told: Settings) -> Shape
     requires { Roomy (told_settings told) }
-    ensures { Made (told_settings told) result }
+    ensures { settings_of result ≡ told_settings told }
 {
     let ports = told.ports as usize;
     let queues = told.queues as usize;
@@ -118,86 +103,52 @@ pub fn shape_of(told: Settings) -> Shape
 }
 
 // Where a table starts.
+#[tactic(auto, using(crate::proofs::Shapes::small), unfolding(crate::specs::Tables::start_of))]
 pub fn start_of(s: Shape, t: Table) -> usize
-    requires { Laid s }
     ensures { result ≡ start_of (settings_of s) t }
 {
-    let cells = s.cells;
-    let lists = s.lists;
-    let all = s.all;
-    let head = s.head;
-    let next = s.next;
     match t {
         Table::Setting => 0,
         Table::Mapped => 16,
         Table::Last => 4112,
         Table::Halted => 4112 + s.ports,
         Table::Arrival => s.arrival,
-        Table::Outward => s.arrival + 2 * cells,
-        Table::Buckets => s.arrival + 4 * cells,
-        Table::Head => head,
-        Table::Tail => head + 2 * lists,
-        Table::Count => head + 4 * lists,
-        Table::Next => next,
-        Table::Length => next + 2 * all,
-        Table::Stamp => next + 4 * all,
-        Table::Queue => next + 8 * all,
-        Table::Dest => next + 9 * all,
-        Table::Poisoned => next + 10 * all,
-        Table::Transaction => next + 11 * all,
-        Table::Price => next + 12 * all,
+        Table::Outward => s.arrival + 2 * s.cells,
+        Table::Buckets => s.arrival + 4 * s.cells,
+        Table::Head => s.head,
+        Table::Tail => s.head + 2 * s.lists,
+        Table::Count => s.head + 4 * s.lists,
+        Table::Next => s.next,
+        Table::Length => s.next + 2 * s.all,
+        Table::Stamp => s.next + 4 * s.all,
+        Table::Queue => s.next + 8 * s.all,
+        Table::Dest => s.next + 9 * s.all,
+        Table::Poisoned => s.next + 10 * s.all,
+        Table::Transaction => s.next + 11 * s.all,
+        Table::Price => s.next + 12 * s.all,
     }
 }
 
 // The bytes of a state: where the last table ends.
+#[tactic(auto, using(crate::proofs::Shapes::small), unfolding(crate::specs::Tables::start_of, ledger::specs::Settings::size))]
 pub fn size_of(s: Shape) -> usize
-    requires { Laid s }
     ensures { result ≡ size (settings_of s) }
 {
-    let all = s.all;
-    s.next + 13 * all
+    s.next + 13 * s.all
 }
 
-// Element i of a table: a read for each width.
-pub fn get1(m: &[u8], s: Shape, t: Table, i: usize) -> u8
-    requires { Reads 1 s t i m.now }
-    ensures { result ≡ get (settings_of s) m.now t i }
+// Element i of a table, as a number of the table's width.
+pub fn get<N: Number>(m: &[u8], s: Shape, t: Table, i: usize) -> N
+    requires { Reads N.BYTES s t i m.now }
+    ensures { N.value result ≡ get (settings_of s) m.now t i }
 {
-    numbers::read1(m, start_of(s, t) + i)
+    N::read(m, start_of(s, t) + i * N::BYTES)
 }
 
-pub fn get2(m: &[u8], s: Shape, t: Table, i: usize) -> u16
-    requires { Reads 2 s t i m.now }
-    ensures { result ≡ get (settings_of s) m.now t i }
+// v stored as element i of a table.
+pub fn put<N: Number>(m: &mut [u8], s: Shape, t: Table, i: usize, v: N)
+    requires { Reads N.BYTES s t i m.old }
+    ensures { m.new ≡ put (settings_of s) t i (N.value v) m.old }
 {
-    numbers::read2(m, start_of(s, t) + i * 2)
-}
-
-pub fn get4(m: &[u8], s: Shape, t: Table, i: usize) -> u32
-    requires { Reads 4 s t i m.now }
-    ensures { result ≡ get (settings_of s) m.now t i }
-{
-    numbers::read4(m, start_of(s, t) + i * 4)
-}
-
-// v stored as element i of a table: a write for each width.
-pub fn put1(m: &mut [u8], s: Shape, t: Table, i: usize, v: u8)
-    requires { Reads 1 s t i m.old }
-    ensures { m.new ≡ put (settings_of s) t i v m.old }
-{
-    numbers::write1(m, start_of(s, t) + i, v);
-}
-
-pub fn put2(m: &mut [u8], s: Shape, t: Table, i: usize, v: u16)
-    requires { Reads 2 s t i m.old }
-    ensures { m.new ≡ put (settings_of s) t i v m.old }
-{
-    numbers::write2(m, start_of(s, t) + i * 2, v);
-}
-
-pub fn put4(m: &mut [u8], s: Shape, t: Table, i: usize, v: u32)
-    requires { Reads 4 s t i m.old }
-    ensures { m.new ≡ put (settings_of s) t i v m.old }
-{
-    numbers::write4(m, start_of(s, t) + i * 4, v);
+    v.write(m, start_of(s, t) + i * N::BYTES);
 }

@@ -3,8 +3,8 @@
 use mathlib.Core.Path.{◌≡◌}
 use mathlib.Core.List.{List}
 use Prim.Native.Nat.{ℕ}
-use Rattle.layout.specs.declared.Shape.{Shape}
-use Rattle.layout.specs.Tables.{settings_of}
+use Rattle.layout.specs.declared.shape.Shape.{Shape}
+use Rattle.layout.specs.Shapes.{settings_of}
 use Rattle.memory.specs.Ends.{push_mem}
 use Rattle.memory.proofs.Pop.{pop_tidy, pop_node}
 use Rattle.lists.specs.Ends.{CanTake, CanPut, CanShift, Taken, Shifted}
@@ -19,7 +19,6 @@ module _ {s : Shape} {a b i j x : ℕ} {m m' : List ℕ} where
   can_put ea eb can taken =
       let take = can.take in
       record {
-        laid = take.laid;
         tidy = rw (taken.memory, ea) (pop_tidy _ _ _ take.tidy take.inside take.some);
         inside = rw eb can.target;
         node = rw (taken.first, ea) (pop_node _ _ _ take.tidy take.inside take.some);

@@ -4,7 +4,7 @@
 ghost use Rattle.std.specs.Prelude.{◌≡◌, List, ℕ};
 ghost use Rattle.ledger.specs.Answers.{plain_reply};
 ghost use Rattle.ledger.specs.Calls.{Reply, map_to};
-ghost use Rattle.layout.specs.Tables.{settings_of};
+ghost use Rattle.layout.specs.Shapes.{settings_of};
 ghost use Rattle.layout.specs.Picture.{ledger_in};
 ghost use Rattle.memory.specs.Judged.{Works, judgement_of, judged};
 ghost use Rattle.memory.specs.Memory.{acted};

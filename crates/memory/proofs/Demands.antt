@@ -27,8 +27,9 @@ use Rattle.ledger.proofs.Order.{keeps_order}
 use Rattle.ledger.proofs.Records.{goes_along}
 use Rattle.ledger.proofs.Night.{whose_node, arrival_shows, pool_kept}
 use Rattle.ledger.proofs.Halted.{refused_agree, arrival_alike, own_mark_alone, halt_lasts}
-use Rattle.layout.specs.declared.Shape.{Shape}
-use Rattle.layout.specs.Tables.{lists, settings_of}
+use Rattle.layout.specs.declared.shape.Shape.{Shape}
+use Rattle.layout.specs.Tables.{lists}
+use Rattle.layout.specs.Shapes.{settings_of}
 use Rattle.layout.specs.Picture.{settings_in, ledger_in, StateOf, State}
 use Rattle.memory.specs.Memory.{state_dec, desk_of, picture, acted, tested, M}
 use Rattle.memory.specs.Judged.{Works}

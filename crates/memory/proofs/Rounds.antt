@@ -22,8 +22,8 @@ use Rattle.ledger.proofs.Lists.{All-append, All-at}
 use Rattle.ledger.proofs.Steps.{guarded}
 use Rattle.ledger.proofs.Chances.{quiet_stitches, quiet_prefetches}
 use Rattle.ledger.proofs.Told.{none_told, read_told, each_length, each_at}
-use Rattle.layout.specs.declared.Shape.{Shape}
-use Rattle.layout.specs.Tables.{settings_of}
+use Rattle.layout.specs.declared.shape.Shape.{Shape}
+use Rattle.layout.specs.Shapes.{settings_of}
 use Rattle.layout.specs.Picture.{settings_in, ledger_in, StateOf, State}
 use Rattle.memory.specs.Judged.{Works}
 use Rattle.memory.specs.Memory.{state_dec, desk_of, picture, acted, M}
@@ -89,7 +89,7 @@ module _ (s : Shape) where
   pub works_after : (m : List ℕ) (a : Act) → Works s m → Works s (acted (settings_of s) m a).1
   works_after m a w =
       let k = act_keeps (settings_of s) m (sym w.settings_are) w.state a in
-      record { laid = w.laid; settings_are = sym k.settings; state = k.state }
+      record { settings_are = sym k.settings; state = k.state }
 
   pub works_after_all : (m : List ℕ) (xs : List Act) → Works s m → Works s (after_acts (settings_of s) m xs)
   works_after_all m [] w = w

@@ -13,8 +13,8 @@ use Rattle.ledger.specs.Desk.{has}
 use Rattle.ledger.specs.Sound.{Roomy}
 use Rattle.ledger.proofs.Rows.{roomy}
 use Rattle.ledger.proofs.Words as steps
-use Rattle.layout.specs.declared.Shape.{Shape}
-use Rattle.layout.specs.Tables.{settings_of}
+use Rattle.layout.specs.declared.shape.Shape.{Shape}
+use Rattle.layout.specs.Shapes.{settings_of}
 use Rattle.layout.specs.Picture.{settings_in, ledger_in, StateOf}
 use Rattle.memory.specs.Memory.{picture, acted}
 use Rattle.memory.specs.Judged.{Works}

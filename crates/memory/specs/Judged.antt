@@ -5,8 +5,8 @@ use Rattle.ledger.specs.Rules.{guard}
 use Rattle.ledger.specs.Ledger.{Ledger}
 use Rattle.ledger.specs.Calls.{Act, rules}
 use Rattle.ledger.specs.Answers.{number_of}
-use Rattle.layout.specs.declared.Shape.{Shape}
-use Rattle.layout.specs.Tables.{settings_of, Laid}
+use Rattle.layout.specs.declared.shape.Shape.{Shape}
+use Rattle.layout.specs.Shapes.{settings_of}
 use Rattle.layout.specs.Picture.{settings_in, StateOf}
 use Rattle.ledger.specs.declared.Refusal.{Refusal}
 
@@ -23,6 +23,5 @@ judged S L a = guard (rules S L a) bad good
 
 -- what the calls below the public ones may rely on: the shape is that of the memory, and the memory is a switch state
 pub record Works (s : Shape) (m : List ℕ) : Type 0 where
-  pub laid : Laid s
   pub settings_are : settings_of s ≡ settings_in m
   pub state : StateOf (settings_of s) m

@@ -2,8 +2,8 @@
 use Rattle.std.specs.Prelude.{◌≡◌, Bool, true, ◌&&◌, List, ℕ, ◌^◌, ◌≤◌, length}
 use Rattle.ledger.specs.Settings.{Settings, size}
 use Rattle.ledger.specs.Ledger.{is_node}
-use Rattle.layout.specs.declared.Shape.{Shape}
-use Rattle.layout.specs.Tables.{settings_of, Laid}
+use Rattle.layout.specs.declared.shape.Shape.{Shape}
+use Rattle.layout.specs.Shapes.{settings_of}
 use Rattle.layout.specs.Picture.{slot}
 use Rattle.once.specs.Once.{is_new, mark}
 use Rattle.once.specs.Walks.{Marks}
@@ -26,7 +26,6 @@ pub record NodeLent (s : Shape) (m bs sums : List ℕ) (x i : ℕ) : Type 0 wher
 
 -- and where it is not free, for its record and its price
 pub record PacketLent (s : Shape) (m sums : List ℕ) (x i : ℕ) : Type 0 where
-  pub laid : Laid s
   pub long : size (settings_of s) ≤ length m
   pub held : Sums (settings_of s) sums (2 ^ 63)
   pub node : is_node (settings_of s) x ≡ true

@@ -1,8 +1,9 @@
 -- What the walks ask and give. Assumes nothing.
 use Rattle.std.specs.Prelude.{◌≡◌, Bool, true, List, ℕ, ◌-◌, ◌*◌, ◌≤◌, ◌<◌, length, replicate, eqb}
 use Rattle.ledger.specs.Settings.{Settings, size}
-use Rattle.layout.specs.declared.Shape.{Shape}
-use Rattle.layout.specs.Tables.{lists, all, settings_of, Laid}
+use Rattle.layout.specs.declared.shape.Shape.{Shape}
+use Rattle.layout.specs.Tables.{lists, all}
+use Rattle.layout.specs.Shapes.{settings_of}
 use Rattle.layout.specs.Picture.{nodes_of}
 use Rattle.once.specs.Bits.{mark_at, set_mark, marks_in}
 use Rattle.once.specs.Once.{is_new, mark, mark_all, right, scan, once_found}
@@ -11,7 +12,6 @@ use Rattle.once.specs.Once.{is_new, mark, mark_all, right, scan, once_found}
 
 -- there is one for each node
 pub record Marks (s : Shape) (bs : List ℕ) : Type 0 where
-  pub laid : Laid s
   pub room : all (settings_of s) ≤ 8 * length bs
 
 -- and the memory is long enough, and has a list l

@@ -4,7 +4,8 @@
 #![tactic(auto)]
 
 ghost use Rattle.std.specs.Prelude.{◌≡◌, ◌*◌, ◌<◌, length};
-ghost use Rattle.layout.specs.Tables.{lists, settings_of};
+ghost use Rattle.layout.specs.Tables.{lists};
+ghost use Rattle.layout.specs.Shapes.{settings_of};
 ghost use Rattle.once.specs.Bits.{mark_at, set_mark, marks_in};
 ghost use Rattle.once.specs.Once.{unmarked, once_found};
 ghost use Rattle.once.specs.Walks.{Marks, Walkable, Blank, Fresh, Met, Walked};
@@ -53,9 +54,9 @@ fn walk_list(m: &[u8], s: Shape, l: usize, marks: &mut [u8]) -> bool
     requires { Walkable s m.now marks.old l }
     ensures { Walked s m.now (marks_in (settings_of s) marks.old) l (marks_in (settings_of s) marks.new) result }
 {
-    let tail = layout::get2(m, s, Table::Tail, l);
-    let count = layout::get4(m, s, Table::Count, l);
-    let mut x = layout::get2(m, s, Table::Head, l);
+    let tail = layout::get::<u16>(m, s, Table::Tail, l);
+    let count = layout::get::<u32>(m, s, Table::Count, l);
+    let mut x = layout::get::<u16>(m, s, Table::Head, l);
     let mut last = tail;
     for _ in 0..count {
         let id = EntryId(x);
@@ -63,7 +64,7 @@ fn walk_list(m: &[u8], s: Shape, l: usize, marks: &mut [u8]) -> bool
             return false;
         }
         last = x;
-        x = layout::get2(m, s, Table::Next, geometry::slot_of(s, id));
+        x = layout::get(m, s, Table::Next, geometry::slot_of(s, id));
     }
     last == tail
 }

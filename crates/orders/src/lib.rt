@@ -10,6 +10,7 @@ ghost use Rattle.orders.specs.Orders.{said_of, carried};
 
 use fields::Order;
 use ledger::{Entry, Plain, Stitched, Turned};
+use numbers::Number;
 
 // What a line says after its number.
 #[derive(Clone, Copy)]
@@ -43,7 +44,7 @@ fn entry(e: Entry) -> Said
 fn entry_in(bytes: &[u8; 10]) -> u16
     ensures { result ≡ number 2 bytes.now 0 }
 {
-    numbers::read2(bytes, 0)
+    u16::read(bytes, 0)
 }
 
 fn stitched(s: Stitched) -> Said

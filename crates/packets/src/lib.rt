@@ -6,7 +6,7 @@ ghost use Rattle.std.specs.Prelude.{◌≡◌, List, ℕ, ◌+◌, ◌++◌, ◌
 ghost use Rattle.ledger.specs.Settings.{slot_bytes, keeps_packets};
 ghost use Rattle.ledger.specs.Calls.{other_size};
 ghost use Rattle.ledger.specs.Packets.{slot_at, stored};
-ghost use Rattle.layout.specs.Tables.{settings_of, Laid};
+ghost use Rattle.layout.specs.Shapes.{settings_of};
 ghost use Rattle.packets.specs.Parts.{among, part_of};
 
 use layout::Shape;
@@ -25,7 +25,6 @@ pub fn keeps(s: Shape) -> bool
 // Whether a memory of n bytes has another size than a port's packet memory.
 #[tactic(auto, unfolding(ledger::specs::Settings::packet_room))]
 pub fn other_size(s: Shape, n: usize) -> bool
-    requires { Laid s }
     ensures { result ≡ other_size (settings_of s) n }
 {
     n != s.nodes * SLOT

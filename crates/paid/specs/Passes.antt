@@ -3,9 +3,10 @@ use Rattle.std.specs.Prelude.{◌≡◌, true, List, ℕ, ◌*◌, ◌^◌, ◌�
 use Rattle.ledger.specs.Settings.{Settings, size}
 use Rattle.ledger.specs.Ledger.{owner, is_node, place_of, credit_at}
 use Rattle.ledger.specs.Sound.{Everywhere, WellRecorded}
-use Rattle.layout.specs.declared.Shape.{Shape}
+use Rattle.layout.specs.declared.shape.Shape.{Shape}
 use Rattle.layout.specs.declared.Table.TheVariants.{Queue}
-use Rattle.layout.specs.Tables.{cells, lists, get, settings_of, Laid}
+use Rattle.layout.specs.Tables.{cells, lists, get}
+use Rattle.layout.specs.Shapes.{settings_of}
 use Rattle.layout.specs.Picture.{slot, ledger_in}
 use Rattle.memory.specs.Ends.{Tidy}
 
@@ -26,7 +27,6 @@ list_most = 16711680
 -- ---- a node
 
 pub record AddsPrice (s : Shape) (sums : List ℕ) (x queue : ℕ) : Type 0 where
-  pub laid : Laid s
   pub home : owner x < s.ports
   pub inside : queue < s.queues
   pub held : Sums (settings_of s) sums (2 ^ 63)
@@ -38,7 +38,6 @@ pub record Counted (S : Settings) (m : List ℕ) (x : ℕ) : Type 0 where
 -- ---- the cells
 
 pub record Settles (s : Shape) (m sums : List ℕ) : Type 0 where
-  pub laid : Laid s
   pub long : size (settings_of s) ≤ length m
   pub held : Sums (settings_of s) sums (list_most * lists (settings_of s))
 

@@ -3,7 +3,7 @@
 #![tactic(auto)]
 
 ghost use Rattle.std.specs.Prelude.{◌≡◌};
-ghost use Rattle.layout.specs.Tables.{settings_of};
+ghost use Rattle.layout.specs.Shapes.{settings_of};
 ghost use Rattle.paid.specs.Paid.{add_price, settled_at, due_found};
 ghost use Rattle.paid.specs.Passes.{AddsPrice, Settles, SettlesAt};
 
@@ -28,7 +28,7 @@ fn settled(m: &[u8], s: Shape, sums: &[u64], c: usize) -> bool
     requires { SettlesAt s m.now sums.now c }
     ensures { result ≡ settled_at (settings_of s) m.now sums.now c }
 {
-    let arrival = u64::from(layout::get2(m, s, Table::Arrival, c));
+    let arrival = u64::from(layout::get::<u16>(m, s, Table::Arrival, c));
     arrival + sums[c] == s.credit as u64
 }
 

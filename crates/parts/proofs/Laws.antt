@@ -1,7 +1,7 @@
 -- Which elements the parts of a state are, and what they show. Assumes nothing.
 use mathlib.Core.Path.{◌≡◌, refl, sym, ap, ◌∙◌}
 use mathlib.Core.List.{List}
-use Prim.Native.Nat.{ℕ, suc, ◌-◌, ◌<◌}
+use Prim.Native.Nat.{ℕ, suc, ◌-◌, ◌*◌, ◌<◌}
 use native.Mathlib.Omega.{arith}
 use lib.ListN.{get_or}
 use Rattle.ledger.specs.Settings.{Settings, ids, bucket_count}
@@ -9,15 +9,15 @@ use Rattle.ledger.specs.Ledger.{cell, credit_at, buckets, tall, last_of, map_of,
 use Rattle.ledger.specs.Buckets.{bucket#}
 use Rattle.ledger.proofs.Places.{cell_lt}
 use Rattle.ledger.proofs.Buckets.{bucket_lt}
-use Rattle.layout.specs.declared.Shape.{Shape}
+use Rattle.layout.specs.declared.shape.Shape.{Shape}
 use Rattle.layout.specs.declared.Table.{Table}
 use Rattle.layout.specs.declared.Table.TheVariants.{Mapped, Last, Halted, Buckets}
-use Rattle.layout.specs.Tables.{cells, get, put, settings_of}
+use Rattle.layout.specs.Tables.{cells, get, put}
+use Rattle.layout.specs.Shapes.{settings_of}
 use Rattle.layout.specs.Picture.{tabulate, ledger_in}
-use Rattle.layout.specs.Access.{Reads}
 use Rattle.memory.specs.Writes.{credit_mem}
 use Rattle.memory.proofs.Chains.{get_d_table}
-use Rattle.parts.specs.Parts.{InCredits, InBuckets}
+use Rattle.parts.specs.Parts.{InCredits}
 
 -- ---- credits: queue q's cell is that of q - 1, and queue 0 has none
 
@@ -37,11 +37,8 @@ unfolding credit_mem
 put_paid S t p q v m h = ap (λ (n : ℕ). credit_mem S t p n v m) (sym (paid q h))
 
 module _ {s : Shape} {t : Table} {p q : ℕ} {m : List ℕ} (h : InCredits s t p q m) (some : 0 < q) where
-  cell_in : cell (settings_of s) p (q - 1) < cells (settings_of s)
+  pub cell_in : cell (settings_of s) p (q - 1) < cells (settings_of s)
   cell_in = cell_lt (settings_of s) p (q - 1) h.cell.port (omega (arith, h.cell.queue))
-
-  pub cell_reads : {i : ℕ} → i ≡ cell (settings_of s) p (q - 1) → Reads 2 s t i m
-  cell_reads e = record { laid = h.cell.laid; long = h.cell.long; wide = h.wide; inside = rw (e, h.each) cell_in }
 
   pub credit_is : credit_at (settings_of s) (tabulate (get (settings_of s) m t) 0 (cells (settings_of s))) p q
       ≡ get (settings_of s) m t (cell (settings_of s) p (q - 1))
@@ -66,6 +63,6 @@ module _ (S : Settings) (m : List ℕ) where
   unfolding ledger_in
   bucket_is p b h k = get_d_table (get S m Buckets) (tall S buckets) (bucket# p b) 0 (bucket_lt S p b h k)
 
-module _ {s : Shape} {p b : ℕ} {m : List ℕ} (h : InBuckets s p b m) where
-  pub bucket_reads : {i : ℕ} → i ≡ bucket# p b → Reads 4 s Buckets i m
-  bucket_reads e = record { laid = h.laid; long = h.long; wide = refl; inside = rw e (bucket_lt (settings_of s) p b h.port h.bucket) }
+pub bucket_in : (n p b : ℕ) → p < n → b < bucket_count → bucket# p b < n * bucket_count
+unfolding bucket#
+bucket_in n p b h k = omega arith

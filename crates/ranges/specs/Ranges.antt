@@ -4,9 +4,10 @@ use Rattle.std.specs.Prelude.{◌≡◌, Bool, cond, ◌||◌, List, [], ◌∷�
 use Rattle.ledger.specs.Settings.{Settings, row, size}
 use Rattle.ledger.specs.Ledger.{prefetched, place#, Column, last, mapped, tall, bound}
 use Rattle.ledger.specs.Sound.{sum}
-use Rattle.layout.specs.declared.Shape.{Shape}
+use Rattle.layout.specs.declared.shape.Shape.{Shape}
 use Rattle.layout.specs.declared.Table.TheVariants.{Count}
-use Rattle.layout.specs.Tables.{table_of, get, settings_of, Laid}
+use Rattle.layout.specs.Tables.{table_of, get}
+use Rattle.layout.specs.Shapes.{settings_of}
 use Rattle.ranges.specs.First.{first}
 
 -- the list that is prefetch list j
@@ -50,7 +51,6 @@ ranges_found S m = first (fits_at S m) (items S)
 
 -- a memory that holds a state of shape s, and item i of it
 pub record Held (s : Shape) (m : List ℕ) : Type 0 where
-  pub laid : Laid s
   pub long : size (settings_of s) ≤ length m
 
 pub record Item (s : Shape) (m : List ℕ) (i : ℕ) : Type 0 where

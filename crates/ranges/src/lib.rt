@@ -6,7 +6,8 @@ ghost use Rattle.std.specs.Prelude.{◌≡◌, ◌*◌, ◌<◌, ◌≤◌, leng
 ghost use Rattle.ledger.specs.Settings.{ids};
 ghost use Rattle.settings.specs.Told.{told_settings};
 ghost use Rattle.layout.specs.declared.Table.TheVariants.{Mapped};
-ghost use Rattle.layout.specs.Tables.{get, settings_of, Laid};
+ghost use Rattle.layout.specs.Tables.{get};
+ghost use Rattle.layout.specs.Shapes.{settings_of};
 ghost use Rattle.layout.specs.Access.{Reads};
 ghost use Rattle.layout.specs.Picture.{settings_in};
 ghost use Rattle.ranges.specs.First.{first};
@@ -14,6 +15,7 @@ ghost use Rattle.ranges.specs.Opening.{opened};
 ghost use Rattle.ranges.specs.Ranges.{low, highest, fits_at, prefetch_at, few_at, ranges_found, Held, Item, Sought};
 
 use layout::{Shape, Table};
+use numbers::Number;
 use settings::Settings;
 
 // The settings as they stand in a memory, in their rows or not.
@@ -23,14 +25,14 @@ fn read(m: &[u8]) -> Settings
     ensures { told_settings result ≡ settings_in m.now }
 {
     Settings {
-        ports: u32::from(numbers::read2(m, 0)),
-        queues: u32::from(numbers::read2(m, 2)),
-        nodes: u32::from(numbers::read2(m, 4)),
-        beat: u32::from(numbers::read2(m, 6)),
-        slots: u32::from(numbers::read2(m, 8)),
-        credit: u32::from(numbers::read2(m, 10)),
-        edition: u32::from(numbers::read2(m, 12)),
-        packets: u32::from(numbers::read2(m, 14)),
+        ports: u32::from(u16::read(m, 0)),
+        queues: u32::from(u16::read(m, 2)),
+        nodes: u32::from(u16::read(m, 4)),
+        beat: u32::from(u16::read(m, 6)),
+        slots: u32::from(u16::read(m, 8)),
+        credit: u32::from(u16::read(m, 10)),
+        edition: u32::from(u16::read(m, 12)),
+        packets: u32::from(u16::read(m, 14)),
     }
 }
 
@@ -42,8 +44,7 @@ pub fn open(m: &[u8]) -> Result<Shape, usize>
         return Err(8);
     }
     let told = read(m);
-    let out = settings::first_out(told);
-    if out != 8 {
+    if let Some(out) = settings::first_out(told) {
         return Err(out);
     }
     let s = layout::shape_of(told);
@@ -56,7 +57,7 @@ pub fn open(m: &[u8]) -> Result<Shape, usize>
 // The number of prefetch list j, which counts those lists alone, port by port and queue by queue.
 #[tactic(auto, unfolding(crate::specs::Ranges::prefetch_at))]
 fn prefetch_list(s: Shape, j: usize) -> usize
-    requires { Laid s × (j < s.ports * s.queues) }
+    requires { j < s.ports * s.queues }
     ensures { result ≡ prefetch_at (settings_of s) j }
 {
     geometry::prefetch_list(s, j / s.queues, j % s.queues)
@@ -64,7 +65,6 @@ fn prefetch_list(s: Shape, j: usize) -> usize
 
 // How many items are numbers: the ports' last served queues, and the map's entries.
 fn number_items(s: Shape) -> usize
-    requires { Laid s }
     ensures { result ≡ low (settings_of s) }
 {
     s.ports + 4096
@@ -75,7 +75,7 @@ fn below(m: &[u8], s: Shape, t: Table, i: usize, bound: usize) -> bool
     requires { Reads 1 s t i m.now }
     ensures { result ≡ ltb (get (settings_of s) m.now t i) bound }
 {
-    usize::from(layout::get1(m, s, t, i)) < bound
+    usize::from(layout::get::<u8>(m, s, t, i)) < bound
 }
 
 // Whether item i, a number, is in range.
@@ -98,14 +98,13 @@ fn in_range(m: &[u8], s: Shape, i: usize) -> bool
     if i < n {
         return number_in_range(m, s, i);
     }
-    let count = layout::get4(m, s, Table::Count, prefetch_list(s, i - n)) as usize;
+    let count = layout::get::<u32>(m, s, Table::Count, prefetch_list(s, i - n)) as usize;
     count <= s.slots
 }
 
 // (b): whether a list of a port's column may have so many nodes. A prefetch list has no more than there are slots.
 #[tactic(auto, unfolding(crate::specs::Ranges::few_at))]
 pub fn few_enough(s: Shape, column: usize, count: u32) -> bool
-    requires { Laid s }
     ensures { result ≡ few_at (settings_of s) column count }
 {
     column < 2 + s.queues || count as usize <= s.slots
@@ -127,7 +126,7 @@ fn highest_entry(m: &[u8], s: Shape) -> u8
 {
     let mut top: u8 = 0;
     for i in 0..4096 {
-        top = top.max(layout::get1(m, s, Table::Mapped, i));
+        top = top.max(layout::get::<u8>(m, s, Table::Mapped, i));
     }
     top
 }

@@ -4,8 +4,8 @@ use mathlib.Core.List.{List}
 use Prim.Native.Nat.{ℕ}
 use Rattle.ledger.specs.Settings.{Settings}
 use Rattle.ledger.specs.Calls.{Reply, refused, done}
-use Rattle.layout.specs.declared.Shape.{Shape}
-use Rattle.layout.specs.Tables.{settings_of}
+use Rattle.layout.specs.declared.shape.Shape.{Shape}
+use Rattle.layout.specs.Shapes.{settings_of}
 use Rattle.std.specs.Prelude.{Err}
 use Rattle.ranges.specs.Opening.{opened, Open}
 use Rattle.ranges.proofs.Opening.{opened_wrong, open_opens}
@@ -18,7 +18,7 @@ of_wrong {m} {i} e = sym (repair_refused m (opened_wrong m i e).0)
 
 module _ {m : List ℕ} {s : Shape} (o : Open m s) where
   pub open_room : Room s m
-  open_room = record { laid = o.laid; long = rw o.settings_are o.long }
+  open_room = record { long = rw o.settings_are o.long }
 
   pub of_fine : ◌≡◌ {A = Reply × List ℕ} (done, repair_mem (settings_of s) m) (repaired m)
   of_fine = ap (λ (S : Settings). (done, repair_mem S m)) o.settings_are ∙ sym (repair_done m (open_opens o))

@@ -7,9 +7,9 @@ use native.Mathlib.Omega.{arith}
 use lib.ListN.{length, get_or, set, length-set}
 use lib.Seq.{get_or-set_same, get_or-set_other}
 use Rattle.ledger.specs.Settings.{ids}
-use Rattle.layout.specs.declared.Shape.{Shape}
+use Rattle.layout.specs.declared.shape.Shape.{Shape}
 use Rattle.layout.specs.declared.Table.TheVariants.{Mapped}
-use Rattle.layout.specs.Tables.{settings_of}
+use Rattle.layout.specs.Shapes.{settings_of}
 use Rattle.memory.specs.Image.{fill, setup_mem}
 use Rattle.memory.specs.Repair.{repair_mem}
 use Rattle.memory.proofs.Repair.{fill_ext}

@@ -7,7 +7,7 @@ ghost use Rattle.ledger.specs.Calls.{Reply};
 ghost use Rattle.ledger.specs.Answers.{plain_reply};
 ghost use Rattle.ledger.specs.Repair.{mended};
 ghost use Rattle.layout.specs.declared.Table.TheVariants.{Mapped};
-ghost use Rattle.layout.specs.Tables.{settings_of};
+ghost use Rattle.layout.specs.Shapes.{settings_of};
 ghost use Rattle.memory.specs.Image.{fill};
 ghost use Rattle.memory.specs.Repair.{repair_mem, repaired};
 ghost use Rattle.fills.specs.Fills.{Room};
@@ -35,7 +35,7 @@ fn keep(m: &[u8], s: Shape, map: &mut [u8])
     ensures { Mends s m.now map.new }
 {
     for i in 0..map.len() {
-        map[i] = mended(s, layout::get1(m, s, Table::Mapped, i));
+        map[i] = mended(s, layout::get(m, s, Table::Mapped, i));
     }
 }
 
@@ -44,7 +44,7 @@ fn put_back(m: &mut [u8], s: Shape, map: &[u8])
     ensures { m.new ≡ fill (settings_of s) Mapped (λ i. i) (λ i. get_or map.now i 0) ids m.old }
 {
     for i in 0..map.len() {
-        layout::put1(m, s, Table::Mapped, i, map[i]);
+        layout::put(m, s, Table::Mapped, i, map[i]);
     }
 }
 

@@ -57,11 +57,11 @@ fn side_byte(side: Exit) -> u8
 fn sent_bytes(k: Sent, side: Exit) -> [u8; 16]
     ensures { result ≡ sent_bytes (sent_of k) (exit_of side) }
 {
-    let x = numbers::bytes2(k.entry.0);
-    let n = numbers::bytes2(k.length);
-    let d = numbers::bytes2(u16::from(k.destination));
-    let t = numbers::bytes4(k.timestamp);
-    let c = numbers::bytes2(u16::from(k.price));
+    let x = k.entry.0.to_be_bytes();
+    let n = k.length.to_be_bytes();
+    let d = u16::from(k.destination).to_be_bytes();
+    let t = k.timestamp.to_be_bytes();
+    let c = u16::from(k.price).to_be_bytes();
     [
         side_byte(side),
         k.queue,
@@ -137,8 +137,8 @@ pub fn put_part(
 pub fn place_bytes(x: EntryId, list: ListKind, i: u16) -> [u8; 8]
     ensures { result ≡ place_bytes x.0 (kind_of list) i }
 {
-    let id = numbers::bytes2(x.0);
-    let at = numbers::bytes2(i);
+    let id = x.0.to_be_bytes();
+    let at = i.to_be_bytes();
     [
         id[0],
         id[1],

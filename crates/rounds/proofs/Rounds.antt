@@ -8,8 +8,8 @@ use Rattle.ledger.specs.Buckets.{untimed}
 use Rattle.ledger.specs.Calls.{Act, Reply, turn}
 use Rattle.ledger.specs.Rounds.{each, answer_bytes, answers_in}
 use Rattle.ledger.proofs.Told.{none_told, told_next}
-use Rattle.layout.specs.declared.Shape.{Shape}
-use Rattle.layout.specs.Tables.{settings_of}
+use Rattle.layout.specs.declared.shape.Shape.{Shape}
+use Rattle.layout.specs.Shapes.{settings_of}
 use Rattle.memory.specs.Judged.{Works}
 use Rattle.memory.specs.Memory.{acted}
 use Rattle.memory.specs.Rounds.{after_acts, answers_to}

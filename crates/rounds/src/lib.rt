@@ -7,7 +7,7 @@ ghost use Rattle.ledger.specs.Answers.{plain_reply};
 ghost use Rattle.ledger.specs.Buckets.{untimed};
 ghost use Rattle.ledger.specs.Calls.{Reply, prefetch, turn};
 ghost use Rattle.ledger.specs.Rounds.{each, stitches, prefetches, turns, answer_bytes, answers_in};
-ghost use Rattle.layout.specs.Tables.{settings_of};
+ghost use Rattle.layout.specs.Shapes.{settings_of};
 ghost use Rattle.memory.specs.Judged.{Works};
 ghost use Rattle.memory.specs.Memory.{acted};
 ghost use Rattle.memory.specs.Rounds.{after_acts, answers_to, rounded};

@@ -3,7 +3,7 @@
 #![tactic(auto)]
 
 ghost use Rattle.std.specs.Prelude.{◌≡◌, List, ℕ};
-ghost use Rattle.layout.specs.Tables.{settings_of};
+ghost use Rattle.layout.specs.Shapes.{settings_of};
 ghost use Rattle.memory.specs.Judged.{Works};
 ghost use Rattle.memory.specs.Runs.{Report, did, ran};
 ghost use Rattle.runs.specs.Runs.{why_of, stop_of};

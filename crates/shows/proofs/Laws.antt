@@ -16,8 +16,9 @@ use Rattle.ledger.proofs.Lists.{All-at}
 use Rattle.ledger.proofs.Places.{place#_lt}
 use Rattle.ledger.proofs.Rows.{roomy}
 use Rattle.ledger.specs.Packets.{slot_at}
-use Rattle.layout.specs.declared.Shape.{Shape}
-use Rattle.layout.specs.Tables.{lists, settings_of}
+use Rattle.layout.specs.declared.shape.Shape.{Shape}
+use Rattle.layout.specs.Tables.{lists}
+use Rattle.layout.specs.Shapes.{settings_of}
 use Rattle.layout.specs.Picture.{packet_at, settings_in, ledger_in, StateOf}
 use Rattle.memory.specs.Writes.{head_of}
 use Rattle.memory.specs.Judged.{good, judged, Works}

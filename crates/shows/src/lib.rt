@@ -5,7 +5,7 @@ ghost use Rattle.std.specs.Prelude.{◌≡◌, List, ℕ};
 ghost use Rattle.std.specs.List.{list_any};
 ghost use Rattle.ledger.specs.Answers.{number_in, show_reply};
 ghost use Rattle.ledger.specs.Calls.{show, other_size};
-ghost use Rattle.layout.specs.Tables.{settings_of, Laid};
+ghost use Rattle.layout.specs.Shapes.{settings_of};
 ghost use Rattle.layout.specs.Picture.{ledger_in};
 ghost use Rattle.memory.specs.Judged.{Works, judgement_of, judged};
 ghost use Rattle.memory.specs.Memory.{acted};
@@ -16,7 +16,6 @@ use ledger::{EntryId, Refusal};
 
 // Whether one of four memories has another size than a port's packet memory.
 fn other_sizes(s: Shape, sizes: [usize; 4]) -> bool
-    requires { Laid s }
     ensures { result ≡ list_any (other_size (settings_of s)) sizes }
 {
     sizes.iter().any(|n| packets::other_size(s, *n))

@@ -3,14 +3,16 @@ use mathlib.Core.Path.{◌≡◌, refl, ap, subst, ◌∙◌}
 use mathlib.Core.List.{List}
 use Prim.Native.Nat.{ℕ}
 use native.Mathlib.Omega.{arith}
-use Rattle.std.specs.Prelude.{None, Some, Ok, Err}
+use Rattle.std.specs.Prelude.{None, Some, Result, Ok, Err}
 use Rattle.ledger.specs.declared.Rule.TheVariants.{B, G}
+use Rattle.ledger.specs.declared.Refusal.{Refusal}
 use Rattle.ledger.specs.declared.Refusal.TheVariants.{NoState}
 use Rattle.ledger.specs.Settings.{Settings}
 use Rattle.ledger.specs.Sound.{Shaped}
 use Rattle.ledger.proofs.Rows.{roomy}
-use Rattle.layout.specs.declared.Shape.{Shape}
-use Rattle.layout.specs.Tables.{get, settings_of, table_of}
+use Rattle.layout.specs.declared.shape.Shape.{Shape}
+use Rattle.layout.specs.Tables.{get, table_of}
+use Rattle.layout.specs.Shapes.{settings_of}
 use Rattle.layout.specs.Picture as picture
 use Rattle.layout.specs.Picture.{settings_in, ledger_in, StateOf}
 use Rattle.memory.specs.Ends.{Tidy}
@@ -19,7 +21,7 @@ use Rattle.memory.specs.Judged.{Works}
 use Rattle.memory.proofs.Chains.{length_tabulate, length_lists, state_tidy}
 use Rattle.ranges.specs.Opening.{shape_for, opened, Open}
 use Rattle.ranges.specs.Ranges.{ranges_found}
-use Rattle.ranges.proofs.Opening.{shape_is, opened_is, opened_fine}
+use Rattle.ranges.proofs.Opening.{shape_same, opened_is, opened_fine}
 use Rattle.ranges.proofs.Items.{ranges_means}
 use Rattle.once.specs.Once.{once_found}
 use Rattle.once.proofs.Means.{found_whole, found_tidy, whole_found}
@@ -84,12 +86,12 @@ module _ (m : List ℕ) (s : Shape) where
             rows = rw o.settings_are o.rows;
             orderly = record {
               shaped = shaped S m;
-              ranges = (ranges_means S m o.laid.roomy).0 k.ranges;
+              ranges = (ranges_means S m s.laid.roomy).0 k.ranges;
               once = w.1;
               owned = (fits_means OwnPort S m).0 (k.fits OwnPort);
               queued = (fits_means OwnQueue S m).0 (k.fits OwnQueue);
               proper = proper;
-              paid = (paid_means S m o.laid.roomy (record { tidy = tidy; proper = proper })).0 k.paid;
+              paid = (paid_means S m s.laid.roomy (record { tidy = tidy; proper = proper })).0 k.paid;
             };
             marked = (marks_mean S m).0 k.marked;
           };
@@ -109,6 +111,9 @@ state_clean S m t =
 
 -- ---- what is told of a memory
 
+ok_same : {s r : Shape} → ◌≡◌ {A = Result Shape Refusal} (Ok s) (Ok r) → s ≡ r
+ok_same e = cc
+
 module _ (m : List ℕ) where
   works_state : (s : Shape) → Works s m → picture.State m
   works_state s w = subst (λ (S : Settings). StateOf S m) w.settings_are w.state
@@ -118,12 +123,12 @@ module _ (m : List ℕ) where
   tested_is s w = go (state_dec m)
     where
       go : (d : Dec (picture.State m)) → Ok s ≡ tested_by m d
-      go (yes t) = ap Ok (shape_is s w.laid ∙ ap shape_for w.settings_are)
+      go (yes t) = ap Ok (shape_same s _ w.settings_are)
       go (no n) = absurd (n (works_state s w))
 
   -- the one walk decides: where the memory opens, by whether it is clean; and where it does not
   pub clean_tested : (s : Shape) → Open m s → Clean (settings_of s) m → Ok s ≡ tested_in m
-  clean_tested s o k = tested_is s (record { laid = o.laid; settings_are = o.settings_are; state = clean_state m s o k })
+  clean_tested s o k = tested_is s (record { settings_are = o.settings_are; state = clean_state m s o k })
 
   tested_not : (picture.State m → ⊥) → Err NoState ≡ tested_in m
   unfolding tested_in
@@ -144,10 +149,7 @@ module _ (m : List ℕ) where
   tested_state s = go (state_dec m)
     where
       go : (d : Dec (picture.State m)) → tested_by m d ≡ Ok s → Works s m
-      go (yes t) e =
-          let p : shape_for (settings_in m) ≡ s = cc in
-          let o = opened_fine m (shape_for (settings_in m)) (opened_is m t.sound.rows t.long) in
-          subst (λ (r : Shape). Works r m) p (record { laid = o.laid; settings_are = refl; state = t })
+      go (yes t) e = subst (λ (r : Shape). Works r m) (ok_same e) (record { settings_are = refl; state = t })
       go (no n) e = absurd (let z : ◌≡◌ {A = ℕ} 0 1 = cc in omega arith)
 
   pub tested_none : tested_in m ≡ Err NoState → picture.State m → ⊥

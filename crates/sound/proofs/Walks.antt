@@ -9,8 +9,9 @@ use Rattle.std.specs.Prelude.{Option, None, Some, Result, Ok, Err, is_some, is_o
 use Rattle.ledger.specs.declared.Rule.TheVariants.{A, G}
 use Rattle.ledger.specs.Settings.{Settings, row}
 use Rattle.ledger.specs.Sound.{Roomy}
-use Rattle.layout.specs.declared.Shape.{Shape}
-use Rattle.layout.specs.Tables.{lists, settings_of}
+use Rattle.layout.specs.declared.shape.Shape.{Shape}
+use Rattle.layout.specs.Tables.{lists}
+use Rattle.layout.specs.Shapes.{settings_of}
 use Rattle.layout.proofs.Shapes.{few}
 use Rattle.ranges.specs.Opening.{opened, Open}
 use Rattle.ranges.proofs.Opening.{open_opens, opened_wrong}
@@ -61,23 +62,23 @@ found_not r e d = false≢true (ap is_some (sym d) ∙ e)
 -- its first list
 pub from_small : {s : Shape} {m : List ℕ} {p : ℕ} → Tied s m p → p * s.row < 2 ^ 64
 from_small {s} {m} {p} t =
-    let l = t.stuck.opens.laid in
+    let l = s.laid in
     let h : p * row (settings_of s) ≤ lists (settings_of s) = mul-le-mul_right (row (settings_of s)) t.stuck.stuck.1.most in
     rw l.row_is (omega (arith, h, (few (settings_of s) l.roomy).few_lists))
 
 pub walkable : {s : Shape} {m : List ℕ} {p : ℕ} → Tied s m p → Walkable s m
-walkable {s} {m} t = let o = t.stuck.opens in record { laid = o.laid; tidy = passed_once m s o t.once }
+walkable {s} {m} t = let o = t.stuck.opens in record { tidy = passed_once m s o t.once }
 
 -- what (d) to (f) find from there on is what they find
 pub from_there : {s : Shape} {m : List ℕ} {p from : ℕ} → Tied s m p → from ≡ p * s.row → (rule : NodeRule)
     → fits_from rule (settings_of s) m from (lists (settings_of s) - from) ≡ fits_found rule (settings_of s) m
-from_there {s} {m} {p} t e rule = let l = t.stuck.opens.laid in rw (e, l.row_is) (t.stuck.stuck.1.rest rule)
+from_there {s} {m} {p} t e rule = let l = s.laid in rw (e, l.row_is) (t.stuck.stuck.1.rest rule)
 
 -- and one of them finds something
 pub not_stuck : {s : Shape} {m : List ℕ} {p : ℕ} → Tied s m p → ((rule : NodeRule) → fits_found rule (settings_of s) m ≡ None) → ⊥
 not_stuck {s} {m} t f =
     t.stuck.stuck.0
-    (record { slots = ranges_few (settings_of s) m t.stuck.opens.laid.roomy t.ranges; once = t.once; fits = f })
+    (record { slots = ranges_few (settings_of s) m s.laid.roomy t.ranges; once = t.once; fits = f })
 
 -- ---- rule (a) before all others
 

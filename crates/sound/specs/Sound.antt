@@ -1,8 +1,9 @@
 -- Which rule a memory breaks first, and whether it is a switch state. Assumes nothing.
 use Rattle.std.specs.Prelude.{◌≡◌, cond, List, ℕ, Option, None, Some, Result, Ok, Err}
 use Rattle.ledger.specs.Settings.{Settings}
-use Rattle.layout.specs.declared.Shape.{Shape}
-use Rattle.layout.specs.Tables.{settings_of}
+use Rattle.ledger.proofs.Rows.{roomy}
+use Rattle.layout.specs.declared.shape.Shape.{Shape}
+use Rattle.layout.specs.Shapes.{settings_of}
 use Rattle.layout.specs.Picture as picture
 use Rattle.layout.specs.Picture.{settings_in, opens}
 use Rattle.memory.specs.Memory.{state_dec}
@@ -63,7 +64,7 @@ pub record Clean (S : Settings) (m : List ℕ) : Type 0 where
   pub marked : marks_found S m ≡ None
 
 abbrev pub tested_by : (m : List ℕ) → Dec (picture.State m) → Result Shape Refusal
-tested_by m (yes s) = Ok (shape_for (settings_in m))
+tested_by m (yes s) = Ok (shape_for (settings_in m) (roomy (settings_in m) s.sound.rows))
 tested_by m (no n) = Err NoState
 
 unfoldable pub tested_in : List ℕ → Result Shape Refusal

@@ -3,7 +3,7 @@
 #![tactic(auto)]
 
 ghost use Rattle.std.specs.Prelude.{◌≡◌, ◌*◌, ◌≤◌, IfOk};
-ghost use Rattle.layout.specs.Tables.{settings_of};
+ghost use Rattle.layout.specs.Shapes.{settings_of};
 ghost use Rattle.memory.specs.Judged.{Works};
 ghost use Rattle.ranges.specs.Opening.{Open};
 ghost use Rattle.once.specs.Once.{once_found};

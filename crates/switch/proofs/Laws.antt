@@ -10,8 +10,8 @@ use Rattle.ledger.specs.Calls.{Act, refused, where_is}
 use Rattle.ledger.specs.Desk.{act}
 use Rattle.ledger.proofs.Tests.{ltb_not}
 use Rattle.ledger.proofs.Rows.{roomy}
-use Rattle.layout.specs.declared.Shape.{Shape}
-use Rattle.layout.specs.Tables.{settings_of}
+use Rattle.layout.specs.declared.shape.Shape.{Shape}
+use Rattle.layout.specs.Shapes.{settings_of}
 use Rattle.memory.specs.Memory.{state_dec, M}
 use Rattle.memory.specs.Rounds.{rounded, round_on}
 use Rattle.memory.specs.Runs.{refused_run, ran, run_on}

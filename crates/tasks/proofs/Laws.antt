@@ -18,8 +18,8 @@ use Rattle.ledger.specs.Rounds.{answer_bytes}
 use Rattle.ledger.proofs.Tests.{leb_is, leb_not, leb_no, eqb_is, eqb_not, or_left}
 use Rattle.ledger.proofs.Steps.{guarded}
 use Rattle.ledger.proofs.Words.{touches}
-use Rattle.layout.specs.declared.Shape.{Shape}
-use Rattle.layout.specs.Tables.{settings_of}
+use Rattle.layout.specs.declared.shape.Shape.{Shape}
+use Rattle.layout.specs.Shapes.{settings_of}
 use Rattle.layout.specs.Picture.{ledger_in}
 use Rattle.memory.specs.Writes.{refused_mem, write}
 use Rattle.memory.specs.Judged.{Works}

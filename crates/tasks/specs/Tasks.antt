@@ -2,8 +2,8 @@
 use Rattle.std.specs.Prelude.{◌≡◌, List, length, ℕ}
 use Rattle.ledger.specs.Calls.{Act}
 use Rattle.ledger.specs.Rounds.{answer_bytes}
-use Rattle.layout.specs.declared.Shape.{Shape}
-use Rattle.layout.specs.Tables.{settings_of}
+use Rattle.layout.specs.declared.shape.Shape.{Shape}
+use Rattle.layout.specs.Shapes.{settings_of}
 use Rattle.memory.specs.Judged.{Works}
 use Rattle.memory.specs.Memory.{acted}
 use Rattle.words.specs.declared.Words.{Words}

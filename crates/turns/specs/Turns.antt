@@ -5,9 +5,10 @@ use Rattle.ledger.specs.Ledger.{prefetched, place#, outward_of, last_of}
 use Rattle.ledger.specs.Ready.{ready_word, pick}
 use Rattle.ledger.specs.Answers.{sent_of}
 use Rattle.ledger.specs.declared.Sent.{Sent}
-use Rattle.layout.specs.declared.Shape.{Shape}
+use Rattle.layout.specs.declared.shape.Shape.{Shape}
 use Rattle.layout.specs.declared.Table.TheVariants.{Count}
-use Rattle.layout.specs.Tables.{get, settings_of, Laid}
+use Rattle.layout.specs.Tables.{get}
+use Rattle.layout.specs.Shapes.{settings_of}
 use Rattle.layout.specs.Picture.{packet_at, ledger_in}
 use Rattle.memory.specs.Judged.{Works}
 use Rattle.memory.specs.Writes.{head_of, serve_mem}
@@ -25,7 +26,6 @@ pub record AtQueue (s : Shape) (p q : ℕ) (m : List ℕ) : Type 0 where
 
 -- the credits and the last served queue that a departure changes stand in the memory m of a state of shape s
 pub record CanSettle (s : Shape) (p q home : ℕ) (m : List ℕ) : Type 0 where
-  pub laid : Laid s
   pub long : size (settings_of s) ≤ length m
   pub port : p < s.ports
   pub queue : q < s.queues

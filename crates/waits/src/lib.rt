@@ -6,7 +6,8 @@ ghost use Rattle.ledger.specs.Buckets.{at, wait_of, bucket_of, one_more, bucket#
 ghost use Rattle.ledger.specs.Answers.{turn_reply, bucket_reply};
 ghost use Rattle.ledger.specs.Calls.{Reply, turn, bucket};
 ghost use Rattle.layout.specs.declared.Table.TheVariants.{Buckets};
-ghost use Rattle.layout.specs.Tables.{get, put, settings_of};
+ghost use Rattle.layout.specs.Tables.{get, put};
+ghost use Rattle.layout.specs.Shapes.{settings_of};
 ghost use Rattle.memory.specs.Judged.{Works};
 ghost use Rattle.memory.specs.Memory.{acted};
 ghost use Rattle.parts.specs.Parts.{InPorts};

@@ -11,9 +11,10 @@ use Rattle.std.specs.Prelude.{Option, None, Some}
 use Rattle.ledger.specs.Settings.{Settings, row, size}
 use Rattle.ledger.proofs.Tests.{true≢false}
 use Rattle.ledger.proofs.Places.{row_lt, row_div, row_mod}
-use Rattle.layout.specs.declared.Shape.{Shape}
+use Rattle.layout.specs.declared.shape.Shape.{Shape}
 use Rattle.layout.specs.declared.Table.TheVariants.{Count}
-use Rattle.layout.specs.Tables.{cells, lists, all, get, settings_of}
+use Rattle.layout.specs.Tables.{cells, lists, all, get}
+use Rattle.layout.specs.Shapes.{settings_of}
 use Rattle.layout.specs.Picture.{nodes_of}
 use Rattle.once.specs.Bits.{marks_in}
 use Rattle.once.specs.Once.{mark_all, right, once_found}

@@ -2,9 +2,10 @@
 use Rattle.std.specs.Prelude.{◌≡◌, Bool, true, List, [], ◌∷◌, ℕ, ◌+◌, ◌-◌, ◌*◌, ◌/◌, ◌%◌, ◌≤◌, ◌<◌, length, replicate, ltb, Option, MatchOption}
 use Rattle.ledger.specs.Settings.{Settings, row, size}
 use Rattle.ledger.specs.Ready.{bit}
-use Rattle.layout.specs.declared.Shape.{Shape}
+use Rattle.layout.specs.declared.shape.Shape.{Shape}
 use Rattle.layout.specs.declared.Table.TheVariants.{Count}
-use Rattle.layout.specs.Tables.{cells, lists, get, settings_of}
+use Rattle.layout.specs.Tables.{cells, lists, get}
+use Rattle.layout.specs.Shapes.{settings_of}
 use Rattle.layout.specs.Picture.{nodes_of}
 use Rattle.once.specs.Bits.{marks_in}
 use Rattle.once.specs.Once.{mark_all}

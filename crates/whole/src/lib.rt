@@ -3,7 +3,7 @@
 // begin. docs/LAYOUT.md has a table of what is tested where.
 #![tactic(auto)]
 
-ghost use Rattle.layout.specs.Tables.{settings_of};
+ghost use Rattle.layout.specs.Shapes.{settings_of};
 ghost use Rattle.once.specs.Bits.{marks_in};
 ghost use Rattle.whole.specs.Whole.{Tells};
 ghost use Rattle.whole.specs.Walks.{ListLent, PortLent, AllLent, ListPassed, PortPassed};
@@ -35,8 +35,8 @@ fn list_passes(
     ensures { ListPassed (settings_of s) m.now l (marks_in (settings_of s) marks.old) sums.old
         (marks_in (settings_of s) marks.new) sums.new result }
 {
-    let tail = layout::get2(m, s, Table::Tail, l);
-    let mut x = layout::get2(m, s, Table::Head, l);
+    let tail = layout::get::<u16>(m, s, Table::Tail, l);
+    let mut x = layout::get::<u16>(m, s, Table::Head, l);
     let mut last = tail;
     for _ in 0..count {
         let id = EntryId(x);
@@ -44,7 +44,7 @@ fn list_passes(
             return false;
         }
         let at = geometry::slot_of(s, id);
-        let next = layout::get2(m, s, Table::Next, at);
+        let next = layout::get::<u16>(m, s, Table::Next, at);
         if !nodes::node_passes(m, s, port, column, id, at, marks, sums) {
             return false;
         }
@@ -68,7 +68,7 @@ fn port_passes(
 {
     for column in 0..s.row {
         let l = port * s.row + column;
-        let count = layout::get4(m, s, Table::Count, l);
+        let count = layout::get::<u32>(m, s, Table::Count, l);
         if !ranges::few_enough(s, column, count) {
             return None;
         }

@@ -15,8 +15,8 @@ use Rattle.ledger.specs.Calls.{Act, refused}
 use Rattle.ledger.specs.Ready.{is_ready, ready_word}
 use Rattle.ledger.proofs.Ready.{word_bit}
 use Rattle.ledger.proofs.Words.{touches}
-use Rattle.layout.specs.declared.Shape.{Shape}
-use Rattle.layout.specs.Tables.{settings_of}
+use Rattle.layout.specs.declared.shape.Shape.{Shape}
+use Rattle.layout.specs.Shapes.{settings_of}
 use Rattle.layout.specs.Picture.{ledger_in}
 use Rattle.memory.specs.Judged.{Works}
 use Rattle.memory.specs.Memory.{acted}

@@ -1,8 +1,8 @@
 -- What is known of the words that are kept from call to call. Assumes nothing.
 use Rattle.std.specs.Prelude.{Bool, ◌≡◌, ◌≢◌, List, ℕ, ◌+◌, ◌*◌, ◌/◌, ◌%◌, ◌^◌, ◌<◌, get_or, None, Some}
 use Rattle.ledger.specs.Ready.{bit, is_ready, ready_word}
-use Rattle.layout.specs.declared.Shape.{Shape}
-use Rattle.layout.specs.Tables.{settings_of}
+use Rattle.layout.specs.declared.shape.Shape.{Shape}
+use Rattle.layout.specs.Shapes.{settings_of}
 use Rattle.layout.specs.Picture.{ledger_in}
 use Rattle.words.specs.declared.Words.{Words}
 use Rattle.memory.specs.Judged.{Works}

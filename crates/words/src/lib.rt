@@ -4,8 +4,8 @@
 
 ghost use Rattle.std.specs.Prelude.{◌≡◌, ℕ, ◌+◌, ◌*◌, ◌/◌, ◌%◌, ◌^◌, List};
 ghost use Rattle.ledger.specs.Ready.{bit, ready_word};
-ghost use Rattle.layout.specs.declared.Shape.{Shape};
-ghost use Rattle.layout.specs.Tables.{settings_of};
+ghost use Rattle.layout.specs.declared.shape.Shape.{Shape};
+ghost use Rattle.layout.specs.Shapes.{settings_of};
 ghost use Rattle.layout.specs.Picture.{ledger_in};
 ghost use Rattle.words.specs.Kept.{Kept, CanAsk, Stale, CanSet};
 

@@ -12,4 +12,4 @@ pub returns : goal.returns
 returns c =
     let o = opened_fine c.args.m.now c.unwrap.result (sym c.open.ensures ∙ c.unwrap.ensures) in
     let state = subst (λ (S : Settings). StateOf S c.args.m.now) (sym o.settings_are) c.requires in
-    record { laid = o.laid; settings_are = o.settings_are; state = state }
+    record { settings_are = o.settings_are; state = state }

@@ -6,7 +6,8 @@ use Rattle.ledger.specs.Calls.{lacks}
 use Rattle.ledger.specs.Answers.{sent_of}
 use Rattle.header.specs.Parse.{header_of}
 use Rattle.layout.specs.declared.Table.TheVariants.{Head, Count}
-use Rattle.layout.specs.Tables.{settings_of, get}
+use Rattle.layout.specs.Tables.{get}
+use Rattle.layout.specs.Shapes.{settings_of}
 use Rattle.layout.specs.Picture.{ledger_in}
 use Rattle.lists.specs.Ends.{InList}
 use Rattle.arrivals.specs.Admission.{accepted, packet_for}
@@ -18,9 +19,8 @@ in_list : (c : After-free_list-free) → let a = c.args in InList a.s c.free_lis
 in_list c =
     let a = c.args in
     record {
-      laid = c.requires.priced.laid;
       long = c.requires.long;
-      inside = rw c.free_list-free.ensures (laws.lists_in (settings_of a.s) c.requires.priced.laid.roomy a.p c.requires.port).0;
+      inside = rw c.free_list-free.ensures (laws.lists_in (settings_of a.s) c.args.s.laid.roomy a.p c.requires.port).0;
     }
 
 pub first-requires : goal.first-requires
@@ -42,7 +42,6 @@ pub wanting-requires : goal.wanting-requires
 wanting-requires c =
     let a = c.args in
     record {
-      laid = c.requires.priced.laid;
       long = c.requires.long;
       port = c.requires.port;
       queue = rw (c.from.ensures, queue_is (goal.at.wanting-requires c).After-packet_of-k)
@@ -64,7 +63,7 @@ lacks_is c =
 pub returns-then-wanting : goal.returns-then-wanting
 returns-then-wanting c =
     let a = c.args in
-    laws.no_credit (settings_of a.s) c.requires.priced.laid.roomy a.p c.requires.port a.m.now (header_of a.f)
+    laws.no_credit (settings_of a.s) c.args.s.laid.roomy a.p c.requires.port a.m.now (header_of a.f)
     (sym (lacks_is (goal.at.returns-then-wanting c).After-wanting) ∙ c.if-wanting.true)
 
 pub count-requires : goal.count-requires
@@ -79,7 +78,7 @@ count_is c =
 pub returns-then-count-eq0 : goal.returns-then-count-eq0
 returns-then-count-eq0 c =
     let a = c.args in
-    laws.no_node (settings_of a.s) c.requires.priced.laid.roomy a.p c.requires.port a.m.now (header_of a.f)
+    laws.no_node (settings_of a.s) c.args.s.laid.roomy a.p c.requires.port a.m.now (header_of a.f)
     (sym (lacks_is (goal.at.returns-then-count-eq0 c).After-wanting) ∙ c.if-wanting.false)
     (sym (count_is (goal.at.returns-then-count-eq0 c).After-count) ∙ c.if-count-eq0.true)
 
@@ -87,6 +86,6 @@ pub returns : goal.returns
 returns c =
     let a = c.args in
     ap accepted (packet_is (goal.at.returns c).After-packet_of-k)
-    ∙ laws.admits (settings_of a.s) c.requires.priced.laid.roomy a.p c.requires.port a.m.now (header_of a.f)
+    ∙ laws.admits (settings_of a.s) c.args.s.laid.roomy a.p c.requires.port a.m.now (header_of a.f)
     (sym (lacks_is (goal.at.returns c).After-wanting) ∙ c.if-wanting.false)
     (λ z. c.if-count-eq0.false (count_is (goal.at.returns c).After-count ∙ z))

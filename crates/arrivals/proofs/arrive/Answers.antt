@@ -2,7 +2,7 @@
 -- Assumes nothing.
 use mathlib.Core.Path.{sym}
 use Rattle.ledger.specs.Answers.{sent_of, load_of}
-use Rattle.layout.specs.Tables.{settings_of}
+use Rattle.layout.specs.Shapes.{settings_of}
 use Rattle.arrivals.proofs.Laws.{turned_away, Arrives, arrives}
 use Rattle.arrivals.proofs.arrive.Goals as goal
 use Rattle.arrivals.proofs.arrive.Goals.{In-Ok}

@@ -2,7 +2,7 @@
 use mathlib.Core.Path.{◌∙◌}
 use Rattle.std.proofs.lemmas.Result.{err_from_is_err_and}
 use Rattle.ledger.specs.Answers.{load_of}
-use Rattle.layout.specs.Tables.{settings_of}
+use Rattle.layout.specs.Shapes.{settings_of}
 use Rattle.arrivals.proofs.Laws.{bad_kind, good_kind}
 use Rattle.arrivals.proofs.judge_arrive.Goals as goal
 

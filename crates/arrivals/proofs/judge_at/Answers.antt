@@ -4,7 +4,7 @@ use Rattle.std.proofs.lemmas.Result.{err_from_is_err_and}
 use Rattle.ledger.specs.Header.{form}
 use Rattle.ledger.specs.Answers.{load_of}
 use Rattle.header.specs.Parse.{header_of}
-use Rattle.layout.specs.Tables.{settings_of}
+use Rattle.layout.specs.Shapes.{settings_of}
 use Rattle.arrivals.proofs.Laws as laws
 use Rattle.arrivals.proofs.judge_at.Goals as goal
 
@@ -26,7 +26,7 @@ admit-requires c =
     let F = form (settings_of a.s) in
     let h = load_of a.load a.h.now in
     record {
-      priced = record { laid = c.requires.laid; len = laws.len_in F a.s.queues a.port h _ c.in_ok-f.ensures };
+      priced = record { len = laws.len_in F a.s.queues a.port h _ c.in_ok-f.ensures };
       long = c.requires.state.long;
       port = c.if-s-p.false;
       queue = laws.known_queue F a.s.queues a.port h _ c.in_ok-f.ensures;

@@ -6,7 +6,8 @@ use native.Mathlib.Omega.{arith}
 use Rattle.ledger.specs.Ledger.{free, place#}
 use Rattle.ledger.specs.Answers.{sent_of}
 use Rattle.layout.specs.declared.Table.TheVariants.{Head}
-use Rattle.layout.specs.Tables.{settings_of, get}
+use Rattle.layout.specs.Tables.{get}
+use Rattle.layout.specs.Shapes.{settings_of}
 use Rattle.memory.specs.Ends.{pop_mem}
 use Rattle.arrivals.proofs.Laws as laws
 use Rattle.arrivals.proofs.take_in.Goals as goal
@@ -16,9 +17,8 @@ pub pop-x-requires : goal.pop-x-requires
 pop-x-requires c =
     let a = c.args in
     record {
-      laid = c.requires.laid;
       tidy = c.requires.tidy;
-      inside = omega (arith, laws.lists_in (settings_of a.s) c.requires.laid.roomy a.p c.requires.port);
+      inside = omega (arith, laws.lists_in (settings_of a.s) c.args.s.laid.roomy a.p c.requires.port);
       some = rw c.free_list-from.ensures c.requires.some;
     }
 
@@ -37,7 +37,6 @@ pub record-requires : goal.record-requires
 record-requires c =
     let a = c.args in
     record {
-      laid = c.requires.laid;
       long = rw (popped_is (goal.at.record-requires c).After-pop-x) (laws.popped_tidy a.s a.p (sent_of a.k) a.m.now c.requires).long;
       node = laws.node_on a.s a.p (sent_of a.k) a.m.now c.requires;
     }
@@ -46,9 +45,8 @@ pub push-requires : goal.push-requires
 push-requires c =
     let a = c.args in
     record {
-      laid = c.requires.laid;
       tidy = rw (c.record.ensures, popped_is (goal.at.push-requires c).After-pop-x) (laws.recorded_tidy a.s a.p (sent_of a.k) a.m.now c.requires);
-      inside = omega (arith, laws.lists_in (settings_of a.s) c.requires.laid.roomy a.p c.requires.port);
+      inside = omega (arith, laws.lists_in (settings_of a.s) c.args.s.laid.roomy a.p c.requires.port);
       node = rw (node_is (goal.at.push-requires c).After-pop-x) (laws.node_on a.s a.p (sent_of a.k) a.m.now c.requires);
     }
 

@@ -2,7 +2,8 @@
 use mathlib.Core.Path.{refl}
 use Prim.Native.Nat.{◌<◌}
 use native.Mathlib.Omega.{arith}
-use Rattle.layout.specs.Tables.{all, settings_of}
+use Rattle.layout.specs.Tables.{all}
+use Rattle.layout.specs.Shapes.{settings_of}
 use Rattle.memory.proofs.Chains.{slot_lt}
 use Rattle.audits.proofs.tell.Goals as goal
 use Rattle.audits.proofs.tell.Goals.{After-slot_of-at}
@@ -17,12 +18,12 @@ overflow_mul-at c = omega (arith, inside (goal.at.overflow_mul-at c).After-slot_
 pub put-requires : goal.put-requires
 put-requires c = omega (arith, inside (goal.at.put-requires c).After-slot_of-at, c.requires.wide)
 
-pub get2-requires : goal.get2-requires
-get2-requires c = let pre = c.requires in record { laid = pre.laid; long = pre.long; wide = refl; inside = inside (goal.at.get2-requires c).After-slot_of-at }
+pub get-requires : goal.get-requires
+get-requires c = let pre = c.requires in record { long = pre.long; wide = refl; inside = inside (goal.at.get-requires c).After-slot_of-at }
 
 pub returns : goal.returns
 returns c =
     record {
-      after = rw (← c.slot_of-at.ensures) c.get2.ensures;
+      after = rw (← c.slot_of-at.ensures) c.get.ensures;
       told = rw (← c.slot_of-at.ensures, ← c.place_bytes.ensures) c.put.ensures;
     }

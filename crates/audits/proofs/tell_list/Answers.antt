@@ -2,7 +2,8 @@
 use Prim.Native.Nat.{◌<◌}
 use native.Mathlib.Omega.{arith}
 use Rattle.layout.specs.declared.Table.TheVariants.{Count}
-use Rattle.layout.specs.Tables.{settings_of, get}
+use Rattle.layout.specs.Tables.{get}
+use Rattle.layout.specs.Shapes.{settings_of}
 use Rattle.lists.specs.Ends.{InList}
 use Rattle.memory.proofs.Chains.{state_tidy, total_bound}
 use Rattle.audits.proofs.Walks.{tell_starts, tell_node, tell_goes, tell_ends}
@@ -10,10 +11,10 @@ use Rattle.audits.proofs.tell_list.Goals as goal
 use Rattle.audits.proofs.tell_list.Goals.{In-loop-i, Start}
 
 pub kind_of-kind-requires : goal.kind_of-kind-requires
-kind_of-kind-requires c = let pre = c.requires in record { laid = pre.lent.works.laid; inside = pre.inside }
+kind_of-kind-requires c = let pre = c.requires in record { inside = pre.inside }
 
 in_list : (c : Start) → InList c.args.s c.args.l c.args.m.now
-in_list c = record { laid = c.requires.lent.works.laid; long = c.requires.lent.works.state.long; inside = c.requires.inside }
+in_list c = record { long = c.requires.lent.works.state.long; inside = c.requires.inside }
 
 pub count-i-end-requires : goal.count-i-end-requires
 count-i-end-requires c = in_list (goal.at.count-i-end-requires c).Start
@@ -31,13 +32,12 @@ inside c = rw c.count-i-end.ensures at c.loop-i-test.true
 pub overflow_cast-i : goal.overflow_cast-i
 overflow_cast-i c =
     let w = c.requires.lent.works in
-    omega (arith, inside c, total_bound _ _ (state_tidy _ _ w.state) w.laid.roomy c.args.l c.requires.inside)
+    omega (arith, inside c, total_bound _ _ (state_tidy _ _ w.state) c.args.s.laid.roomy c.args.l c.requires.inside)
 
 pub tell-x-requires : goal.tell-x-requires
 tell-x-requires c =
     let pre = c.requires in
     record {
-      laid = pre.lent.works.laid;
       long = pre.lent.works.state.long;
       wide = omega (arith, c.loop-i.invariant.same_length, pre.lent.wide);
       node = tell_node _ _ _ _ c.loop-i.invariant (inside (goal.at.tell-x-requires c).In-loop-i);

@@ -1,5 +1,5 @@
 -- What the loop of `audits::tell_list` keeps.
-use Rattle.layout.specs.Tables.{settings_of}
+use Rattle.layout.specs.Shapes.{settings_of}
 use Rattle.audits.proofs.Walks.{Telling}
 use Rattle.audits.proofs.tell_list.Given as goal
 

@@ -1,5 +1,5 @@
 -- What the loop of `audits::tell_lists` keeps.
-use Rattle.layout.specs.Tables.{settings_of}
+use Rattle.layout.specs.Shapes.{settings_of}
 use Rattle.audits.proofs.Walks.{Passing}
 use Rattle.audits.proofs.tell_lists.Given as goal
 

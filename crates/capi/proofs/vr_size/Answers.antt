@@ -15,6 +15,6 @@ shape_of-requires c = roomy _ (sym c.in_rows.ensures ∙ not-false _ c.if-not-in
 
 pub returns : goal.returns
 returns c =
-    c.size_of.ensures ∙ ap size c.shape_of.ensures.settings_are
+    c.size_of.ensures ∙ ap size c.shape_of.ensures
     ∙ size_some _ (sym c.in_rows.ensures ∙ not-false _ c.if-not-in_rows.false-raw)
     ∙ ap size_for c.asked-s.ensures

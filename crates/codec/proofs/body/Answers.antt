@@ -19,12 +19,12 @@ overflow_cast-credit c =
 
 pub returns : goal.returns
 returns c =
-    body_stored c.args.form (label_in c.args.v) c.requires _ c.write4.new.m c.write4-2.new.m c.write2.new.m
-    c.write1.new.m c.front_from-front.result c.join-credit.result
+    body_stored c.args.form (label_in c.args.v) c.requires _ c.write.new.m c.write-2.new.m c.write-3.new.m
+    c.write-4.new.m c.front_from-front.result c.join-credit.result
     c.front_from-front.ensures
     c.join-credit.ensures
     refl
-    c.write4.ensures
-    c.write4-2.ensures
-    c.write2.ensures
-    c.write1.ensures
+    c.write.ensures
+    c.write-2.ensures
+    c.write-3.ensures
+    c.write-4.ensures

@@ -1,7 +1,7 @@
 -- `credits::credit` meets its contract: the judge decides, and where it lets the call go the sum is written. Assumes nothing.
 use mathlib.Core.Path.{refl}
 use native.Mathlib.Omega.{arith}
-use Rattle.layout.specs.Tables.{settings_of}
+use Rattle.layout.specs.Shapes.{settings_of}
 use Rattle.memory.proofs.Judged.{handed_on}
 use Rattle.parts.specs.Parts.{InCell}
 use Rattle.credits.proofs.Laws.{Goes, gone_on}
@@ -15,7 +15,7 @@ went c = gone_on _ _ _ _ _ c.in_ok-judge_credit.ensures
 in_cell : (c : In_ok-judge_credit) → let a = c.args in InCell a.s a.port a.queue a.m.now
 in_cell c =
     let p = c.requires in
-    record { laid = p.laid; long = p.state.long; port = (went c).port; queue = (went c).queue }
+    record { long = p.state.long; port = (went c).port; queue = (went c).queue }
 
 pub returns-in_err-judge_credit : goal.returns-in_err-judge_credit
 returns-in_err-judge_credit c = handed_on _ _ _ _ _ _ c.from_residual.ensures.1 c.in_err-judge_credit.ensures refl

@@ -4,17 +4,18 @@ use Prim.Native.Nat.{◌<◌}
 use native.Mathlib.Omega.{arith}
 use Rattle.ledger.proofs.Tests.{eqb_yes, eqb_no}
 use Rattle.layout.specs.declared.Table.TheVariants.{Count}
-use Rattle.layout.specs.Tables.{settings_of, get}
+use Rattle.layout.specs.Tables.{get}
+use Rattle.layout.specs.Shapes.{settings_of}
 use Rattle.memory.proofs.Chains.{state_tidy, total_bound}
 use Rattle.finds.proofs.Laws as laws
 use Rattle.finds.proofs.in_list.Goals as goal
 use Rattle.finds.proofs.in_list.Goals.{In-loop-i}
 
 pub count-i-end-requires : goal.count-i-end-requires
-count-i-end-requires c = let pre = c.requires in record { laid = pre.works.laid; long = pre.works.state.long; inside = pre.inside }
+count-i-end-requires c = let pre = c.requires in record { long = pre.works.state.long; inside = pre.inside }
 
 pub first-y-requires : goal.first-y-requires
-first-y-requires c = let pre = c.requires in record { laid = pre.works.laid; long = pre.works.state.long; inside = pre.inside }
+first-y-requires c = let pre = c.requires in record { long = pre.works.state.long; inside = pre.inside }
 
 pub loop-i-init : goal.loop-i-init
 loop-i-init c =
@@ -27,7 +28,7 @@ inside c = rw c.count-i-end.ensures at c.loop-i-test.true
 pub overflow_cast-result : goal.overflow_cast-result
 overflow_cast-result c =
     let w = c.requires.works in
-    omega (arith, inside (goal.at.overflow_cast-result c).In-loop-i, total_bound _ _ (state_tidy _ _ w.state) w.laid.roomy c.args.l c.requires.inside)
+    omega (arith, inside (goal.at.overflow_cast-result c).In-loop-i, total_bound _ _ (state_tidy _ _ w.state) c.args.s.laid.roomy c.args.l c.requires.inside)
 
 pub returns-then-eq : goal.returns-then-eq
 returns-then-eq c = laws.walk_meets _ _ _ _ _ _ c.loop-i.invariant (inside (goal.at.returns-then-eq c).In-loop-i) (eqb_yes _ _ (sym c.eq.ensures ∙ c.if-eq.true))
@@ -35,7 +36,7 @@ returns-then-eq c = laws.walk_meets _ _ _ _ _ _ c.loop-i.invariant (inside (goal
 pub next-y-requires : goal.next-y-requires
 next-y-requires c =
     let w = c.requires.works in
-    record { laid = w.laid; long = w.state.long; node = laws.walk_node _ _ _ _ _ _ c.loop-i.invariant (inside (goal.at.next-y-requires c).In-loop-i) }
+    record { long = w.state.long; node = laws.walk_node _ _ _ _ _ _ c.loop-i.invariant (inside (goal.at.next-y-requires c).In-loop-i) }
 
 pub loop-i-preserved : goal.loop-i-preserved
 loop-i-preserved c =

@@ -3,10 +3,10 @@ use mathlib.Core.Path.{refl}
 use Rattle.memory.proofs.Chains.{slot_lt}
 use Rattle.finds.proofs.next.Goals as goal
 
-pub get2-requires : goal.get2-requires
-get2-requires c =
+pub get-requires : goal.get-requires
+get-requires c =
     let pre = c.requires in
-    record { laid = pre.laid; long = pre.long; wide = refl; inside = rw c.slot_of.ensures (slot_lt _ _ pre.node) }
+    record { long = pre.long; wide = refl; inside = rw c.slot_of.ensures (slot_lt _ _ pre.node) }
 
 pub returns : goal.returns
 returns c = cc

@@ -1,5 +1,5 @@
 -- What the loop of `finds::search` keeps.
-use Rattle.layout.specs.Tables.{settings_of}
+use Rattle.layout.specs.Shapes.{settings_of}
 use Rattle.finds.proofs.Laws as laws
 use Rattle.finds.proofs.search.Given as goal
 

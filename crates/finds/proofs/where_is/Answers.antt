@@ -3,7 +3,7 @@ use mathlib.Core.Path.{◌≡◌, sym, ap, ◌∙◌}
 use mathlib.Core.Bool.{true}
 use Rattle.ledger.specs.Ledger.{is_node, Place}
 use Rattle.ledger.specs.Calls.{found}
-use Rattle.layout.specs.Tables.{settings_of}
+use Rattle.layout.specs.Shapes.{settings_of}
 use Rattle.finds.proofs.Laws as laws
 use Rattle.finds.proofs.where_is.Goals as goal
 use Rattle.finds.proofs.where_is.Goals.{Else-not-is_node, In-Some}
@@ -21,7 +21,7 @@ stands c =
     laws.stands_at _ _ _ c.requires.state (node (goal.at.In-Some c).Else-not-is_node) _ _ (sym c.in-Some.is ∙ c.search.ensures)
 
 pub kind_of-requires : goal.kind_of-requires
-kind_of-requires c = record { laid = c.requires.laid; inside = (stands (goal.at.kind_of-requires c).In-Some).inside }
+kind_of-requires c = record { inside = (stands (goal.at.kind_of-requires c).In-Some).inside }
 
 pub returns-in-Some : goal.returns-in-Some
 returns-in-Some c = ap (λ (v : Place). found v c.in-Some.i) c.kind_of.ensures ∙ (stands (goal.at.returns-in-Some c).In-Some).reply

@@ -1,7 +1,8 @@
 -- What the loop of `fits::fits` keeps.
 use Prim.Native.Nat.{◌-◌}
 use mathlib.Core.Path.{◌≡◌}
-use Rattle.layout.specs.Tables.{lists, settings_of}
+use Rattle.layout.specs.Tables.{lists}
+use Rattle.layout.specs.Shapes.{settings_of}
 use Rattle.fits.specs.Fits.{fits_from}
 use Rattle.fits.proofs.fits.Given as goal
 

@@ -15,7 +15,7 @@ here : (c : In-loop)
 here c =
     let w = c.requires.walkable in
     record {
-      seen = record { laid = w.laid; long = w.tidy.long; node = left_node c.loop.invariant (omega arith) };
+      seen = record { long = w.tidy.long; node = left_node c.loop.invariant (omega arith) };
       spoken = rw c.spares.ensures at c.if-spares.false;
     }
 
@@ -23,8 +23,8 @@ pub loop-init : goal.loop-init
 loop-init c =
     let p = c.requires in
     let w = p.walkable in
-    rw c.get2-x.ensures
-    (left_start c.args.rule _ _ _ w.laid.row_is w.tidy p.inside (rw c.spares.ensures at c.if-spares.false) (omega (arith, c.get4-count.ensures)))
+    rw c.get-x.ensures
+    (left_start c.args.rule _ _ _ c.args.s.laid.row_is w.tidy p.inside (rw c.spares.ensures at c.if-spares.false) (omega (arith, c.get-count.ensures)))
 
 pub holds-requires : goal.holds-requires
 holds-requires c = here c
@@ -32,14 +32,14 @@ holds-requires c = here c
 pub returns-then-not-holds : goal.returns-then-not-holds
 returns-then-not-holds c = rw c.from.ensures (left_bad c.loop.invariant (omega arith) (sym c.holds.ensures ∙ c.if-not-holds.true))
 
-pub get2-x-requires-in-loop : goal.get2-x-requires-in-loop
-get2-x-requires-in-loop c =
-    let n = (here (goal.at.get2-x-requires-in-loop c).In-loop).seen in
-    record { laid = n.laid; long = n.long; wide = refl; inside = rw c.slot_of.ensures (slot_lt _ _ n.node) }
+pub get-x-requires-in-loop : goal.get-x-requires-in-loop
+get-x-requires-in-loop c =
+    let n = (here (goal.at.get-x-requires-in-loop c).In-loop).seen in
+    record { long = n.long; wide = refl; inside = rw c.slot_of.ensures (slot_lt _ _ n.node) }
 
 pub loop-preserved : goal.loop-preserved
 loop-preserved c =
-    rw (c.get2-x-in-loop.ensures, c.slot_of.ensures)
+    rw (c.get-x-in-loop.ensures, c.slot_of.ensures)
     (left_next c.loop.invariant (omega arith) (omega arith) (sym c.holds.ensures ∙ c.if-not-holds.false))
 
 pub returns : goal.returns

@@ -1,6 +1,6 @@
 -- What the loop of `fits::list_fits` keeps.
 use Prim.Native.Nat.{◌-◌}
-use Rattle.layout.specs.Tables.{settings_of}
+use Rattle.layout.specs.Shapes.{settings_of}
 use Rattle.layout.specs.Picture.{packet_at}
 use Rattle.fits.specs.Fits.{rule_test, list_found}
 use Rattle.fits.proofs.Walk.{Left}

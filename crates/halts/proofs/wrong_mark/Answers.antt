@@ -7,7 +7,8 @@ use Rattle.std.proofs.Common.{rules}
 use Rattle.std.proofs.lemmas.Iterator.{first_from_Range}
 use Rattle.ledger.specs.Halt.{is_mark}
 use Rattle.layout.specs.declared.Table.TheVariants.{Halted}
-use Rattle.layout.specs.Tables.{get, settings_of}
+use Rattle.layout.specs.Tables.{get}
+use Rattle.layout.specs.Shapes.{settings_of}
 use Rattle.ranges.proofs.First.{first_none, find_first}
 use Rattle.halts.specs.Marks.{marks_found}
 use Rattle.halts.proofs.wrong_mark.Goals as goal

@@ -20,9 +20,9 @@ returns c =
     let fourth : f.front + 4 ≡ front_bytes F + 4 = omega arith in
     let last : f.size - 2 ≡ front_bytes F + 4 + f.offer = omega arith in
     let after : f.size - 2 + 1 ≡ body_size F = omega arith in
-    fields_found F h (front_of c.front_fields-front.result) c.read4-stamp.result c.offered_at-offered.result c.read1-transaction.result c.read1-check.result
+    fields_found F h (front_of c.front_fields-front.result) c.read-stamp.result c.offered_at-offered.result c.read-transaction.result c.read-check.result
     (c.front_fields-front.ensures ∙ ap (unpack (front_widths F)) (c.front_word-w.ensures ∙ ap (λ (k : ℕ). number k h 0) front))
-    (c.read4-stamp.ensures ∙ ap (number 4 h) front)
+    (c.read-stamp.ensures ∙ ap (number 4 h) front)
     (c.offered_at-offered.ensures ∙ ap (number f.offer h) fourth)
-    (c.read1-transaction.ensures ∙ ap (number 1 h) last)
-    (c.read1-check.ensures ∙ ap (number 1 h) after)
+    (c.read-transaction.ensures ∙ ap (number 1 h) last)
+    (c.read-check.ensures ∙ ap (number 1 h) after)

@@ -1,7 +1,7 @@
 -- `maps::map_to` meets its contract: the judge decides, and where it lets the call go the entry is written. Assumes nothing.
 use mathlib.Core.Path.{refl}
 use native.Mathlib.Omega.{arith}
-use Rattle.layout.specs.Tables.{settings_of}
+use Rattle.layout.specs.Shapes.{settings_of}
 use Rattle.memory.proofs.Judged.{handed_on}
 use Rattle.maps.proofs.Laws.{Maps, mapped_on}
 use Rattle.maps.proofs.map_to.Goals as goal
@@ -14,9 +14,9 @@ pub returns-in_err-judge_map : goal.returns-in_err-judge_map
 returns-in_err-judge_map c = handed_on _ _ _ _ _ _ c.from_residual.ensures.1 c.in_err-judge_map.ensures refl
 
 pub overflow_cast-port : goal.overflow_cast-port
-overflow_cast-port c = omega (arith, (went (goal.at.overflow_cast-port c).In_ok-judge_map).port, c.requires.laid.roomy.few_ports)
+overflow_cast-port c = omega (arith, (went (goal.at.overflow_cast-port c).In_ok-judge_map).port, c.args.s.laid.roomy.few_ports)
 
 pub set_mapped-requires : goal.set_mapped-requires
 set_mapped-requires c =
     let p = c.requires in
-    record { laid = p.laid; long = p.state.long; id = (went (goal.at.set_mapped-requires c).In_ok-judge_map).id }
+    record { long = p.state.long; id = (went (goal.at.set_mapped-requires c).In_ok-judge_map).id }

@@ -4,7 +4,7 @@ use mathlib.Core.List.{List}
 use Prim.Native.Nat.{ℕ}
 use Rattle.ledger.specs.Calls.{entry}
 use Rattle.ledger.specs.Ledger.{egress, prefetched, place#}
-use Rattle.layout.specs.Tables.{settings_of}
+use Rattle.layout.specs.Shapes.{settings_of}
 use Rattle.memory.proofs.Chains.{state_tidy}
 use Rattle.memory.proofs.Judged.{handed_on}
 use Rattle.memory.proofs.Judging.{egress_in, prefetch_in}
@@ -22,12 +22,11 @@ went c =
     c.in_ok-judge_prefetch.ensures
 
 pub egress_list-from-requires : goal.egress_list-from-requires
-egress_list-from-requires c = record { laid = c.requires.laid; port = (went c).port; queue = (went c).queue }
+egress_list-from-requires c = record { port = (went c).port; queue = (went c).queue }
 
 pub prefetch_list-to-requires : goal.prefetch_list-to-requires
 prefetch_list-to-requires c =
     record {
-      laid = c.requires.laid;
       port = (went (goal.at.prefetch_list-to-requires c).In_ok-judge_prefetch).port;
       queue = (went (goal.at.prefetch_list-to-requires c).In_ok-judge_prefetch).queue;
     }
@@ -43,7 +42,6 @@ can c =
     let q = c.args.queue in
     record {
       take = record {
-        laid = c.requires.laid;
         tidy = state_tidy S c.args.m.now c.requires.state;
         inside = egress_in S p q w.port w.queue;
         some = w.some;

@@ -8,7 +8,8 @@ use Rattle.ledger.specs.Answers.{sent_of}
 use Rattle.ledger.specs.Calls.{stitch}
 use Rattle.ledger.specs.Ledger.{Packet, ingress, egress, place#, map_of}
 use Rattle.layout.specs.declared.Table.TheVariants.{Head}
-use Rattle.layout.specs.Tables.{settings_of, lists, get}
+use Rattle.layout.specs.Tables.{lists, get}
+use Rattle.layout.specs.Shapes.{settings_of}
 use Rattle.layout.specs.Picture.{packet_at, ledger_in}
 use Rattle.memory.specs.Writes.{head_of}
 use Rattle.memory.specs.Judged.{good, judged}
@@ -45,15 +46,15 @@ first_goes : (c : In_ok-judge_stitch)
 first_goes c = stitched_on (S (goal.at.In_ok-judge_stitch c).Start) (m (goal.at.In_ok-judge_stitch c).Start) c.requires.state c.args.port (went c) _ refl _ refl
 
 pub ingress_list-from-requires : goal.ingress_list-from-requires
-ingress_list-from-requires c = record { laid = c.requires.laid; port = (first_goes c).port }
+ingress_list-from-requires c = record { port = (first_goes c).port }
 
 from_in : (c : After-ingress_list-from) → c.ingress_list-from.result < lists (S (goal.at.After-ingress_list-from c).Start)
 from_in c =
-    rw c.ingress_list-from.ensures (ingress_in _ _ c.requires.laid.roomy (first_goes (goal.at.After-ingress_list-from c).In_ok-judge_stitch).port)
+    rw c.ingress_list-from.ensures (ingress_in _ _ c.args.s.laid.roomy (first_goes (goal.at.After-ingress_list-from c).In_ok-judge_stitch).port)
 
 pub first-requires : goal.first-requires
 first-requires c =
-    record { laid = c.requires.laid; long = c.requires.state.long; inside = from_in c }
+    record { long = c.requires.state.long; inside = from_in c }
 
 -- the node whose packet is read is the first of the list
 node_is : (c : After-first) → c.first.result.0 ≡ oldest (goal.at.After-first c).Start
@@ -61,7 +62,7 @@ node_is c = c.first.ensures ∙ ap (get (S (goal.at.After-first c).Start) (m (go
 
 pub packet-k-requires : goal.packet-k-requires
 packet-k-requires c =
-    record { laid = c.requires.laid; long = c.requires.state.long; node = rw (node_is c) (first_goes (goal.at.packet-k-requires c).In_ok-judge_stitch).node }
+    record { long = c.requires.state.long; node = rw (node_is c) (first_goes (goal.at.packet-k-requires c).In_ok-judge_stitch).node }
 
 packet_is : (c : After-packet-k) → sent_of c.packet-k.result ≡ packet (goal.at.After-packet-k c).Start
 packet_is c =
@@ -78,7 +79,6 @@ goes c =
 pub egress_list-at-requires : goal.egress_list-at-requires
 egress_list-at-requires c =
     record {
-      laid = c.requires.laid;
       port = rw c.from-2.ensures (goes (goal.at.egress_list-at-requires c).After-mapped-to).to_in;
       queue = rw c.from-3.ensures (goes (goal.at.egress_list-at-requires c).After-mapped-to).queue_in_range;
     }
@@ -91,9 +91,8 @@ can c =
     let g = goes c in
     record {
       take = record {
-        laid = c.requires.laid;
         tidy = state_tidy (S (goal.at.After-mapped-to c).Start) (m (goal.at.After-mapped-to c).Start) c.requires.state;
-        inside = ingress_in _ _ c.requires.laid.roomy g.port;
+        inside = ingress_in _ _ c.args.s.laid.roomy g.port;
         some = g.some;
       };
       target = egress_in _ _ _ g.to_in g.queue_in_range;

@@ -5,7 +5,7 @@ use native.Mathlib.Omega.{arith}
 use borrow.Author.Tests.{eq-eqb, ne_eqb}
 use lib.Dec.{eqb, leb}
 use Rattle.ledger.specs.Ledger.{owner}
-use Rattle.layout.specs.Tables.{settings_of}
+use Rattle.layout.specs.Shapes.{settings_of}
 use Rattle.memory.proofs.Chains.{slot_lt}
 use Rattle.once.specs.Bits.{marks_in}
 use Rattle.once.specs.Once.{is_new, mark}

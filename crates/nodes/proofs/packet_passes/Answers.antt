@@ -2,7 +2,7 @@
 use mathlib.Core.Path.{◌≡◌, refl, sym, ap₂, ◌∙◌}
 use mathlib.Core.Bool.{true, false, false≢true}
 use native.Mathlib.Omega.{arith}
-use Rattle.layout.specs.Tables.{settings_of}
+use Rattle.layout.specs.Shapes.{settings_of}
 use Rattle.layout.specs.Picture.{slot}
 use Rattle.memory.proofs.Chains.{node_from, slot_lt}
 use Rattle.fits.specs.Walk.{NoteOf}
@@ -27,7 +27,7 @@ fitted c =
 pub read-n-requires : goal.read-n-requires
 read-n-requires c =
     let p = c.requires in
-    record { laid = p.laid; long = p.long; inside = rw p.at_is (slot_lt _ _ p.node) }
+    record { long = p.long; inside = rw p.at_is (slot_lt _ _ p.node) }
 
 pub returns-then-not-queue_fits : goal.returns-then-not-queue_fits
 returns-then-not-queue_fits c =
@@ -46,7 +46,6 @@ add_price-requires c =
     let p = c.requires in
     let queue = (read (goal.at.add_price-requires c).After-queue_fits).queue_is in
     record {
-      laid = p.laid;
       home = (node_from _ c.args.x.0 p.node).home;
       inside = omega (arith, queue, fits_queue _ _ _ _ (fitted (goal.at.add_price-requires c).Else-not-proper));
       held = p.held;

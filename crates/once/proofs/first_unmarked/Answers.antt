@@ -24,15 +24,15 @@ found c =
 pub returns-in_err-i : goal.returns-in_err-i
 returns-in_err-i c =
     let none = rw c.in_err-i.was at (found (goal.at.returns-in_err-i c).After-find) in
-    c.from_residual.ensures ∙ sym (search_none _ _ _ (rw c.requires.laid.all_are at none))
+    c.from_residual.ensures ∙ sym (search_none _ _ _ (rw c.args.s.laid.all_are at none))
 
 pub overflow_add-result : goal.overflow_add-result
 overflow_add-result c =
     let some = rw c.in_ok-i.was at (found (goal.at.overflow_add-result c).After-find) in
-    omega (arith, some.1, few _ c.requires.laid.roomy)
+    omega (arith, some.1, few _ c.args.s.laid.roomy)
 
 pub returns : goal.returns
 returns c =
     let some = rw c.in_ok-i.was at (found (goal.at.returns c).After-find) in
-    let laid = c.requires.laid in
+    let laid = c.args.s.laid in
     rw laid.lists_are (sym (search_some _ _ _ _ (rw laid.all_are at some.1) some.2 some.3))

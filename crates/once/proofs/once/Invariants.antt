@@ -1,7 +1,7 @@
 -- What the loop of `once::once` keeps.
 use mathlib.Core.Path.{◌≡◌}
 use lib.ListN.{length}
-use Rattle.layout.specs.Tables.{settings_of}
+use Rattle.layout.specs.Shapes.{settings_of}
 use Rattle.once.specs.Bits.{marks_in}
 use Rattle.once.specs.Walks.{Scanning}
 use Rattle.once.proofs.once.Given as goal

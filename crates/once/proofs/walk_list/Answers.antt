@@ -5,7 +5,7 @@ use mathlib.Core.Path.{◌≡◌, refl, sym, ap, ◌∙◌}
 use mathlib.Core.Bool.{true, false≢true}
 use native.Mathlib.Omega.{arith}
 use lib.Dec.{eqb}
-use Rattle.layout.specs.Tables.{settings_of}
+use Rattle.layout.specs.Shapes.{settings_of}
 use Rattle.memory.proofs.Chains.{slot_lt}
 use Rattle.once.specs.Bits.{marks_in}
 use Rattle.once.specs.Once.{is_new}
@@ -17,7 +17,7 @@ use Rattle.once.proofs.walk_list.Goals.{Else-not-meet}
 
 pub loop-init : goal.loop-init
 loop-init c =
-    (refl, rw (c.get2-tail.ensures, c.get2-x.ensures) (walk_start _ _ _ _ (marks_length _ _) (omega (arith, c.get4-count.ensures))))
+    (refl, rw (c.get-tail.ensures, c.get-x.ensures) (walk_start _ _ _ _ (marks_length _ _) (omega (arith, c.get-count.ensures))))
 
 -- the node that is met is new
 new_here : (c : Else-not-meet)
@@ -32,23 +32,22 @@ returns-then-not-meet c =
       after = λ e. absurd (false≢true e);
     }
 
-pub get2-x-requires-in-loop : goal.get2-x-requires-in-loop
-get2-x-requires-in-loop c =
+pub get-x-requires-in-loop : goal.get-x-requires-in-loop
+get-x-requires-in-loop c =
     record {
-      laid = search rules;
       long = search rules;
       wide = refl;
-      inside = rw c.slot_of.ensures (slot_lt _ _ (new _ _ _ (new_here (goal.at.get2-x-requires-in-loop c).Else-not-meet)).node);
+      inside = rw c.slot_of.ensures (slot_lt _ _ (new _ _ _ (new_here (goal.at.get-x-requires-in-loop c).Else-not-meet)).node);
     }
 
 pub loop-preserved : goal.loop-preserved
 loop-preserved c = (
   c.meet.auto.marks ∙ c.loop.invariant.0,
-  rw (c.get2-x-in-loop.ensures, c.slot_of.ensures, c.meet.ensures.after c.if-not-meet.false)
+  rw (c.get-x-in-loop.ensures, c.slot_of.ensures, c.meet.ensures.after c.if-not-meet.false)
       (walk_step c.loop.invariant.1 (omega arith) (new_here (goal.at.loop-preserved c).Else-not-meet)),
 )
 
 pub returns : goal.returns
 returns c =
     let w = walk_end c.loop.invariant.1 (omega arith) in
-    record { answer = ap (eqb _) c.get2-tail.ensures ∙ sym w.0; after = λ e. w.1 }
+    record { answer = ap (eqb _) c.get-tail.ensures ∙ sym w.0; after = λ e. w.1 }

@@ -4,7 +4,7 @@ use Prim.Native.Nat.{ℕ, ◌-◌, ◌<◌}
 use native.Mathlib.Omega.{arith}
 use lib.ListN.{length, get_or}
 use Rattle.ledger.specs.Ledger.{owner, cell}
-use Rattle.layout.specs.Tables.{settings_of}
+use Rattle.layout.specs.Shapes.{settings_of}
 use Rattle.paid.proofs.Passing.{sum_at, cell_in}
 use Rattle.paid.proofs.add_price.Goals as goal
 use Rattle.paid.proofs.add_price.Goals.{After-cell_of-c}

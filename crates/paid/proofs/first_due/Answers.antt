@@ -4,7 +4,7 @@ use mathlib.Core.Path.{◌≡◌, ap, ◌∙◌}
 use mathlib.Core.Bool.{true, false}
 use Rattle.std.proofs.Common.{rules}
 use Rattle.std.proofs.lemmas.Iterator.{first_from_Range}
-use Rattle.layout.specs.Tables.{settings_of}
+use Rattle.layout.specs.Shapes.{settings_of}
 use Rattle.ranges.specs.First.{first}
 use Rattle.ranges.proofs.First.{first_none, find_first}
 use Rattle.paid.specs.Paid.{settled_at, due_found}
@@ -18,4 +18,4 @@ returns c =
     find_first ok 0 a.s.cells c.find.result (first_none ok)
     (first_from_Range _ _ _ c.find.result (λ i. ok i ≡ false) (λ i. ok i ≡ true) c.find.ensures.ran
     (λ i q k. search (rules, tests)) (λ i q k. search (rules, tests)))
-    ∙ ap (first ok) c.requires.laid.cells_are
+    ∙ ap (first ok) c.args.s.laid.cells_are

@@ -6,4 +6,4 @@ use Rattle.paid.proofs.settled.Goals as goal
 
 pub overflow_add-result : goal.overflow_add-result
 overflow_add-result c =
-    omega (arith, sum_of _ c.args.sums.now c.args.c _ c.requires.all.held, few _ c.requires.all.laid.roomy)
+    omega (arith, sum_of _ c.args.sums.now c.args.c _ c.requires.all.held, few _ c.args.s.laid.roomy)

@@ -4,7 +4,7 @@ use mathlib.Core.Path.{◌≡◌}
 use mathlib.Core.Bool.{true, false}
 use Rattle.std.proofs.Common.{rules}
 use Rattle.std.proofs.lemmas.Iterator.{first_from_Range}
-use Rattle.layout.specs.Tables.{settings_of}
+use Rattle.layout.specs.Shapes.{settings_of}
 use Rattle.ranges.specs.Ranges.{fits_at}
 use Rattle.ranges.proofs.First.{find_first}
 use Rattle.ranges.proofs.first_outside.Goals as goal
@@ -14,4 +14,5 @@ returns c =
     let a = c.args in
     let ok = fits_at (settings_of a.s) a.m.now in
     find_first ok a.from a.n c.find.result c.requires.before
-    (first_from_Range _ _ _ c.find.result (λ x. ok x ≡ false) (λ x. ok x ≡ true) c.find.ensures.ran (λ x q k. search (rules, tests)) (λ x q k. search (rules, tests)))
+    (first_from_Range _ _ _ c.find.result (λ x. ok x ≡ false) (λ x. ok x ≡ true) c.find.ensures.ran
+    (λ x q k. search (rules, tests)) (λ x q k. search (rules, tests)))

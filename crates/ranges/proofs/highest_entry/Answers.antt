@@ -8,4 +8,4 @@ pub loop-i-init : goal.loop-i-init
 loop-i-init c = highest_none _
 
 pub loop-i-preserved : goal.loop-i-preserved
-loop-i-preserved c = c.max-top.ensures ∙ ap (max c.loop-i.top) c.get1.ensures ∙ highest_next _ _ _ c.loop-i.invariant
+loop-i-preserved c = c.max-top.ensures ∙ ap (max c.loop-i.top) c.get.ensures ∙ highest_next _ _ _ c.loop-i.invariant

@@ -1,7 +1,8 @@
 -- What the loop of `ranges::highest_entry` keeps.
 use mathlib.Core.Path.{◌≡◌}
 use Rattle.layout.specs.declared.Table.TheVariants.{Mapped}
-use Rattle.layout.specs.Tables.{get, settings_of}
+use Rattle.layout.specs.Tables.{get}
+use Rattle.layout.specs.Shapes.{settings_of}
 use Rattle.ranges.specs.Ranges.{highest}
 use Rattle.ranges.proofs.highest_entry.Given as goal
 

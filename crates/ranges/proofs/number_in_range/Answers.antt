@@ -3,7 +3,7 @@ use mathlib.Core.Path.{refl, sym, ◌∙◌}
 use mathlib.Core.List.{[], ◌∷◌}
 use native.Mathlib.Omega.{arith}
 use Rattle.ledger.specs.Ledger.{last, mapped}
-use Rattle.layout.specs.Tables.{settings_of}
+use Rattle.layout.specs.Shapes.{settings_of}
 use Rattle.ranges.proofs.Items.{fits_number}
 use Rattle.ranges.proofs.number_in_range.Goals as goal
 

@@ -2,7 +2,7 @@
 use mathlib.Core.Path.{◌∙◌}
 use Prim.Native.Nat.{zero-le}
 use native.Mathlib.Omega.{arith}
-use Rattle.layout.specs.Tables.{settings_of}
+use Rattle.layout.specs.Shapes.{settings_of}
 use Rattle.ranges.proofs.First.{first_none}
 use Rattle.ranges.proofs.Highest.{last_decide}
 use Rattle.ranges.proofs.number_outside.Goals as goal

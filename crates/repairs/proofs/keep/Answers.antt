@@ -2,24 +2,24 @@
 use mathlib.Core.Path.{refl, ap, ◌∙◌}
 use native.Mathlib.Omega.{arith}
 use Rattle.ledger.specs.Repair.{mended}
-use Rattle.layout.specs.Tables.{settings_of}
+use Rattle.layout.specs.Shapes.{settings_of}
 use Rattle.repairs.proofs.Keeping.{keeping_none, keeping_next}
 use Rattle.repairs.proofs.keep.Goals as goal
 
 pub loop-i-init : goal.loop-i-init
 loop-i-init c = keeping_none _ _ _ c.requires.long
 
-pub get1-requires : goal.get1-requires
-get1-requires c =
+pub get-requires : goal.get-requires
+get-requires c =
     let room = c.requires.room in
-    record { laid = room.laid; long = room.long; wide = refl; inside = omega arith }
+    record { long = room.long; wide = refl; inside = omega arith }
 
 pub mended-requires : goal.mended-requires
 mended-requires c = tt
 
 pub loop-i-preserved : goal.loop-i-preserved
 loop-i-preserved c =
-    keeping_next c.loop-i.invariant (omega arith) _ (c.mended.ensures ∙ ap (mended (settings_of c.args.s)) c.get1.ensures)
+    keeping_next c.loop-i.invariant (omega arith) _ (c.mended.ensures ∙ ap (mended (settings_of c.args.s)) c.get.ensures)
 
 pub returns : goal.returns
 returns c = record { entry = λ k h. c.loop-i.invariant.held k (omega arith) }

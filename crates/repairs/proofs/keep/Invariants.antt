@@ -2,7 +2,8 @@
 use Rattle.ledger.specs.Settings.{ids}
 use Rattle.ledger.specs.Repair.{mended}
 use Rattle.layout.specs.declared.Table.TheVariants.{Mapped}
-use Rattle.layout.specs.Tables.{get, settings_of}
+use Rattle.layout.specs.Tables.{get}
+use Rattle.layout.specs.Shapes.{settings_of}
 use Rattle.repairs.proofs.Keeping.{Keeping}
 use Rattle.repairs.proofs.keep.Given as goal
 

@@ -7,14 +7,14 @@ use Rattle.repairs.proofs.put_back.Goals as goal
 pub loop-i-init : goal.loop-i-init
 loop-i-init c = fill_none _ _ _ _
 
-pub put1-requires : goal.put1-requires
-put1-requires c =
+pub put-requires : goal.put-requires
+put-requires c =
     let room = c.requires.room in
-    record { laid = room.laid; long = omega arith; wide = refl; inside = omega arith }
+    record { long = omega arith; wide = refl; inside = omega arith }
 
 pub loop-i-preserved : goal.loop-i-preserved
 loop-i-preserved c =
-    fill_next _ _ _ _ c.loop-i.invariant (omega arith) c.m-1.given c.put1.ensures
+    fill_next _ _ _ _ c.loop-i.invariant (omega arith) c.m-1.given c.put.ensures
 
 pub shape_of-m : goal.shape_of-m
 shape_of-m c = c.loop-i.invariant.same_length

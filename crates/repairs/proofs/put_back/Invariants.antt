@@ -2,7 +2,7 @@
 use lib.ListN.{get_or}
 use Rattle.ledger.specs.Settings.{ids}
 use Rattle.layout.specs.declared.Table.TheVariants.{Mapped}
-use Rattle.layout.specs.Tables.{settings_of}
+use Rattle.layout.specs.Shapes.{settings_of}
 use Rattle.memory.specs.Image.{fill}
 use Rattle.fills.proofs.Fills.{Partly}
 use Rattle.repairs.proofs.put_back.Given as goal

@@ -1,7 +1,7 @@
 -- `rounds::round` meets its contract: stitches, prefetches, turns, or refusal 27. Assumes nothing.
 use mathlib.Core.Path.{sym, ◌∙◌}
 use native.Mathlib.Omega.{arith}
-use Rattle.layout.specs.Tables.{settings_of}
+use Rattle.layout.specs.Shapes.{settings_of}
 use Rattle.memory.proofs.Rounds.{round_short, round_done}
 use Rattle.rounds.proofs.round.Goals as goal
 

@@ -5,7 +5,7 @@ use native.Mathlib.Omega.{arith}
 use lib.ListN.{length}
 use Rattle.ledger.specs.Header.{form, header_size, least_length}
 use Rattle.ledger.proofs.Header.{narrow, header_small}
-use Rattle.layout.specs.Tables.{settings_of}
+use Rattle.layout.specs.Shapes.{settings_of}
 use Rattle.runs.proofs.Along.{start_along, next_along, stops_along}
 use Rattle.runs.proofs.run.Goals as goal
 use Rattle.runs.proofs.run.Goals.{Start}
@@ -13,14 +13,14 @@ use Rattle.runs.proofs.run.Goals.{Start}
 -- the size of the switch's headers
 sized : (st : Start) → st.args.s.least ≡ header_size (form (settings_of st.args.s)) + 2
 unfolding least_length
-sized st = st.requires.laid.least_is
+sized st = st.args.s.laid.least_is
 
 less : (st : Start) → st.args.s.least - 2 ≡ header_size (form (settings_of st.args.s))
 less st = omega (arith, sized st)
 
 small : (st : Start) → st.args.s.least - 2 ≤ 12
 small st =
-    let r = st.requires.laid.roomy in
+    let r = st.args.s.laid.roomy in
     let s = st.args.s in
     let thin = narrow s.edition s.ports s.queues r.some_ports r.few_ports r.some_queues r.few_queues in
     omega (arith, less st, (header_small (form (settings_of s)) thin).1)

@@ -15,7 +15,7 @@ passed c = sym c.in_rows.ensures ∙ c.if-not-in_rows.false
 
 -- the size is that of the switch that is asked for
 sized : (c : After-size_of) → c.size_of.result ≡ size (told_settings c.args.told)
-sized c = c.size_of.ensures ∙ ap size c.shape_of-s.ensures.settings_are
+sized c = c.size_of.ensures ∙ ap size c.shape_of-s.ensures
 
 pub returns-then-not-in_rows : goal.returns-then-not-in_rows
 returns-then-not-in_rows c = of_setting _ _ (sym c.in_rows.ensures ∙ c.if-not-in_rows.true)
@@ -30,4 +30,4 @@ returns-then-m-size_of c =
 pub returns : goal.returns
 returns c =
     let e = sized (goal.at.returns c).After-size_of in
-    rw (c.put_state.ensures, c.shape_of-s.ensures.settings_are) (of_done _ _ (passed (goal.at.returns c).Else-not-in_rows) (omega arith))
+    rw (c.put_state.ensures, c.shape_of-s.ensures) (of_done _ _ (passed (goal.at.returns c).Else-not-in_rows) (omega arith))

@@ -5,7 +5,8 @@ use Prim.Native.Nat.{ℕ}
 use Rattle.ledger.specs.Ledger.{Packet, prefetched}
 use Rattle.ledger.specs.Calls.{Reply, part}
 use Rattle.layout.specs.declared.Table.TheVariants.{Head}
-use Rattle.layout.specs.Tables.{settings_of, get}
+use Rattle.layout.specs.Tables.{get}
+use Rattle.layout.specs.Shapes.{settings_of}
 use Rattle.layout.specs.Picture.{packet_at}
 use Rattle.memory.specs.Writes.{head_of}
 use Rattle.memory.proofs.Judged.{handed_on}
@@ -28,15 +29,15 @@ first_is c =
     c.first-oldest.ensures ∙ ap (get (settings_of a.s) a.m.now Head) c.prefetch_list-at.ensures
 
 pub prefetch_list-at-requires : goal.prefetch_list-at-requires
-prefetch_list-at-requires c = record { laid = c.requires.laid; port = (went c).port; queue = (went c).queue }
+prefetch_list-at-requires c = record { port = (went c).port; queue = (went c).queue }
 
 pub first-oldest-requires : goal.first-oldest-requires
 first-oldest-requires c =
-    record { laid = c.requires.laid; long = c.requires.state.long; inside = rw c.prefetch_list-at.ensures (went (goal.at.first-oldest-requires c).In_ok-judge_show).inside }
+    record { long = c.requires.state.long; inside = rw c.prefetch_list-at.ensures (went (goal.at.first-oldest-requires c).In_ok-judge_show).inside }
 
 pub packet-k-requires : goal.packet-k-requires
 packet-k-requires c =
-    record { laid = c.requires.laid; long = c.requires.state.long; node = rw (first_is c) (went (goal.at.packet-k-requires c).In_ok-judge_show).node }
+    record { long = c.requires.state.long; node = rw (first_is c) (went (goal.at.packet-k-requires c).In_ok-judge_show).node }
 
 pub returns-in_err-judge_show : goal.returns-in_err-judge_show
 returns-in_err-judge_show c =

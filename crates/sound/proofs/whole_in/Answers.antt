@@ -8,7 +8,7 @@ use Rattle.sound.proofs.whole_in.Goals.{then-is_none, else-is_none}
 
 pub returns-then-is_none-2 : goal.returns-then-is_none-2
 returns-then-is_none-2 c =
-    let R = c.requires.laid.roomy in
+    let R = c.args.s.laid.roomy in
     let told = c.one_walk.ensures in
     elim c.if-is_none.branch [
       | then-is_none w ↦
@@ -24,7 +24,7 @@ returns-then-is_none-2 c =
 
 pub returns-else-is_none-2 : goal.returns-else-is_none-2
 returns-else-is_none-2 c =
-    let R = c.requires.laid.roomy in
+    let R = c.args.s.laid.roomy in
     record {
       yes = λ e. absurd (false≢true (sym c.if-is_none-2.false ∙ e));
       no = λ e k. elim c.if-is_none.branch [

@@ -6,7 +6,7 @@ use Rattle.ledger.specs.Buckets.{untimed}
 use Rattle.ledger.specs.Ledger.{prefetched}
 use Rattle.ledger.specs.Calls.{Reply, turn, entry, leaves, side_of}
 use Rattle.ledger.specs.Rounds.{answer_bytes}
-use Rattle.layout.specs.Tables.{settings_of}
+use Rattle.layout.specs.Shapes.{settings_of}
 use Rattle.layout.specs.Picture.{packet_at}
 use Rattle.memory.specs.Writes.{head_of, serve_mem}
 use Rattle.memory.specs.Memory.{acted}

@@ -12,7 +12,6 @@ push-requires c =
     let p = c.requires in
     can_put refl refl (record {
       take = record {
-        laid = p.works.laid;
         tidy = state_tidy _ _ p.works.state;
         inside = grind (arith, judging);
         some = grind arith;

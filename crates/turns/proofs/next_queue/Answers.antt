@@ -3,7 +3,7 @@ use mathlib.Core.Path.{◌≡◌, ap₂, ◌∙◌}
 use native.Mathlib.Omega.{arith}
 use Rattle.ledger.specs.Ledger.{last_of, last}
 use Rattle.ledger.specs.Ready.{ready_word, pick}
-use Rattle.layout.specs.Tables.{settings_of}
+use Rattle.layout.specs.Shapes.{settings_of}
 use Rattle.layout.specs.Picture.{ledger_in}
 use Rattle.turns.proofs.Laws as laws
 use Rattle.turns.proofs.next_queue.Goals as goal
@@ -12,7 +12,7 @@ use Rattle.turns.proofs.next_queue.Goals as goal
 pub pick-requires : goal.pick-requires
 pick-requires c =
     let low = c.requires.works.state.sound.orderly.ranges.numbers_in last c.args.p c.requires.port in
-    omega (arith, c.last.ensures, c.requires.works.laid.roomy.few_queues)
+    omega (arith, c.last.ensures, c.args.s.laid.roomy.few_queues)
 
 pub returns : goal.returns
 returns c =

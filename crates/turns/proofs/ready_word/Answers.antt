@@ -5,7 +5,7 @@ use Prim.Native.Nat.{ℕ, ◌-◌, ◌^◌, ◌<◌}
 use native.Mathlib.Omega.{arith}
 use Rattle.ledger.specs.Ready.{is_ready, ready_word}
 use Rattle.ledger.proofs.Places.{bit_le}
-use Rattle.layout.specs.Tables.{settings_of}
+use Rattle.layout.specs.Shapes.{settings_of}
 use Rattle.layout.specs.Picture.{ledger_in}
 use Rattle.turns.proofs.Laws.{word_down, word_start, word_end, word_room, bit_is}
 use Rattle.turns.proofs.ready_word.Goals as goal
@@ -22,7 +22,7 @@ loop-q-init c = word_start (ready (goal.at.loop-q-init c).Start) c.args.s.queues
 room : (c : In-loop-q) → c.loop-q.word < 2 ^ 63
 room c =
     rw c.loop-q.invariant
-    (word_room (ready (goal.at.In-loop-q c).Start) c.args.s.queues c.loop-q.q c.requires.works.laid.roomy.few_queues c.loop-q-test.true c.loop-q.auto.q)
+    (word_room (ready (goal.at.In-loop-q c).Start) c.args.s.queues c.loop-q.q c.args.s.laid.roomy.few_queues c.loop-q-test.true c.loop-q.auto.q)
 
 pub overflow_mul-word : goal.overflow_mul-word
 overflow_mul-word c = omega (arith, room c)

@@ -2,7 +2,7 @@
 use mathlib.Core.Path.{◌≡◌}
 use Prim.Native.Nat.{◌+◌, ◌-◌}
 use Rattle.ledger.specs.Ready.{is_ready, word_of}
-use Rattle.layout.specs.Tables.{settings_of}
+use Rattle.layout.specs.Shapes.{settings_of}
 use Rattle.layout.specs.Picture.{ledger_in}
 use Rattle.turns.proofs.ready_word.Given as goal
 

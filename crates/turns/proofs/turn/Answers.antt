@@ -1,6 +1,6 @@
 -- `turns::turn` meets its contract: refused, idle, or the picked queue's oldest packet leaves. Assumes nothing.
 use mathlib.Core.Path.{◌∙◌}
-use Rattle.layout.specs.Tables.{settings_of}
+use Rattle.layout.specs.Shapes.{settings_of}
 use Rattle.turns.proofs.Laws.{turn_leaves}
 use Rattle.turns.proofs.turn.Goals as goal
 

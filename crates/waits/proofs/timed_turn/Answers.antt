@@ -3,7 +3,7 @@ use Rattle.std.proofs.Common.{◌≡◌, ℕ, List, length, ap, arith}
 use Rattle.ledger.specs.Buckets.{untimed}
 use Rattle.ledger.specs.Calls.{Reply, leaves, turn}
 use Rattle.ledger.specs.Answers.{sent_of, exit_of}
-use Rattle.layout.specs.Tables.{settings_of}
+use Rattle.layout.specs.Shapes.{settings_of}
 use Rattle.memory.specs.Writes.{tick_mem}
 use Rattle.memory.specs.Memory.{acted}
 use Rattle.memory.proofs.Rounds.{works_after}
@@ -23,7 +23,6 @@ pub count-requires : goal.count-requires
 count-requires c =
     let after = works_after c.args.s c.args.m.now (turn untimed c.args.port) c.requires in
     record {
-      laid = c.requires.laid;
       long = omega (arith, ap (λ (o : Reply × List ℕ). length o.1) c.turn.ensures, after.state.long);
       port = sends_port _ _ c.requires.state c.args.time c.args.port _ _ _ (sent (goal.at.count-requires c).In-Some);
     }

@@ -10,7 +10,8 @@ use Rattle.ledger.specs.Settings.{row}
 use Rattle.ledger.specs.Ledger.{is_node}
 use Rattle.ledger.proofs.Tests.{true≢false}
 use Rattle.layout.specs.declared.Table.TheVariants.{Count, Next}
-use Rattle.layout.specs.Tables.{get, settings_of}
+use Rattle.layout.specs.Tables.{get}
+use Rattle.layout.specs.Shapes.{settings_of}
 use Rattle.memory.proofs.Chains.{slot_lt}
 use Rattle.once.specs.Bits.{marks_in}
 use Rattle.once.specs.Once.{is_new}
@@ -37,7 +38,7 @@ pub loop-init : goal.loop-init
 loop-init c =
     let p = c.requires in
     let all : c.args.count - 0 ≡ get (settings_of c.args.s) c.args.m.now Count c.args.l = omega (arith, p.count_is) in
-    (refl, rw (c.get2-tail.ensures, c.get2-x.ensures) (pass_start all (walk_start _ _ _ _ (marks_length _ _) all) p.lent.held))
+    (refl, rw (c.get-tail.ensures, c.get-x.ensures) (pass_start all (walk_start _ _ _ _ (marks_length _ _) all) p.lent.held))
 
 -- an id that is no node is not new
 pub returns-then-not-is_node : goal.returns-then-not-is_node
@@ -46,12 +47,11 @@ returns-then-not-is_node c =
     let none = sym c.is_node.ensures ∙ c.if-not-is_node.true in
     not_passed (pass_not c.loop.invariant.1 (omega arith) (rw none))
 
-pub get2-next-requires : goal.get2-next-requires
-get2-next-requires c = record {
-  laid = search rules;
+pub get-next-requires : goal.get-next-requires
+get-next-requires c = record {
   long = search rules;
   wide = refl;
-  inside = rw c.slot_of-at.ensures (slot_lt _ _ (node (goal.at.get2-next-requires c).Else-not-is_node));
+  inside = rw c.slot_of-at.ensures (slot_lt _ _ (node (goal.at.get-next-requires c).Else-not-is_node));
 }
 
 pub node_passes-requires : goal.node_passes-requires
@@ -59,9 +59,9 @@ node_passes-requires c =
     let p = c.requires in
     record {
       lent = record {
-        marks = record { laid = p.lent.marks.laid; room = rw c.loop.invariant.0 p.lent.marks.room };
+        marks = record { room = rw c.loop.invariant.0 p.lent.marks.room };
         long = p.lent.long;
-        held = pass_lent c.loop.invariant.1 p.lent.marks.laid.roomy p.inside;
+        held = pass_lent c.loop.invariant.1 c.args.s.laid.roomy p.inside;
       };
       node = node (goal.at.node_passes-requires c).Else-not-is_node;
       at_is = c.slot_of-at.ensures;
@@ -79,14 +79,14 @@ loop-preserved c =
       c.node_passes.auto.marks ∙ c.loop.invariant.0,
       pass_step c.loop.invariant.1 (omega arith) (told (goal.at.loop-preserved c).After-node_passes ∙ yes) c.requires.column_is (t.marks yes)
           (t.added yes)
-          (c.get2-next.ensures ∙ ap (get (settings_of a.s) a.m.now Next) c.slot_of-at.ensures)
+          (c.get-next.ensures ∙ ap (get (settings_of a.s) a.m.now Next) c.slot_of-at.ensures)
           (omega arith),
     )
 
 pub returns : goal.returns
 returns c =
     let w = pass_end c.loop.invariant.1 (omega arith) in
-    let e = w.0 ∙ ap (eqb _) (sym c.get2-tail.ensures) in
+    let e = w.0 ∙ ap (eqb _) (sym c.get-tail.ensures) in
     record {
       answer = record { yes = λ r. record { once = e ∙ r; fits = w.3 }; no = λ r k. true≢false (sym k.once ∙ e ∙ r) };
       marks = λ r. w.1;

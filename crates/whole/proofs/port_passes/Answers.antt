@@ -3,7 +3,8 @@ use mathlib.Core.Path.{◌≡◌, sym, ap₂, ◌∙◌}
 use Prim.Native.Nat.{◌+◌, ◌*◌, ◌/◌, ◌%◌, ◌<◌}
 use native.Mathlib.Omega.{arith}
 use Rattle.ledger.specs.Settings.{row}
-use Rattle.layout.specs.Tables.{lists, settings_of}
+use Rattle.layout.specs.Tables.{lists}
+use Rattle.layout.specs.Shapes.{settings_of}
 use Rattle.layout.proofs.Shapes.{few}
 use Rattle.once.specs.Bits.{marks_in}
 use Rattle.once.proofs.Bits.{marks_length}
@@ -20,7 +21,7 @@ inside : (c : In-loop-column)
     let l = c.args.port * c.args.s.row + c.loop-column.column in
     (l < lists S) × (c.args.port ≡ l / row S) × (c.loop-column.column ≡ l % row S)
 inside c =
-    let is = c.requires.marks.laid.row_is in
+    let is = c.args.s.laid.row_is in
     let low = c.loop-column-test.true in
     (list_in_lem _ _ _ is low c.requires.inside, port_is _ c.args.port _ is low, column_is _ c.args.port _ is low)
 
@@ -30,18 +31,18 @@ answered : (c : After-few_enough)
     c.few_enough.result ≡ few_in (settings_of a.s) a.m.now (a.port * a.s.row + c.loop-column.column)
 answered c =
     let S = settings_of c.args.s in
-    c.few_enough.ensures ∙ ap₂ (few_at S) (inside (goal.at.After-few_enough c).In-loop-column).2 c.get4-count.ensures
+    c.few_enough.ensures ∙ ap₂ (few_at S) (inside (goal.at.After-few_enough c).In-loop-column).2 c.get-count.ensures
 
 -- the walk stands at the next list
 went : (c : Else-not-list_passes)
     → let a = c.args in
     let p = c.list_passes in
     AtList (settings_of a.s) a.m.now (marks_in (settings_of a.s) p.new.marks) p.new.sums
-    (a.port * a.s.row + (c.loop-column.column + 1)) (c.loop-column.met + c.get4-count.result)
+    (a.port * a.s.row + (c.loop-column.column + 1)) (c.loop-column.met + c.get-count.result)
 went c =
     lists_next c.loop-column.invariant.1 (inside (goal.at.Else-not-list_passes c).In-loop-column).0
     (sym (answered (goal.at.Else-not-list_passes c).After-few_enough) ∙ c.if-not-few_enough.false)
-    (marks_length _ _ ∙ sym (marks_length _ _)) c.list_passes.ensures c.if-not-list_passes.false (omega arith) c.get4-count.ensures
+    (marks_length _ _ ∙ sym (marks_length _ _)) c.list_passes.ensures c.if-not-list_passes.false (omega arith) c.get-count.ensures
 
 pub returns-then-not-few_enough : goal.returns-then-not-few_enough
 returns-then-not-few_enough c =
@@ -57,7 +58,7 @@ returns-then-not-list_passes c =
 pub overflow_add-met : goal.overflow_add-met
 overflow_add-met c =
     let next = went c in
-    omega (arith, set_le (marks_in (settings_of c.args.s) c.list_passes.new.marks), next.met, next.scan.fits, few _ c.requires.marks.laid.roomy)
+    omega (arith, set_le (marks_in (settings_of c.args.s) c.list_passes.new.marks), next.met, next.scan.fits, few _ c.args.s.laid.roomy)
 
 pub loop-column-preserved : goal.loop-column-preserved
 loop-column-preserved c = (c.list_passes.auto.marks ∙ c.loop-column.invariant.0, went (goal.at.loop-column-preserved c).Else-not-list_passes)
@@ -65,4 +66,4 @@ loop-column-preserved c = (c.list_passes.auto.marks ∙ c.loop-column.invariant.
 pub returns : goal.returns
 returns c =
     let end : (c.args.port + 1) * c.args.s.row ≡ c.args.port * c.args.s.row + c.loop-column.column = omega arith in
-    rw (← c.requires.marks.laid.row_is, end) c.loop-column.invariant.1
+    rw (← c.args.s.laid.row_is, end) c.loop-column.invariant.1

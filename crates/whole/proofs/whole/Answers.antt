@@ -5,7 +5,8 @@ use native.Mathlib.Nat.{mul-le-mul_right}
 use native.Mathlib.Omega.{arith}
 use Rattle.std.specs.Prelude.{None}
 use Rattle.ledger.specs.Settings.{row}
-use Rattle.layout.specs.Tables.{lists, settings_of}
+use Rattle.layout.specs.Tables.{lists}
+use Rattle.layout.specs.Shapes.{settings_of}
 use Rattle.once.specs.Once.{once_found}
 use Rattle.fits.specs.declared.NodeRule.{NodeRule}
 use Rattle.fits.specs.declared.NodeRule.TheVariants.{Record}
@@ -22,7 +23,7 @@ past : (c : After-loop-port) → let S = settings_of c.args.s in lists S ≤ c.l
 past c = mul-le-mul_right (row (settings_of c.args.s)) c.loop-port-test.false
 
 once_kept : (c : Else-met-s) → let a = c.args in once_found (settings_of a.s) a.m.now ≡ None
-once_kept c = end_once c.loop-port.invariant.1 (past (goal.at.Else-met-s c).After-loop-port) (c.if-met-s.false ∙ c.requires.blank.marks.laid.all_are)
+once_kept c = end_once c.loop-port.invariant.1 (past (goal.at.Else-met-s c).After-loop-port) (c.if-met-s.false ∙ c.args.s.laid.all_are)
 
 fits_kept : (c : Else-met-s) (rule : NodeRule) → let a = c.args in fits_found rule (settings_of a.s) a.m.now ≡ None
 fits_kept c = end_fits c.loop-port.invariant.1 (past (goal.at.Else-met-s c).After-loop-port)
@@ -50,7 +51,7 @@ loop-port-init c = (refl, lists_start c.requires (omega arith))
 pub returns-then-met-s : goal.returns-then-met-s
 returns-then-met-s c =
     let all : c.loop-port.port ≡ c.args.s.ports = omega arith in
-    let all_are = c.requires.blank.marks.laid.all_are in (
+    let all_are = c.args.s.laid.all_are in (
       end_left c.loop-port.invariant.1 (past (goal.at.returns-then-met-s c).After-loop-port) (λ d. c.if-met-s.true (d ∙ sym all_are)),
       record { most = omega arith; rest = rw all at c.loop-port.invariant.1.fits },
     )
@@ -59,9 +60,8 @@ pub first_due-requires : goal.first_due-requires
 first_due-requires c =
     let p = c.requires in
     record {
-      laid = p.blank.marks.laid;
       long = p.blank.long;
-      held = rw (sums_are c) (sums_held _ _ (payable _ _ p.blank.long (once_kept c) (fits_kept c Record)) p.blank.marks.laid.roomy);
+      held = rw (sums_are c) (sums_held _ _ (payable _ _ p.blank.long (once_kept c) (fits_kept c Record)) c.args.s.laid.roomy);
     }
 
 pub returns-in-Some : goal.returns-in-Some

@@ -3,7 +3,7 @@ use mathlib.Core.Path.{◌≡◌}
 use Prim.Native.Nat.{◌*◌}
 use lib.ListN.{length}
 use Rattle.ledger.specs.Settings.{row}
-use Rattle.layout.specs.Tables.{settings_of}
+use Rattle.layout.specs.Shapes.{settings_of}
 use Rattle.once.specs.Bits.{marks_in}
 use Rattle.whole.specs.Walks.{AtList}
 use Rattle.whole.proofs.whole.Given as goal
