@@ -39,6 +39,7 @@ fn keep(m: &[u8], s: Shape, map: &mut [u8])
     }
 }
 
+#[tactic(auto, unfolding(memory::specs::Image::fill))]
 fn put_back(m: &mut [u8], s: Shape, map: &[u8])
     requires { Lent s m.old map.now }
     ensures { m.new ≡ fill (settings_of s) Mapped (λ i. i) (λ i. get_or map.now i 0) ids m.old }
