@@ -21,7 +21,14 @@ use Rattle.layout.specs.Picture.{slot, chain, nodes_of, node_in, tabulate, ledge
 use Rattle.memory.specs.Memory.{acted}
 use Rattle.memory.proofs.Chains.{shown, item_node, length_lists, members, state_tidy, chain_front}
 use Rattle.std.specs.Prelude.{Option, None, Some}
+use Rattle.ledger.specs.Sound.{Roomy}
+use Rattle.std.proofs.lemmas.Bool.Decides.{nat_tests}
+use Rattle.memory.proofs.Chains.{total_bound, slot_lt}
 use Rattle.finds.specs.Search.{walked, or_else, searched}
+
+-- a list's positions fit two bytes
+pub few : (S : Settings) (m : List ℕ) (l : ℕ) → StateOf S m → Roomy S → l < lists S → get S m Count l ≤ 65536
+few S m l s ok h = total_bound S m (state_tidy S m s) ok l h
 
 module _ (S : Settings) (m : List ℕ) (x : ℕ) where
   -- ---- the walk of list l: at node y, of position i, what is found in the whole is what is found in the rest
@@ -31,14 +38,14 @@ module _ (S : Settings) (m : List ℕ) (x : ℕ) where
     pub rest : walked x 0 (nodes_of S m l) ≡ walked x i (chain S m (get S m Count l - i) y)
     pub nodes : All (λ z. is_node S z ≡ true) (chain S m (get S m Count l - i) y)
 
-  pub walk_starts : StateOf S m → (l : ℕ) → l < lists S → Walking l (get S m Head l) 0
+  pub walk_starts : StateOf S m → (l y : ℕ) → l < lists S → y ≡ get S m Head l → Walking l y 0
   unfolding nodes_of
-  walk_starts s l h =
+  walk_starts s l y h first =
       let e : get S m Count l ≡ get S m Count l - 0 = omega arith in
       record {
         low = omega arith;
-        rest = ap (λ (n : ℕ). walked x 0 (chain S m n (get S m Head l))) e;
-        nodes = rw (← e) (members S m (state_tidy S m s) l h);
+        rest = rw first (ap (λ (n : ℕ). walked x 0 (chain S m n (get S m Head l))) e);
+        nodes = rw (← e, first) (members S m (state_tidy S m s) l h);
       }
 
   pub walk_ends : (l y i : ℕ) → Walking l y i → get S m Count l ≤ i → None ≡ walked x 0 (nodes_of S m l)
@@ -55,12 +62,12 @@ module _ (S : Settings) (m : List ℕ) (x : ℕ) where
     unfolding walked
     walk_meets e = sym (w.rest ∙ rw (chain_front S m (get S m Count l) i y h, eqb_is y x e))
 
-    pub walk_goes : (y ≡ x → ⊥) → Walking l (get S m Next (slot S y)) (i + 1)
+    pub walk_goes : (y' : ℕ) → y' ≡ get S m Next (slot S y) → (y ≡ x → ⊥) → Walking l y' (i + 1)
     unfolding walked
-    walk_goes n = record {
+    walk_goes y' next n = record {
       low = omega arith;
-      rest = w.rest ∙ rw (chain_front S m (get S m Count l) i y h, eqb_not y x n, add-one);
-      nodes = (rw (chain_front S m (get S m Count l) i y h) at w.nodes).1;
+      rest = w.rest ∙ rw (next, chain_front S m (get S m Count l) i y h, eqb_not y x n, add-one);
+      nodes = rw next (rw (chain_front S m (get S m Count l) i y h) at w.nodes).1;
     }
 
   -- ---- the search: at list l, what is found in all lists is what is found in the rest
@@ -156,9 +163,9 @@ module _ (S : Settings) (m : List ℕ) (x : ℕ) where
         let e : 0 + which x (ledger_in S m).lists ≡ which x (ledger_in S m).lists = omega arith in
         search_is 0 (lists S) which_in ∙ ap (λ (j : ℕ). Some (j, position x (get_or (ledger_in S m).lists (which x (ledger_in S m).lists) []))) e
 
-    pub stands_at : (l i : ℕ) → Some (l, i) ≡ searched S m x 0 (lists S) → Found l i
+    pub stands_at : (v : ℕ × ℕ) → Some v ≡ searched S m x 0 (lists S) → Found v.0 v.1
     unfolding acted
-    stands_at l i e =
+    stands_at (l, i) e =
         let p : ◌≡◌ {A = ℕ × ℕ} (l, i) (which x (ledger_in S m).lists, position x (get_or (ledger_in S m).lists (which x (ledger_in S m).lists) [])) = cc finds in
         let dl : l ≡ which x (ledger_in S m).lists = ap (λ (a : ℕ × ℕ). a.0) p in
         let di : i ≡ position x (get_or (ledger_in S m).lists (which x (ledger_in S m).lists) []) = ap (λ (a : ℕ × ℕ). a.1) p in
@@ -166,3 +173,10 @@ module _ (S : Settings) (m : List ℕ) (x : ℕ) where
 
     pub stands_somewhere : None ≡ searched S m x 0 (lists S) → ⊥
     stands_somewhere e = let z : ◌≡◌ {A = ℕ} 0 1 = cc finds in omega arith
+
+-- what the search may use: of a walk, of the search of the lists, and of where
+pub ruleset walking = (walk_starts, walk_ends, walk_node, walk_meets, walk_goes, few, slot_lt, nat_tests)
+
+pub ruleset searching = (search_ends, search_meets, search_goes)
+
+pub ruleset standing = (refuses, stands_somewhere, nat_tests)

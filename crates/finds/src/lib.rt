@@ -17,6 +17,7 @@ use layout::{Shape, Table};
 use ledger::{EntryId, ListKind, Refusal};
 
 // The node after x.
+#[tactic(auto, using(crate::proofs::Laws::walking))]
 fn next(m: &[u8], s: Shape, x: EntryId) -> EntryId
     requires { InRecords s x.0 m.now }
     ensures { result.0 ≡ get (settings_of s) m.now Next (slot (settings_of s) x.0) }
@@ -25,6 +26,7 @@ fn next(m: &[u8], s: Shape, x: EntryId) -> EntryId
 }
 
 // At which position node x stands in list l, if it does.
+#[tactic(auto, using(crate::proofs::Laws::walking))]
 fn in_list(m: &[u8], s: Shape, l: usize, x: EntryId) -> Option<u16>
     requires { Walks s l m.now }
     ensures { result ≡ walked x.0 0 (nodes_of (settings_of s) m.now l) }
@@ -40,6 +42,7 @@ fn in_list(m: &[u8], s: Shape, l: usize, x: EntryId) -> Option<u16>
 }
 
 // The number of the list in which node x stands, and the position in it.
+#[tactic(auto, using(crate::proofs::Laws::searching))]
 fn search(m: &[u8], s: Shape, x: EntryId) -> Option<(usize, u16)>
     requires { Works s m.now }
     ensures { result ≡ searched (settings_of s) m.now x.0 0 (lists (settings_of s)) }
@@ -53,6 +56,7 @@ fn search(m: &[u8], s: Shape, x: EntryId) -> Option<(usize, u16)>
 }
 
 // The list in which a node stands and its position in it from 0; refused for an id that is no node's.
+#[tactic(auto, using(crate::proofs::Laws::standing))]
 pub fn where_is(m: &[u8], s: Shape, id: EntryId) -> Result<(ListKind, u16), Refusal>
     requires { Works s m.now }
     ensures { where_reply result ≡ (acted (settings_of s) m.now (where_is id.0)).0 }
@@ -60,9 +64,7 @@ pub fn where_is(m: &[u8], s: Shape, id: EntryId) -> Result<(ListKind, u16), Refu
     if !geometry::is_node(s, id) {
         return Err(Refusal::NoSuchId);
     }
-    match search(m, s, id) {
-        Some((l, i)) => Ok((geometry::kind_of(s, l), i)),
-        // Never so: in a switch state each node stands somewhere.
-        None => Err(Refusal::NoSuchId),
-    }
+    // in a switch state each node stands somewhere
+    let (l, i) = search(m, s, id).unwrap();
+    Ok((geometry::kind_of(s, l), i))
 }

@@ -1,31 +1,18 @@
--- `finds::where_is` meets its contract: a node is found where it stands, and it stands somewhere. Assumes nothing.
-use mathlib.Core.Path.{◌≡◌, sym, ap, ◌∙◌}
-use mathlib.Core.Bool.{true}
-use Rattle.ledger.specs.Ledger.{is_node, Place}
+-- `finds::where_is` meets its contract: a node is found where it stands. Assumes nothing.
+use mathlib.Core.Path.{sym, ap, ◌∙◌}
+use Rattle.ledger.specs.Ledger.{Place}
 use Rattle.ledger.specs.Calls.{found}
-use Rattle.layout.specs.Shapes.{settings_of}
+use Rattle.layout.specs.Tables.{settings_of}
 use Rattle.finds.proofs.Laws as laws
 use Rattle.finds.proofs.where_is.Goals as goal
-use Rattle.finds.proofs.where_is.Goals.{Else-not-is_node, In-Some}
+use Rattle.finds.proofs.where_is.Goals.{After-unwrap-l}
 
-pub returns-then-not-is_node : goal.returns-then-not-is_node
-returns-then-not-is_node c = laws.refuses _ _ _ (sym c.is_node.ensures ∙ c.if-not-is_node.true)
-
--- past the test the id is a node's
-node : (c : Else-not-is_node) → let a = c.args in is_node (settings_of a.s) a.id.0 ≡ true
-node c = sym c.is_node.ensures ∙ c.if-not-is_node.false
-
-stands : (c : In-Some) → let a = c.args in
-    laws.Found (settings_of a.s) a.m.now a.id.0 c.in-Some.l c.in-Some.i
+stands : (c : After-unwrap-l) → let a = c.args in laws.Found (settings_of a.s) a.m.now a.id.0 c.unwrap-l.result.0 c.unwrap-l.result.1
 stands c =
-    laws.stands_at _ _ _ c.requires.state (node (goal.at.In-Some c).Else-not-is_node) _ _ (sym c.in-Some.is ∙ c.search.ensures)
+    laws.stands_at _ _ _ c.requires.state (sym c.is_node.ensures ∙ c.if-not-is_node.false) c.unwrap-l.result (sym c.unwrap-l.ensures ∙ c.search.ensures)
 
 pub kind_of-requires : goal.kind_of-requires
-kind_of-requires c = record { inside = (stands (goal.at.kind_of-requires c).In-Some).inside }
+kind_of-requires c = record { laid = c.requires.laid; inside = (stands c).inside }
 
-pub returns-in-Some : goal.returns-in-Some
-returns-in-Some c = ap (λ (v : Place). found v c.in-Some.i) c.kind_of.ensures ∙ (stands (goal.at.returns-in-Some c).In-Some).reply
-
-pub returns-in-None : goal.returns-in-None
-returns-in-None c =
-    absurd (laws.stands_somewhere _ _ _ c.requires.state (node (goal.at.returns-in-None c).Else-not-is_node) (sym c.in-None.is ∙ c.search.ensures))
+pub returns : goal.returns
+returns c = ap (λ (v : Place). found v c.unwrap-l.result.1) c.kind_of.ensures ∙ (stands (goal.at.returns c).After-unwrap-l).reply
