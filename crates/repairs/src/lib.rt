@@ -23,10 +23,11 @@ const ENTRIES: usize = 4096;
 fn mended(s: Shape, entry: u8) -> u8
     ensures { result ≡ mended (settings_of s) entry }
 {
-    if (entry as usize) < s.ports {
-        return entry;
+    if usize::from(entry) < s.ports {
+        entry
+    } else {
+        0
     }
-    0
 }
 
 // The map's entries, mended, into lent room.
@@ -34,18 +35,18 @@ fn keep(m: &[u8], s: Shape, map: &mut [u8])
     requires { Lent s m.now map.old }
     ensures { Mends s m.now map.new }
 {
-    for i in 0..map.len() {
-        map[i] = mended(s, layout::get(m, s, Table::Mapped, i));
+    for (i, entry) in map.iter_mut().enumerate() {
+        *entry = mended(s, layout::get(m, s, Table::Mapped, i));
     }
 }
 
-#[tactic(auto, unfolding(memory::specs::Image::fill))]
+#[tactic(auto, using(crate::proofs::Keeping::keeping))]
 fn put_back(m: &mut [u8], s: Shape, map: &[u8])
     requires { Lent s m.old map.now }
     ensures { m.new ≡ fill (settings_of s) Mapped (λ i. i) (λ i. get_or map.now i 0) ids m.old }
 {
-    for i in 0..map.len() {
-        layout::put(m, s, Table::Mapped, i, map[i]);
+    for (i, entry) in map.iter().enumerate() {
+        layout::put(m, s, Table::Mapped, i, *entry);
     }
 }
 

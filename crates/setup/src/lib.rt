@@ -11,6 +11,7 @@ use ledger::Refusal;
 use settings::Settings;
 
 // A new switch state in lent memory, or a refusal with no byte changed.
+#[tactic(auto, using(std::proofs::lemmas::Bool::Decides::nat_tests, ledger::proofs::Rows::roomy), unfolding(memory::specs::Memory::M))]
 pub fn setup(m: &mut [u8], told: Settings) -> Result<(), Refusal>
     ensures { ◌≡◌ {A = Reply × List ℕ} (plain_reply result, m.new) (M (call_of told) m.old) }
 {

@@ -6,4 +6,4 @@ use Rattle.memory.specs.Image.{fill}
 use Rattle.repairs.proofs.put_back.Given as goal
 
 abbrev pub invariant-loop-i : goal.invariant-loop-i
-invariant-loop-i l = l.m ≡ fill (settings_of l.s) Mapped (λ j. j) (λ j. get_or l.map j 0) l.i l.initial.m
+invariant-loop-i l = l.m ≡ fill (settings_of l.s) Mapped (λ k. k) (λ k. get_or l.map k 0) l.i l.initial.m
