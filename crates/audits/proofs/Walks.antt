@@ -8,11 +8,11 @@ use native.Mathlib.Omega.{arith}
 use lib.ListN.{length}
 use Rattle.ledger.specs.Settings.{Settings}
 use Rattle.ledger.specs.Ledger.{is_node, place_of}
-use Rattle.ledger.specs.Sound.{All}
+use Rattle.ledger.specs.Sound.{All, Roomy}
 use Rattle.layout.specs.declared.Table.TheVariants.{Head, Count, Next}
 use Rattle.layout.specs.Tables.{lists, get}
 use Rattle.layout.specs.Picture.{slot, chain, nodes_of, StateOf}
-use Rattle.memory.proofs.Chains.{members, state_tidy, chain_front}
+use Rattle.memory.proofs.Chains.{members, state_tidy, chain_front, total_bound}
 use Rattle.audits.specs.Told.{told_node, told_nodes, told_list, told_lists}
 
 -- ---- the nodes of list l: at node x, of position i
@@ -56,6 +56,13 @@ module _ (S : Settings) (m : List ℕ) (l : ℕ) (room₀ : List ℕ) where
         nodes = (rw (chain_front S m (get S m Count l) i x h) at w.nodes).1;
       }
 
+-- a list's positions fit two bytes
+pub few : (S : Settings) (m : List ℕ) (l : ℕ) → StateOf S m → Roomy S → l < lists S → get S m Count l ≤ 65536
+few S m l s ok h = total_bound S m (state_tidy S m s) ok l h
+
+-- what the search may use of a list
+pub ruleset telling = (tell_starts, tell_node, tell_goes, tell_ends, few)
+
 -- ---- the lists: at list l
 
 module _ (S : Settings) (m room₀ : List ℕ) where
@@ -81,3 +88,5 @@ module _ (S : Settings) (m room₀ : List ℕ) where
     pass_goes h room' k f =
         let e : lists S - l ≡ suc (lists S - (l + 1)) = omega arith in
         record { low = omega arith; same_length = k ∙ w.same_length; rest = w.rest ∙ rw (e, f, add-one) }
+
+pub ruleset passing = (pass_starts, pass_goes, pass_ends)

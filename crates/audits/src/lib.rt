@@ -24,6 +24,7 @@ fn put(room: &mut [u8], at: usize, bytes: [u8; 8])
 }
 
 // Tells that node x stands at position i of a list of this kind, and answers the node after it.
+#[tactic(auto, using(memory::proofs::Chains::slot_lt))]
 fn tell(m: &[u8], s: Shape, x: EntryId, kind: ListKind, i: u16, room: &mut [u8]) -> EntryId
     requires { NodeLent s x.0 m.now room.old }
     ensures { Told s m.now (kind_of kind) i x.0 result.0 room.old room.new }
@@ -34,6 +35,7 @@ fn tell(m: &[u8], s: Shape, x: EntryId, kind: ListKind, i: u16, room: &mut [u8])
 }
 
 // Tells the nodes of list l.
+#[tactic(auto, using(crate::proofs::Walks::telling))]
 fn tell_list(m: &[u8], s: Shape, l: usize, room: &mut [u8])
     requires { ListLent s l m.now room.old }
     ensures { room.new ≡ told_list (settings_of s) m.now l room.old }
@@ -46,6 +48,7 @@ fn tell_list(m: &[u8], s: Shape, l: usize, room: &mut [u8])
 }
 
 // Tells the nodes of all lists.
+#[tactic(auto, using(crate::proofs::Walks::passing))]
 fn tell_lists(m: &[u8], s: Shape, room: &mut [u8])
     requires { Lent s m.now room.old }
     ensures { room.new ≡ told_lists (settings_of s) m.now 0 (lists (settings_of s)) room.old }
@@ -56,6 +59,7 @@ fn tell_lists(m: &[u8], s: Shape, room: &mut [u8])
 }
 
 // Every node's place, port by port and index by index: refused where the room has less than eight bytes a node.
+#[tactic(auto, using(memory::proofs::Audit::audit_short, memory::proofs::Audit::audit_done, crate::proofs::Blocks::walk_tells, layout::proofs::Shapes::small))]
 pub fn audit(m: &[u8], s: Shape, room: &mut [u8]) -> Result<(), Refusal>
     requires { Works s m.now }
     ensures { ◌≡◌ {A = Reply × List ℕ} (plain_reply result, room.new) (audited (settings_of s) m.now room.old) }
