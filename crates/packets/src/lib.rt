@@ -46,6 +46,7 @@ fn copy(slot: &mut [u8], packet: &[u8])
 }
 
 // A packet stored in its node's slot: the slot's part of the memory is lent on to the copier.
+#[tactic(auto, using(crate::proofs::Laws::resting), unfolding(ledger::specs::Packets::stored))]
 pub fn keep(packets: &mut [u8], id: EntryId, packet: &[u8])
     requires { (slot_at id.0 + slot_bytes ≤ length packets.old) × (length packet.now ≤ slot_bytes) }
     ensures { packets.new ≡ stored (slot_at id.0) packet.now packets.old }
