@@ -35,9 +35,6 @@ module _ {s : Shape} (f : ℕ → List Act) {m₀ : List ℕ} {n : ℕ} where
       done = e ∙ rw at.done (sym (after_next (settings_of s) f p m₀));
     }
 
-    pub passed_all : n ≤ p → m ≡ after_acts (settings_of s) m₀ (each f n)
-    passed_all l = let all : p ≡ n = omega arith in at.done ∙ ap (λ (k : ℕ). after_acts (settings_of s) m₀ (each f k)) all
-
 -- ---- turns, told in a room
 
 abbrev one : ℕ → List Act
@@ -75,12 +72,3 @@ module _ {s : Shape} {m₀ : List ℕ} {n : ℕ} where
           ∙ rw at.told
           (told_next rs r room₀ p (as_many_answers (settings_of s) (turn untimed) p m₀) ∙ ap (λ (x : List Reply). answers_in x room₀) answers_one);
     }
-
-    pub told_all : n ≤ p
-        → (m ≡ after_acts (settings_of s) m₀ (each one n)) × Works s m × (room ≡ answers_in (answers_to (settings_of s) m₀ (each one n)) room₀)
-    told_all l =
-        let all : p ≡ n = omega arith in (
-          passed_all one at.passed l,
-          at.passed.works,
-          at.told ∙ ap (λ (k : ℕ). answers_in (answers_to (settings_of s) m₀ (each one k)) room₀) all,
-        )

@@ -68,6 +68,7 @@ fn turn_each(m: &mut [u8], s: Shape, room: &mut [u8])
 }
 
 // The round: refused where the room has less than four bytes a port.
+#[tactic(auto, using(memory::proofs::Rounds::round_short, memory::proofs::Rounds::round_done))]
 pub fn round(m: &mut [u8], s: Shape, room: &mut [u8]) -> Result<(), Refusal>
     requires { Works s m.old }
     ensures { ◌≡◌ {A = Reply × List ℕ × List ℕ} (plain_reply result, m.new, room.new)
