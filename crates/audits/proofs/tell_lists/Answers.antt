@@ -4,4 +4,4 @@ use Rattle.audits.proofs.tell_lists.Goals as goal
 
 pub loop-l-preserved : goal.loop-l-preserved
 loop-l-preserved c =
-    pass_goes _ _ _ c.loop-l.invariant (rw c.requires.works.laid.lists_are at c.loop-l-test.true) _ c.tell_list.auto.room c.tell_list.ensures
+    pass_goes _ _ _ c.loop-l.invariant (rw c.args.s.laid.lists_are at c.loop-l-test.true) _ c.tell_list.auto.room c.tell_list.ensures

@@ -2,7 +2,7 @@
 use mathlib.Core.Path.{sym, ap, ◌∙◌}
 use Rattle.ledger.specs.Ledger.{Place}
 use Rattle.ledger.specs.Calls.{found}
-use Rattle.layout.specs.Tables.{settings_of}
+use Rattle.layout.specs.Shapes.{settings_of}
 use Rattle.finds.proofs.Laws as laws
 use Rattle.finds.proofs.where_is.Goals as goal
 use Rattle.finds.proofs.where_is.Goals.{After-unwrap-l}
@@ -12,7 +12,7 @@ stands c =
     laws.stands_at _ _ _ c.requires.state (sym c.is_node.ensures ∙ c.if-not-is_node.false) c.unwrap-l.result (sym c.unwrap-l.ensures ∙ c.search.ensures)
 
 pub kind_of-requires : goal.kind_of-requires
-kind_of-requires c = record { laid = c.requires.laid; inside = (stands c).inside }
+kind_of-requires c = record { inside = (stands c).inside }
 
 pub returns : goal.returns
 returns c = ap (λ (v : Place). found v c.unwrap-l.result.1) c.kind_of.ensures ∙ (stands (goal.at.returns c).After-unwrap-l).reply
