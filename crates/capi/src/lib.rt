@@ -30,15 +30,16 @@ use settings::Settings;
 fn asked(eight: &[u32; 8]) -> Settings
     ensures { told_settings result ≡ settings_at eight.now }
 {
+    let [nodes, beat, slots, credit, ports, queues, edition, packets] = *eight;
     Settings {
-        ports: eight[4],
-        queues: eight[5],
-        nodes: eight[0],
-        beat: eight[1],
-        slots: eight[2],
-        credit: eight[3],
-        edition: eight[6],
-        packets: eight[7],
+        ports,
+        queues,
+        nodes,
+        beat,
+        slots,
+        credit,
+        edition,
+        packets,
     }
 }
 
@@ -47,18 +48,18 @@ pub extern "C" fn vr_size(eight: &[u32; 8]) -> u64
     ensures { result ≡ size_for (settings_at eight.now) }
 {
     let s = asked(eight);
-    if !settings::in_rows(s) {
-        return 0;
+    if settings::in_rows(s) {
+        layout::size_of(layout::shape_of(s)) as u64
+    } else {
+        0
     }
-    layout::size_of(layout::shape_of(s)) as u64
 }
 
 #[unsafe(no_mangle)]
 pub extern "C" fn vr_setup(mem: &mut [u8], eight: &[u32; 8]) -> u32
     ensures { ◌≡◌ {A = ℕ × List ℕ} (result, mem.new) (told (M (setup (settings_at eight.now)) mem.old)) }
 {
-    let s = asked(eight);
-    rooms::plain(switch::set_up(mem, s))
+    rooms::plain(switch::set_up(mem, asked(eight)))
 }
 
 #[unsafe(no_mangle)]
@@ -102,8 +103,8 @@ pub extern "C" fn vr_show(
         (M (act (show (ln.length p0.now ∷ ln.length p1.now ∷ ln.length p2.now ∷ ln.length p3.now ∷ []) port queue))
         mem.now).0) }
 {
-    let answer = switch::show_at(mem, p0.len(), p1.len(), p2.len(), p3.len(), port, queue);
-    rooms::put_part(answer, owner, at, length)
+    let sizes = [p0.len(), p1.len(), p2.len(), p3.len()];
+    rooms::put_part(switch::show_at(mem, sizes, port, queue), owner, at, length)
 }
 
 #[unsafe(no_mangle)]
@@ -111,10 +112,7 @@ pub extern "C" fn vr_stitch(mem: &mut [u8], port: u32, room: &mut [u8; 10]) -> u
     ensures { ◌≡◌ {A = ℕ × List ℕ × List ℕ} (result, mem.new, room.new)
         (told_in record_room room.old (M (act (stitch port)) mem.old)) }
 {
-    let out = switch::stitch(mem, port);
-    let answer = out.answer;
-    let bytes = out.record;
-    rooms::put_record(answer, bytes, room)
+    rooms::put_record(switch::stitch(mem, port), room)
 }
 
 #[unsafe(no_mangle)]
@@ -160,10 +158,10 @@ pub extern "C" fn vr_where(mem: &[u8], entry: u32, place: &mut [u8; 8]) -> u32
     ensures { ◌≡◌ {A = ℕ × List ℕ} (result, place.new)
         (shown (place_room entry) place.old (M (act (where_is entry)) mem.now).0) }
 {
-    if 65535 < entry {
+    let Ok(id) = u16::try_from(entry) else {
         return rooms::put_place(switch::where_past(mem), EntryId(0), place);
-    }
-    let x = EntryId(entry as u16);
+    };
+    let x = EntryId(id);
     rooms::put_place(switch::where_is(mem, x), x, place)
 }
 

@@ -3,44 +3,25 @@
 #![tactic(auto)]
 
 ghost use Rattle.std.specs.Prelude.{◌≡◌, List, ℕ};
-ghost use Rattle.ledger.specs.Answers.{number_of};
 ghost use Rattle.memory.specs.Runs.{run_on};
-ghost use Rattle.runs.specs.Runs.{why_of, report_in};
+ghost use Rattle.runs.specs.Runs.{report_in};
 ghost use Rattle.capi_run.specs.Told.{number_in, count_in, why_in, told_run};
 
 use ledger::Refusal;
-use runs::{Outcome, Why};
-
-fn refusal(no: Refusal) -> u32
-    ensures { result ≡ number_of no }
-{
-    no.number() as u32
-}
-
-fn why_number(why: Why) -> u32
-    ensures { result ≡ why_of why }
-{
-    match why {
-        Why::Ended => 0,
-        Why::BadField => 1,
-        Why::NoRoom => 2,
-    }
-}
+use runs::Ran;
 
 // What a run did, in the rooms lent for it; a refusal writes neither.
-fn put(outcome: Outcome, count: &mut u64, why: &mut u32) -> u32
-    ensures { (result ≡ number_in (report_in outcome)) × (count.new ≡ count_in (report_in outcome) count.old)
-        × (why.new ≡ why_in (report_in outcome) why.old) }
+fn put(ran: Result<Ran, Refusal>, count: &mut u64, why: &mut u32) -> u32
+    ensures { (result ≡ number_in (report_in ran)) × (count.new ≡ count_in (report_in ran) count.old)
+        × (why.new ≡ why_in (report_in ran) why.old) }
 {
-    match outcome {
-        Outcome::Did(ran) => {
-            let n = ran.count;
-            let reason = ran.why;
-            *count = n as u64;
-            *why = why_number(reason);
+    match ran {
+        Ok(ran) => {
+            *count = ran.count as u64;
+            *why = ran.why as u32;
             0
         }
-        Outcome::No(no) => refusal(no),
+        Err(no) => u32::from(no),
     }
 }
 

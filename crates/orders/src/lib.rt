@@ -2,17 +2,17 @@
 #![tactic(auto)]
 
 ghost use Rattle.std.specs.Prelude.{◌≡◌, List, ℕ, ◌+◌, ◌≤◌, length};
-ghost use Rattle.numbers.specs.Bytes.{number};
-ghost use Rattle.ledger.specs.Answers.{plain_reply, stitch_reply, entry_reply, turn_reply};
+ghost use Rattle.ledger.specs.Answers.{number_of, plain_reply, stitch_reply, entry_reply, turn_reply};
 ghost use Rattle.memory.specs.Memory.{M};
 ghost use Rattle.fields.specs.Orders.{header_in, call_in};
 ghost use Rattle.orders.specs.Orders.{said_of, carried};
 
 use fields::Order;
-use ledger::{Entry, Plain, Stitched, Turned};
+use ledger::{EntryId, Exit, Refusal, Sent};
 use numbers::Number;
 
 // What a line says after its number.
+// kept: a refusal is its number here, since carried reads it off the reply of M.
 #[derive(Clone, Copy)]
 pub enum Said {
     Done,
@@ -22,52 +22,41 @@ pub enum Said {
     Bad,
 }
 
-fn plain(p: Plain) -> Said
-    ensures { result ≡ said_of (plain_reply p) }
+fn refused(no: Refusal) -> Said
+    ensures { result ≡ Said.No (number_of no) }
 {
-    match p {
-        Plain::Done => Said::Done,
-        Plain::No(r) => Said::No(r.number()),
+    Said::No(no.number())
+}
+
+fn plain(answer: Result<(), Refusal>) -> Said
+    ensures { result ≡ said_of (plain_reply answer) }
+{
+    answer.map_or_else(refused, |()| Said::Done)
+}
+
+fn entry(answer: Result<EntryId, Refusal>) -> Said
+    ensures { result ≡ said_of (entry_reply answer) }
+{
+    answer.map_or_else(refused, |id| Said::Node(id.0))
+}
+
+// A stitch's record begins with the entry id.
+fn stitched(answer: Result<[u8; 10], Refusal>) -> Said
+    ensures { result ≡ said_of (stitch_reply answer) }
+{
+    match answer {
+        Ok(record) => Said::Node(u16::read(&record, 0)),
+        Err(no) => refused(no),
     }
 }
 
-fn entry(e: Entry) -> Said
-    ensures { result ≡ said_of (entry_reply e) }
+fn turned(answer: Result<Option<(Sent, Exit)>, Refusal>) -> Said
+    ensures { result ≡ said_of (turn_reply answer) }
 {
-    match e {
-        Entry::Node(id) => Said::Node(id.0),
-        Entry::No(r) => Said::No(r.number()),
-    }
-}
-
-// The entry id of a stitch's record: its first two bytes.
-fn entry_in(bytes: &[u8; 10]) -> u16
-    ensures { result ≡ number 2 bytes.now 0 }
-{
-    u16::read(bytes, 0)
-}
-
-fn stitched(s: Stitched) -> Said
-    ensures { result ≡ said_of (stitch_reply s.answer s.record) }
-{
-    let p = s.answer;
-    let record = s.record;
-    match p {
-        Plain::Done => Said::Node(entry_in(&record)),
-        Plain::No(r) => Said::No(r.number()),
-    }
-}
-
-fn turned(t: Turned) -> Said
-    ensures { result ≡ said_of (turn_reply t) }
-{
-    match t {
-        Turned::Idle => Said::Idle,
-        Turned::Leaves(k, _) => {
-            let id = k.entry;
-            Said::Node(id.0)
-        }
-        Turned::No(r) => Said::No(r.number()),
+    match answer {
+        Ok(None) => Said::Idle,
+        Ok(Some((k, _))) => Said::Node(k.entry.0),
+        Err(no) => refused(no),
     }
 }
 
@@ -76,11 +65,10 @@ pub fn header(s: &[u8], order: Order) -> &[u8]
     requires { (port h : ℕ) → order ≡ Order.Arrive port h → h + 10 ≤ length s.now }
     ensures { result.now ≡ header_in s.now order }
 {
-    let Order::Arrive { port: _, at } = order else {
-        return &s[..0];
-    };
-    let end = at + 10;
-    &s[at..end]
+    match order {
+        Order::Arrive { at, .. } => &s[at..at + 10],
+        _ => &[],
+    }
 }
 
 // The order's call on the memory m.
@@ -97,7 +85,7 @@ pub fn carry_out(m: &mut [u8], order: Order, header: &[u8]) -> Said
             let told = settings::ten_bytes(nodes, beat, slots, credit);
             plain(switch::set_up(m, told))
         }
-        Order::Arrive { port, at: _ } => entry(switch::arrive(m, port, header)),
+        Order::Arrive { port, .. } => entry(switch::arrive(m, port, header)),
         Order::Stitch { port } => stitched(switch::stitch(m, port)),
         Order::Prefetch { port, queue } => entry(switch::prefetch(m, port, queue)),
         Order::Turn { port } => turned(switch::turn(m, port)),
