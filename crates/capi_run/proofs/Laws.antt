@@ -1,17 +1,12 @@
--- What C is told of a run follows its report; a refused run leaves every room. Assumes nothing.
+-- A refused run leaves every room. Assumes nothing.
 use mathlib.Core.Path.{◌≡◌, ap}
 use mathlib.Core.List.{List}
 use Prim.Native.Nat.{ℕ}
 use native.Mathlib.Omega.{arith}
 use Rattle.layout.specs.Picture.{State}
 use Rattle.memory.specs.Memory.{state_dec}
-use Rattle.memory.specs.Runs.{Report, refused_run, ran, run_tested, run_on}
-use Rattle.capi_run.specs.Told.{number_in, count_in, why_in, told_run}
-
-pub tells_run : (count why : ℕ) {report : Report} {m room : List ℕ} {out : Report × List ℕ × List ℕ} {n count' why' : ℕ} → (report, m, room) ≡ out
-    → n ≡ number_in report → count' ≡ count_in report count → why' ≡ why_in report why
-    → ◌≡◌ {A = ℕ × List ℕ × List ℕ × ℕ × ℕ} (n, m, room, count', why') (told_run count why out)
-tells_run count why e a b c = rw (a, b, c) (ap (told_run count why) e)
+use Rattle.memory.specs.Runs.{refused_run, ran, run_tested, run_on}
+use Rattle.capi_run.specs.Told.{told_run}
 
 -- a run that is refused leaves the memory, the answers, count and why as they were lent
 pub refused_run_keeps : (m fields room : List ℕ) (count why n : ℕ) → (run_on m fields room).0 ≡ refused_run n
