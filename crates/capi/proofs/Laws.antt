@@ -1,9 +1,7 @@
--- The size, and where of a number past every entry id; with no code. Assumes nothing.
+-- Where of a number past every entry id, with no code. Assumes nothing.
 use mathlib.Core.Path.{◌≡◌, refl}
-use mathlib.Core.Bool.{true, false}
 use mathlib.Core.List.{List}
 use Prim.Native.Nat.{ℕ, ◌<◌}
-use Rattle.ledger.specs.Settings.{Settings, in_rows, size}
 use Rattle.ledger.specs.Audit.{place_room}
 use Rattle.ledger.specs.Calls.{refused, where_is}
 use Rattle.ledger.specs.Desk.{act}
@@ -13,9 +11,6 @@ use Rattle.memory.specs.Judged.{judged}
 use Rattle.memory.proofs.Judged.{acted_bad}
 use Rattle.memory.proofs.Demands.{off_state}
 use Rattle.switch.proofs.Laws.{no_node}
-use Rattle.capi.specs.Size.{size_for}
-
--- ---- numbers past every entry id
 
 -- where is refused: 15, but 3 first
 beyond : (m : List ℕ) (y : ℕ) → 65535 < y → (State m → M (act (where_is y)) m ≡ (refused 15, m)) × ((State m → ⊥) → M (act (where_is y)) m ≡ (refused 3, m))
@@ -33,14 +28,3 @@ room_stays m old x y h = go (state_dec m)
     go : Dec (State m) → place_room x (M (act (where_is y)) m).0 old ≡ place_room y (M (act (where_is y)) m).0 old
     go (yes s) = rw ((beyond m y h).0 s)
     go (no n) = rw ((beyond m y h).1 n)
-
--- ---- the size
-
-module _ (S : Settings) where
-  pub size_none : in_rows S ≡ false → 0 ≡ size_for S
-  unfolding size_for
-  size_none e = rw e
-
-  pub size_some : in_rows S ≡ true → size S ≡ size_for S
-  unfolding size_for
-  size_some e = rw e

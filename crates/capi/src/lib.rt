@@ -44,6 +44,7 @@ fn asked(eight: &[u32; 8]) -> Settings
 }
 
 #[unsafe(no_mangle)]
+#[tactic(auto, unfolding(crate::specs::Size::size_for))]
 pub extern "C" fn vr_size(eight: &[u32; 8]) -> u64
     ensures { result ≡ size_for (settings_at eight.now) }
 {
@@ -208,6 +209,7 @@ pub extern "C" fn vr_read_header(
 }
 
 #[unsafe(no_mangle)]
+#[tactic(auto, using(labels::proofs::Laws::writes_room))]
 pub extern "C" fn vr_write_header(
     edition: u32,
     ports: u32,

@@ -29,7 +29,8 @@ use Rattle.halts.specs.Marks.{marks_found}
 use Rattle.halts.proofs.Laws.{marks_mean}
 use Rattle.sound.specs.Sound.{breaks, or_next, marks_broken, nodes_broken, open_broken, broken_in}
 use Rattle.sound.proofs.Means.{shaped}
-use Rattle.findings.specs.Findings.{letter#, Holds, FirstItem, Finds, Means}
+use Rattle.ledger.specs.Letters.{letter#}
+use Rattle.findings.specs.Findings.{Holds, FirstItem, Finds, Means}
 use Rattle.findings.proofs.Items.{setting_first, range_first, list_first, node_first, cell_first, mark_first, first_one, node_one}
 use Rattle.findings.proofs.Shows.{room, item_shows}
 

@@ -23,7 +23,8 @@ use Rattle.ranges.specs.First.{first}
 use Rattle.ranges.proofs.First.{first_all}
 use Rattle.ranges.proofs.FirstItem.{first_wrong, found_or, first_out_lem}
 use Rattle.memory.proofs.Audit.{node_at_lem}
-use Rattle.findings.specs.Findings.{letter#, ledger_of, Holds, FirstItem}
+use Rattle.ledger.specs.Letters.{letter#}
+use Rattle.findings.specs.Findings.{ledger_of, Holds, FirstItem}
 use Rattle.findings.specs.Findings.{SettingRight, RangeRight, ListRight, CellRight, FirstNode, Settled}
 use Rattle.findings.proofs.Items.{All-middle}
 

@@ -9,23 +9,13 @@ use Rattle.ledger.specs.Ledger.{is_node, Packet, Place, prefetched, place_of, bu
 use Rattle.ledger.specs.Halt.{is_mark}
 use Rattle.ledger.specs.Ready.{bit}
 use Rattle.ledger.specs.Sound.{All, Everywhere, weigh, InRange, one, Once, OwnPort, OwnQueue, WellRecorded, owed, Marked}
+use Rattle.ledger.specs.Letters.{letter#}
 use Rattle.ledger.specs.Audit.{node_at}
 use Rattle.layout.specs.declared.Table.TheVariants.{Buckets}
 use Rattle.layout.specs.Tables.{cells, lists, all, put}
 use Rattle.layout.specs.Picture.{settings_in, opens, ledger_in, Hangs, State}
 
 -- ---- the rules, by their letters
-
--- (h) comes with a later request, and keeps its number
-abbrev pub letter# : Rule → ℕ
-letter# A = 1
-letter# B = 2
-letter# C = 3
-letter# D = 4
-letter# E = 5
-letter# F = 6
-letter# G = 7
-letter# I = 9
 
 -- the ledger that a memory shows by its own settings
 abbrev pub ledger_of : List ℕ → Ledger

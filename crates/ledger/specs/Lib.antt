@@ -8,6 +8,7 @@ pub mod Halt
 pub mod Calls
 pub mod Desk
 pub mod Sound
+pub mod Letters
 pub mod Demand
 pub mod Rounds
 pub mod Door

@@ -3,8 +3,7 @@
 use Rattle.std.specs.Prelude.{List, [], ◌∷◌, ℕ, ◌/◌, ◌%◌, ◌^◌, set, Option, None, Some}
 use Rattle.ledger.specs.Ledger.{owner, Packet}
 use Rattle.ledger.specs.declared.Broken.{Broken}
-use Rattle.ledger.specs.declared.Rule.{Rule}
-use Rattle.ledger.specs.declared.Rule.TheVariants.{A, B, C, D, E, F, G, I}
+use Rattle.ledger.specs.Letters.{letter#}
 use Rattle.ledger.specs.Calls.{Side, inside, outside, Reply, entry, stitched, idle, leaves, word, reported, counted}
 use Rattle.ledger.specs.Answers.{number_in}
 use Rattle.ledger.specs.Packets.{slot_at, part_or}
@@ -85,19 +84,9 @@ bucket_room _ old = old
 
 -- ---- find: the rule's number, 1 for (a) and so on, and the item; 0 and 0 where no rule is broken
 
-abbrev pub number_of_rule : Rule → ℕ
-number_of_rule A = 1
-number_of_rule B = 2
-number_of_rule C = 3
-number_of_rule D = 4
-number_of_rule E = 5
-number_of_rule F = 6
-number_of_rule G = 7
-number_of_rule I = 9
-
 abbrev pub rule_number : Option Broken → ℕ
 rule_number None = 0
-rule_number (Some b) = number_of_rule b.rule
+rule_number (Some b) = letter# b.rule
 
 abbrev pub item_number : Option Broken → ℕ
 item_number None = 0

@@ -1,22 +1,14 @@
 -- `capi::vr_where` meets its contract: a number past every entry id is refused, and the room stays. Assumes nothing.
-use mathlib.Core.Path.{sym, ap, ◌∙◌}
-use Rattle.ledger.specs.Audit.{place_room}
-use Rattle.ledger.specs.Calls.{Reply}
-use Rattle.rooms.proofs.Laws.{shows}
+use mathlib.Core.Path.{◌∙◌}
+use Prim.Native.Nat.{◌<◌}
+use native.Mathlib.Omega.{arith}
 use Rattle.capi.proofs.Laws.{room_stays}
 use Rattle.capi.proofs.vr_where.Goals as goal
 
-pub returns-then-entry-gt65535 : goal.returns-then-entry-gt65535
-returns-then-entry-gt65535 c =
+pub returns-in_default : goal.returns-in_default
+returns-in_default c =
     let a = c.args in
-    let w = c.put_place.ensures in
-    let told = c.where_past.ensures a.entry c.if-entry-gt65535.true in
-    let stays = ap (λ (x : Reply). place_room 0 x a.place.now) told ∙ room_stays a.mem.now a.place.now 0 a.entry c.if-entry-gt65535.true
-    ∙ sym (ap (λ (x : Reply). place_room a.entry x a.place.now) told) in
-    shows (place_room a.entry) _ _ _ _ _ told w.0 (w.1 ∙ stays)
-
-pub returns : goal.returns
-returns c =
-    let a = c.args in
-    let w = c.put_place-2.ensures in
-    shows (place_room a.entry) _ _ _ _ _ c.where_is.ensures w.0 w.1
+    let past : 65535 < a.entry = omega (arith, c.in_default.ensures) in
+    let told = c.where_past.ensures a.entry past in
+    let w = rw told at c.put_place.ensures in
+    rw (w.0, w.1 ∙ room_stays a.mem.now a.place.now 0 a.entry past)

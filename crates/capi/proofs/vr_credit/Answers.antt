@@ -1,6 +1,0 @@
--- `capi::vr_credit` meets its contract: the answer follows the reply of the call. Assumes nothing.
-use Rattle.rooms.proofs.Laws.{tells}
-use Rattle.capi.proofs.vr_credit.Goals as goal
-
-pub returns : goal.returns
-returns c = tells _ _ _ _ c.credit.ensures c.plain.ensures
