@@ -7,8 +7,8 @@ ghost use Rattle.ledger.specs.Header.{price as priceOf};
 ghost use Rattle.layout.specs.Tables.{lists};
 ghost use Rattle.layout.specs.Shapes.{settings_of};
 ghost use Rattle.layout.specs.Picture.{packet_at};
-ghost use Rattle.fits.specs.Fits.{spared, queue_at, range_test, fields_test, proper_test, rule_test, list_found, fits_from};
-ghost use Rattle.fits.specs.Walk.{NodeOf, RecordOf, NoteOf, Spoken, Walkable, ListOf};
+ghost use Rattle.fits.specs.Fits.{spared, queue_at, range_test, fields_test, rule_test, list_found, fits_from};
+ghost use Rattle.fits.specs.Walk.{RecordOf, NoteOf, Spoken, Walkable, ListOf};
 
 use layout::{Shape, Table};
 use ledger::EntryId;
@@ -63,7 +63,7 @@ impl Note {
     // (f), of what can be out of range in the bytes that hold it.
     #[tactic(auto, unfolding(crate::specs::Fits::range_test))]
     fn in_range(self, s: Shape) -> bool
-            ensures { result ≡ range_test (settings_of s) self.len self.queue self.dest self.poisoned }
+        ensures { result ≡ range_test (settings_of s) self.len self.queue self.dest self.poisoned }
     {
         s.least <= usize::from(self.len)
             && self.len < 8192
@@ -90,7 +90,7 @@ impl Note {
     // (f): every field is in range, and the price is that of the queue and the length.
     #[tactic(auto, using(crate::proofs::Walk::range_len), unfolding(crate::specs::Fits::fields_test))]
     pub fn proper(self, s: Shape) -> bool
-            ensures { result ≡ fields_test (settings_of s) self.len self.queue self.dest self.poisoned self.price }
+        ensures { result ≡ fields_test (settings_of s) self.len self.queue self.dest self.poisoned self.price }
     {
         self.in_range(s) && self.fair(s.beat)
     }

@@ -9,7 +9,7 @@ ghost use Rattle.ledger.specs.Header.{form, least_length};
 ghost use Rattle.ledger.specs.Sound.{Roomy};
 ghost use Rattle.settings.specs.Told.{told_settings};
 ghost use Rattle.layout.specs.Tables.{start_of, get, put};
-ghost use Rattle.layout.specs.Shapes.{settings_of, Laid};
+ghost use Rattle.layout.specs.Shapes.{settings_of};
 ghost use Rattle.layout.specs.Access.{Reads};
 
 use numbers::Number;

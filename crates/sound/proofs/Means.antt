@@ -1,5 +1,5 @@
 -- Every rule finds nothing exactly where the memory is a switch state, and the test says so. Assumes nothing.
-use mathlib.Core.Path.{◌≡◌, refl, ap, subst, ◌∙◌}
+use mathlib.Core.Path.{◌≡◌, refl, ap, subst}
 use mathlib.Core.List.{List}
 use Prim.Native.Nat.{ℕ}
 use native.Mathlib.Omega.{arith}
@@ -19,7 +19,7 @@ use Rattle.memory.specs.Ends.{Tidy}
 use Rattle.memory.specs.Memory.{state_dec}
 use Rattle.memory.specs.Judged.{Works}
 use Rattle.memory.proofs.Chains.{length_tabulate, length_lists, state_tidy}
-use Rattle.ranges.specs.Opening.{shape_for, opened, Open}
+use Rattle.ranges.specs.Opening.{opened, Open}
 use Rattle.ranges.specs.Ranges.{ranges_found}
 use Rattle.ranges.proofs.Opening.{shape_same, opened_is, opened_fine}
 use Rattle.ranges.proofs.Items.{ranges_means}

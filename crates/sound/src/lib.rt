@@ -8,8 +8,6 @@ ghost use Rattle.memory.specs.Judged.{Works};
 ghost use Rattle.ranges.specs.Opening.{Open};
 ghost use Rattle.once.specs.Once.{once_found};
 ghost use Rattle.once.specs.Walks.{Blank};
-ghost use Rattle.ranges.specs.First.{first};
-ghost use Rattle.ranges.specs.Ranges.{low, fits_at};
 ghost use Rattle.whole.specs.Whole.{Says, Tells};
 ghost use Rattle.sound.specs.Sound.{breaks, Clean, Tied, StuckAt, nodes_broken, open_broken, broken_in, tested_in};
 

@@ -2,7 +2,6 @@
 // right.
 #![tactic(auto)]
 
-ghost use Rattle.std.specs.Prelude.{length};
 ghost use Rattle.ledger.specs.Buckets.{untimed};
 ghost use Rattle.ledger.specs.Calls.{prefetch, credit, turn};
 ghost use Rattle.asks.specs.Asks.{task_act};

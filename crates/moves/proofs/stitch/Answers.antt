@@ -36,7 +36,8 @@ abbrev packet : Start → Packet
 packet st = packet_at (S st) (m st) (oldest st)
 
 -- the judge let it go
-went : (c : In_ok-judge_stitch) → good ≡ judged (S (goal.at.In_ok-judge_stitch c).Start) (ledger_in (S (goal.at.In_ok-judge_stitch c).Start) (m (goal.at.In_ok-judge_stitch c).Start)) (stitch c.args.port)
+went : (c : In_ok-judge_stitch) → let k = (goal.at.In_ok-judge_stitch c).Start in
+    good ≡ judged (S k) (ledger_in (S k) (m k)) (stitch c.args.port)
 went c = c.in_ok-judge_stitch.ensures
 
 -- so what is first in the list is a packet that can be stitched
@@ -99,7 +100,8 @@ can c =
     }
 
 -- the list's number, by the port and the queue as the map and the packet have them
-at_is : (c : After-egress_list-at) → c.egress_list-at.result ≡ place# (S (goal.at.After-egress_list-at c).Start) (egress c.mapped-to.result c.packet-k.result.queue)
+at_is : (c : After-egress_list-at) →
+    c.egress_list-at.result ≡ place# (S (goal.at.After-egress_list-at c).Start) (egress c.mapped-to.result c.packet-k.result.queue)
 at_is c = rw (c.from-2.ensures, c.from-3.ensures) at c.egress_list-at.ensures
 
 pub pop-x-requires : goal.pop-x-requires

@@ -19,7 +19,8 @@ found : (c : After-find)
     (λ i. (0 ≤ i) × (i < c.args.s.all) × (mark i ≡ 0) × ((k : ℕ) → 0 ≤ k → k < i → 1 ≤ mark k))
 found c =
     let mark = mark_at c.args.marks.now in
-    first_from_Range _ _ _ c.find.result (λ k. mark k ≡ 0) (λ k. 1 ≤ mark k) c.find.ensures.ran (λ k q h. search (rules, tests)) (λ k q h. search (rules, tests))
+    first_from_Range _ _ _ c.find.result (λ k. mark k ≡ 0) (λ k. 1 ≤ mark k) c.find.ensures.ran
+    (λ k q h. search (rules, tests)) (λ k q h. search (rules, tests))
 
 pub returns-in_err-i : goal.returns-in_err-i
 returns-in_err-i c =

@@ -17,7 +17,8 @@ returns c =
     let a = c.args in
     elim c.if-is_ok.branch [
       | then-is_ok w ↦
-          rw w.words-is (done_renewed a.s a.m.now c.requires.works (credit a.port a.queue a.amount) _ c.credit-answer.ensures c.of_plain.ensures w.renew.ensures)
+          rw w.words-is (done_renewed a.s a.m.now c.requires.works (credit a.port a.queue a.amount) _
+          c.credit-answer.ensures c.of_plain.ensures w.renew.ensures)
       | else-is_ok w ↦
           rw w.words-is (done_not a.s a.m.now a.words.now c.requires (λ u. calls.done) (credit a.port a.queue a.amount) c.credit-answer.result
           (sym c.is_ok.ensures.value ∙ w.if-is_ok.false) c.credit-answer.ensures c.of_plain.ensures)
