@@ -8,6 +8,8 @@ ghost use Rattle.ledger.specs.Rounds.{answer_bytes};
 
 use ledger::{EntryId, Exit, Refusal, Sent};
 
+// kept: functions and no From: neither a Result nor four bytes are this crate's.
+
 pub fn of_refusal(no: Refusal) -> [u8; 4]
     ensures { result ≡ answer_bytes (refused (number_of no)) }
 {

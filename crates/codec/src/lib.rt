@@ -51,6 +51,7 @@ impl From<HeaderFields> for Label {
 }
 
 // Whether an edition has switches of so many ports and queues.
+// kept: edition, ports and queues stay three numbers, as the C interface hands them and `counts_in` judges them.
 #[tactic(auto, unfolding(crate::specs::Label::counts_in))]
 fn counts_in(edition: u32, ports: u32, queues: u32) -> bool
     ensures { result ≡ counts_in edition ports queues }

@@ -54,6 +54,7 @@ pub fn bucket_of(s: Shape, p: usize, b: usize) -> usize
 }
 
 // ---- lists: port by port, free, ingress, the egress lists, the prefetch lists
+// kept: a function for each kind over one (`number`), since its clause names the kind of list.
 
 // The number of port p's list in column c.
 fn number(s: Shape, p: usize, c: usize) -> usize

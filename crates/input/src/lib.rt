@@ -82,6 +82,7 @@ impl<R: Read> Input<R> {
             return;
         }
         self.move_to_front();
+        // kept: no index is counted: it ends when enough is read, or nothing comes.
         while !self.ended && self.to < LONGEST {
             self.ended = self.read() == 0;
         }

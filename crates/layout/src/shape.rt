@@ -3,6 +3,8 @@ ghost use Rattle.layout.specs.Held.{settings_by, Lays};
 
 // The settings, and what follows from them: how many lists a port has, how many credit cells, lists and nodes there are, where three tables
 // start, the least length of a packet, and how many destinations a header can name.
+// kept: no struct of a memory and its shape: calls lend the memory by & or by &mut, so it would be two, and one that holds a &mut must keep
+// its ghost field at each write, where an act breaks what `Works` says (docs/DECISIONS.md, 137).
 #[derive(Clone, Copy)]
 pub struct Shape {
     pub ports: usize,

@@ -13,6 +13,8 @@ ghost use Rattle.parts.specs.Parts.{InCell, InCredits, InPorts, InMap, InBuckets
 
 use layout::{Shape, Table};
 
+// kept: a function for each column, since its clause names the ledger's column; one over the table would say the memory's (`layout::get`).
+
 // ---- credits
 
 #[tactic(auto, using(crate::proofs::Laws::cell_in, crate::proofs::Laws::credit_is, ledger::proofs::Places::credit_none))]

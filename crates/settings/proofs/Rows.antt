@@ -16,7 +16,7 @@ module _ (S : Settings) where
 
   pub one_found : (r : Option ℕ)
       → MatchOption r ((k : ℕ) → 0 ≤ k → k < setting_count → in_row S k ≡ true)
-          (λ i. (0 ≤ i) × (i < setting_count) × (in_row S i ≡ false) × ((k : ℕ) → 0 ≤ k → k < i → in_row S k ≡ true))
+      (λ i. (0 ≤ i) × (i < setting_count) × (in_row S i ≡ false) × ((k : ℕ) → 0 ≤ k → k < i → in_row S k ≡ true))
       → r ≡ one_out S
   one_found None h =
       let all = left_none S setting_count (left_to setting_count (omega arith) (λ k l. h k (omega arith) l)) (omega arith) in

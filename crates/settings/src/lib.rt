@@ -6,6 +6,7 @@ ghost use Rattle.ledger.specs.Settings.{settings, is_beat, ports_in, queues_in, 
 ghost use Rattle.settings.specs.Told.{told_settings, one_out};
 
 // In their rows or not.
+// kept: numbers, edition and packets too, since setup is told any numbers and refuses those out of their rows (`in_rows`).
 #[derive(Clone, Copy)]
 pub struct Settings {
     pub ports: u32,
@@ -43,6 +44,7 @@ fn is_beat(b: u32) -> bool
 }
 
 // Whether an edition has switches of so many ports.
+// kept: two functions, since the rows of the papers' table are two definitions (`ports_in`, `queues_in`).
 #[tactic(auto, unfolding(ledger::specs::Settings::ports_in))]
 pub fn ports_in(edition: u32, ports: u32) -> bool
     ensures { result ≡ ports_in edition ports }

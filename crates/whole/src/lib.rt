@@ -21,6 +21,7 @@ pub enum Fault {
 
 // Walks list l, a port's column, from its head to its count, and answers whether each node passed and the last is the tail. The node after x
 // is read before anything of x is written: a processor then fetches it while it tests x.
+// kept: marks and sums stay two slices: a struct of two &mut would be taken apart at each node, which lends one of them on.
 fn list_passes(
     m: &[u8],
     s: Shape,
