@@ -167,7 +167,7 @@ module _ (S : Settings) (m : List ℕ) (x : ℕ) where
     unfolding acted
     stands_at (l, i) e =
         let p : ◌≡◌ {A = ℕ × ℕ} (l, i)
-            (which x (ledger_in S m).lists, position x (get_or (ledger_in S m).lists (which x (ledger_in S m).lists) [])) = cc finds in
+        (which x (ledger_in S m).lists, position x (get_or (ledger_in S m).lists (which x (ledger_in S m).lists) [])) = cc finds in
         let dl : l ≡ which x (ledger_in S m).lists = ap (λ (a : ℕ × ℕ). a.0) p in
         let di : i ≡ position x (get_or (ledger_in S m).lists (which x (ledger_in S m).lists) []) = ap (λ (a : ℕ × ℕ). a.1) p in
         record { inside = rw dl which_in; reply = rw (node, dl, di) }

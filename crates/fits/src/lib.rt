@@ -109,8 +109,7 @@ impl NodeRule {
     }
 
     // The rule's test of one node in a list that it speaks of.
-    #[tactic(auto, using(memory::proofs::Chains::slot_lt, crate::proofs::Walk::note_tests),
-        unfolding(crate::specs::Fits::rule_test, layout::specs::Picture::packet_at))]
+    #[tactic(auto, using(memory::proofs::Chains::slot_lt, crate::proofs::Walk::note_tests), unfolding(crate::specs::Fits::rule_test, layout::specs::Picture::packet_at))]
     fn holds(self, m: &[u8], s: Shape, port: usize, column: usize, x: EntryId) -> bool
         requires { Spoken self column s x.0 m.now }
         ensures { result ≡ rule_test self (settings_of s) port column (packet_at (settings_of s) m.now x.0) }

@@ -118,7 +118,7 @@ module _ (ok : ℕ → Bool) (n : ℕ) where
 -- a search of the numbers from a on finds what one of all finds, where those before a pass
 pub find_first : (ok : ℕ → Bool) (a n : ℕ) (r : Option ℕ) → first ok a ≡ None
     → MatchOption r ((k : ℕ) → a ≤ k → k < n → ok k ≡ true)
-        (λ x. (a ≤ x) × (x < n) × (ok x ≡ false) × ((k : ℕ) → a ≤ k → k < x → ok k ≡ true))
+    (λ x. (a ≤ x) × (x < n) × (ok x ≡ false) × ((k : ℕ) → a ≤ k → k < x → ok k ≡ true))
     → r ≡ first ok n
 find_first ok a n r e = go r
   where

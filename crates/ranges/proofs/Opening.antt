@@ -54,7 +54,7 @@ shape_is s =
       dests = l.dests_are i;
       laid = is_prop→PathP
           (λ j. Lays (settings_of s) (l.row_is j) (l.cells_are j) (l.lists_are j) (l.all_are j)
-              (l.arrival_at j) (l.head_at j) (l.next_at j) (l.least_is j) (l.dests_are j))
+          (l.arrival_at j) (l.head_at j) (l.next_at j) (l.least_is j) (l.dests_are j))
           (λ j. lays_prop) l (shape_for (settings_of s) l.roomy).laid i;
     }
 
