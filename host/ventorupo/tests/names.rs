@@ -64,9 +64,8 @@ fn in_capitals(name: &str) -> String {
 
 #[test]
 fn the_ledger_has_the_same_names() {
-    let (_, function) = LEDGER.split_once("pub fn number(self)").unwrap();
-    let arms = between(function, "match self {", "}");
-    assert_eq!(listed(arms, "Refusal::", " => "), wrapped(name));
+    let variants = between(LEDGER, "pub enum Refusal {", "}");
+    assert_eq!(listed(variants, "", " = "), wrapped(name));
 }
 
 #[test]
