@@ -168,7 +168,7 @@ enum vr_answer {
 /* What the archive needs from its surroundings. libventorupo.a has code and constants alone, no variables. It allocates nothing, asks the
  * system for nothing and calls nothing from outside but
  *
- *     memcpy memmove memset
+ *     memcpy memset
  *
  * So calls on memories that have nothing in common may run at once.
  *
@@ -176,7 +176,7 @@ enum vr_answer {
  * on aarch64 both were less): the test for a state keeps a bit for each of up to 65,536 nodes there, and a sum for each port and queue but
  * 0.
  *
- * On a board without a C library: link libventorupo.a with a memset, a memcpy and a memmove of your own, behind the objects that use it, with
+ * On a board without a C library: link libventorupo.a with a memset and a memcpy of your own, behind the objects that use it, with
  * -nostdlib; examples/board is such a program. The code uses vector registers (SSE2 on x86-64, NEON on aarch64) and loads and stores that
  * are not aligned: the startup code switches the former on and allows the latter, and an interrupt handler that calls it saves the vector
  * registers. */

@@ -1,7 +1,7 @@
 /* A board without an operating system and without a C library:
  *
  *     main.c   what the board does with the switch: nothing here but ventorupo.h, which itself needs <stddef.h> and <stdint.h> alone
- *     mem.c    memset, memcpy and memmove, all that libventorupo.a calls from outside
+ *     mem.c    memset and memcpy, all that libventorupo.a calls from outside
  *     board.h  what main.c and start.c ask of each other
  *     start.c  the board: a stack, the way in, a line for text. This one stands on Linux by bare system calls, so that it can be tried:
  *

@@ -91,8 +91,8 @@ fn judge_kind(s: Shape, load: Load) -> Result<(), Refusal>
     ensures { (b : List ℕ) → judgement_of result ≡ judged_kind (settings_of s) (load_of load b) }
 {
     match load {
-        Load::Header if packets::keeps(s) => Err(Refusal::OtherKind),
-        Load::Packet(_) if !packets::keeps(s) => Err(Refusal::OtherKind),
+        Load::Header if packets::keeps(s.packets) => Err(Refusal::OtherKind),
+        Load::Packet(_) if !packets::keeps(s.packets) => Err(Refusal::OtherKind),
         Load::Packet(n) if packets::other_size(s, n) => Err(Refusal::PacketMemory),
         _ => Ok(()),
     }

@@ -61,7 +61,7 @@ pub fn where_is(m: &[u8], s: Shape, id: EntryId) -> Result<(ListKind, u16), Refu
     requires { Works s m.now }
     ensures { where_reply result ≡ (acted (settings_of s) m.now (where_is id.0)).0 }
 {
-    if !geometry::is_node(s, id) {
+    if !geometry::is_node(s.ports, s.nodes, id) {
         return Err(Refusal::NoSuchId);
     }
     // in a switch state each node stands somewhere

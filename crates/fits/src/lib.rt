@@ -3,6 +3,7 @@
 #![tactic(auto)]
 
 ghost use Rattle.std.specs.Prelude.{◌≡◌, ◌-◌, ◌^◌, ◌≤◌, ◌<◌, eqb};
+ghost use Rattle.ledger.specs.Settings.{Settings};
 ghost use Rattle.ledger.specs.Header.{price as priceOf};
 ghost use Rattle.layout.specs.Tables.{lists};
 ghost use Rattle.layout.specs.Shapes.{settings_of};
@@ -23,17 +24,17 @@ pub enum NodeRule {
 }
 
 // (e): a node in an egress or a prefetch list has the list's queue.
-pub fn own_queue(s: Shape, column: usize, queue: u8) -> bool
+pub fn own_queue(queues: usize, column: usize, queue: usize) -> bool
     requires { 2 ≤ column }
-    ensures { result ≡ eqb queue (queue_at (settings_of s) column) }
+    ensures { (S : Settings) → S.queues ≡ queues → result ≡ eqb queue (queue_at S column) }
 {
     let place = column - 2;
-    let own = if place < s.queues {
+    let own = if place < queues {
         place
     } else {
-        place - s.queues
+        place - queues
     };
-    usize::from(queue) == own
+    queue == own
 }
 
 // What the memory has of a node's record, by its element, of the fields that can be out of range.
@@ -118,7 +119,7 @@ impl NodeRule {
             NodeRule::OwnPort => usize::from(x.port()) == port,
             NodeRule::OwnQueue => {
                 let queue = layout::get::<u8>(m, s, Table::Queue, geometry::slot_of(s, x));
-                own_queue(s, column, queue)
+                own_queue(s.queues, column, usize::from(queue))
             }
             NodeRule::Record => Note::read(m, s, geometry::slot_of(s, x)).proper(s),
         }

@@ -2,7 +2,7 @@
 #![tactic(auto)]
 
 ghost use Rattle.std.specs.Prelude.{◌≡◌, ◌+◌, ◌-◌, ◌*◌};
-ghost use Rattle.ledger.specs.Settings.{row};
+ghost use Rattle.ledger.specs.Settings.{Settings, row};
 ghost use Rattle.ledger.specs.Ledger.{is_node, free, ingress, egress, prefetched, place#, place_of, cell};
 ghost use Rattle.ledger.specs.Buckets.{bucket#};
 ghost use Rattle.ledger.specs.Answers.{kind_of};
@@ -15,12 +15,12 @@ use ledger::{EntryId, ListKind};
 
 // ---- nodes
 
-// Whether an id is a node's.
+// Whether an id is a node's, where there are so many ports and so many nodes a port. Any two numbers may be asked, not a shape's alone.
 #[tactic(auto, unfolding(ledger::specs::Ledger::is_node))]
-pub fn is_node(s: Shape, x: EntryId) -> bool
-    ensures { result ≡ is_node (settings_of s) x.0 }
+pub fn is_node(ports: usize, nodes: usize, x: EntryId) -> bool
+    ensures { (S : Settings) → S.ports ≡ ports → S.nodes ≡ nodes → result ≡ is_node S x.0 }
 {
-    usize::from(x.port()) < s.ports && usize::from(x.index()) < s.nodes
+    usize::from(x.port()) < ports && usize::from(x.index()) < nodes
 }
 
 // The element of a node in the tables of nodes.

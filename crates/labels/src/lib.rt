@@ -2,7 +2,7 @@
 // of a header with their count.
 #![tactic(auto)]
 
-ghost use Rattle.std.specs.Prelude.{◌≡◌, List, ℕ};
+ghost use Rattle.std.specs.Prelude.{◌≡◌, List, ℕ, ◌++◌, ◌≤◌, length, drop};
 ghost use Rattle.codec.specs.Label.{label_in};
 ghost use Rattle.codec.specs.Reader.{read_of};
 ghost use Rattle.labels.specs.Labels.{label_at, label_numbers, label_room, written_room};
@@ -54,14 +54,23 @@ pub fn put_label(read: Result<Label, Refusal>, room: &mut [u32; 8]) -> u32
     }
 }
 
+// Bytes over as many of the room's. A loop: std's copy would have the archive call memmove.
+fn copy(bytes: &[u8], room: &mut [u8])
+    requires { length bytes.now ≤ length room.old }
+    ensures { room.new ≡ bytes.now ++ drop (length bytes.now) room.old }
+{
+    for (i, b) in bytes.iter().enumerate() {
+        room[i] = *b;
+    }
+}
+
 // The header's bytes alone are written: the rest of the room stays.
 pub fn put_header(written: Result<Written, Refusal>, room: &mut [u8; 12], size: &mut u32) -> u32
     ensures { ◌≡◌ {A = ℕ × List ℕ × ℕ} (result, room.new, size.new) (written_room written room.old size.old) }
 {
     match written {
         Ok(w) => {
-            let n = w.size as usize;
-            room[..n].copy_from_slice(&w.bytes[..n]);
+            copy(&w.bytes[..w.size as usize], room);
             *size = w.size;
             0
         }

@@ -23,7 +23,7 @@ fn port_fits(port: usize, column: usize, x: EntryId) -> bool
 fn queue_fits(s: Shape, column: usize, queue: u8) -> bool
     ensures { result ≡ (ltb column 2 || eqb queue (queue_at (settings_of s) column)) }
 {
-    column < 2 || fits::own_queue(s, column, queue)
+    column < 2 || fits::own_queue(s.queues, column, usize::from(queue))
 }
 
 // (e) and (f) of a node that is not free, whose record is read once; its price is added.

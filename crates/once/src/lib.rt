@@ -46,7 +46,7 @@ fn meet(s: Shape, x: EntryId, marks: &mut [u8]) -> bool
     requires { Marks s marks.old }
     ensures { Met s (marks_in (settings_of s) marks.old) x.0 (marks_in (settings_of s) marks.new) result }
 {
-    geometry::is_node(s, x) && fresh(geometry::slot_of(s, x), marks)
+    geometry::is_node(s.ports, s.nodes, x) && fresh(geometry::slot_of(s, x), marks)
 }
 
 // Walks list l from its head to its count, and answers whether each node was new and the last is the tail.

@@ -2,8 +2,8 @@
 // the part of a port's memory that has it is handed back. And whether a switch keeps packets, in memories of which size.
 #![tactic(auto)]
 
-ghost use Rattle.std.specs.Prelude.{◌≡◌, List, ℕ, ◌+◌, ◌++◌, ◌≤◌, drop, length};
-ghost use Rattle.ledger.specs.Settings.{slot_bytes, keeps_packets};
+ghost use Rattle.std.specs.Prelude.{◌≡◌, List, ℕ, ◌+◌, ◌++◌, ◌≤◌, drop, eqb, length, not};
+ghost use Rattle.ledger.specs.Settings.{slot_bytes};
 ghost use Rattle.ledger.specs.Calls.{other_size};
 ghost use Rattle.ledger.specs.Packets.{slot_at, stored};
 ghost use Rattle.layout.specs.Shapes.{settings_of};
@@ -15,11 +15,11 @@ use ledger::EntryId;
 // The bytes of a slot.
 const SLOT: usize = 8192;
 
-// Whether a switch keeps packets.
-pub fn keeps(s: Shape) -> bool
-    ensures { result ≡ keeps_packets (settings_of s) }
+// Whether a switch with this last setting keeps packets (`keeps_packets`). Any number may be asked, not a shape's alone.
+pub fn keeps(packets: usize) -> bool
+    ensures { result ≡ not (eqb packets 0) }
 {
-    s.packets != 0
+    packets != 0
 }
 
 // Whether a memory of n bytes has another size than a port's packet memory.
@@ -37,12 +37,14 @@ pub fn slot_of(id: EntryId) -> usize
     usize::from(id.index()) * SLOT
 }
 
-// The copier: a packet to the front of a slot, whose rest stays.
+// The copier: a packet to the front of a slot, whose rest stays. A loop: std's copy would have the archive call memmove.
 fn copy(slot: &mut [u8], packet: &[u8])
     requires { length packet.now ≤ length slot.old }
     ensures { slot.new ≡ packet.now ++ drop (length packet.now) slot.old }
 {
-    slot[..packet.len()].copy_from_slice(packet);
+    for (i, b) in packet.iter().enumerate() {
+        slot[i] = *b;
+    }
 }
 
 // A packet stored in its node's slot: the slot's part of the memory is lent on to the copier.

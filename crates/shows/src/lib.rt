@@ -33,7 +33,7 @@ pub fn judge_show(
     requires { Works s m.now }
     ensures { judgement_of result ≡ judged (settings_of s) (ledger_in (settings_of s) m.now) (show sizes port queue) }
 {
-    if !packets::keeps(s) {
+    if !packets::keeps(s.packets) {
         return Err(Refusal::OtherKind);
     }
     if other_sizes(s, sizes) {

@@ -41,7 +41,7 @@ fn list_passes(
     let mut last = tail;
     for _ in 0..count {
         let id = EntryId(x);
-        if !geometry::is_node(s, id) {
+        if !geometry::is_node(s.ports, s.nodes, id) {
             return false;
         }
         let at = geometry::slot_of(s, id);

@@ -32,7 +32,7 @@ told c =
     rw (← p.port_is, ← p.column_is) (sym c.node_passes.ensures.answer)
 
 node : (c : Else-not-is_node) → is_node (settings_of c.args.s) c.loop.x ≡ true
-node c = sym c.is_node.ensures ∙ c.if-not-is_node.false
+node c = sym (c.is_node.ensures (settings_of c.args.s) refl refl) ∙ c.if-not-is_node.false
 
 pub loop-init : goal.loop-init
 loop-init c =
@@ -44,7 +44,7 @@ loop-init c =
 pub returns-then-not-is_node : goal.returns-then-not-is_node
 unfolding is_new
 returns-then-not-is_node c =
-    let none = sym c.is_node.ensures ∙ c.if-not-is_node.true in
+    let none = sym (c.is_node.ensures (settings_of c.args.s) refl refl) ∙ c.if-not-is_node.true in
     not_passed (pass_not c.loop.invariant.1 (omega arith) (rw none))
 
 pub get-next-requires : goal.get-next-requires
