@@ -1,7 +1,7 @@
 // A writer by way of a buffer.
 #![tactic(auto)]
 
-ghost use Rattle.std.specs.Prelude.{◌≡◌, [], ◌∷◌, ◌≤◌, OnOk};
+ghost use Rattle.std.specs.Prelude.{◌≡◌, cond, [], ◌∷◌, ◌≤◌, ◌<◌, nat_lt, length, OnOk, OnErr};
 ghost use Rattle.std.specs.Io.KnownBytes.{Appends};
 ghost use Rattle.output.specs.Buffer.{decimal, queued};
 
@@ -33,22 +33,32 @@ impl<W: Write> Output<W> {
         }
     }
 
-    // Writes what waits. The callers here go on after a write that fails: no answer depends on it.
+    // Writes what waits; after a write that fails it waits on. The callers here go on then: no answer depends on it.
     pub fn flush(&mut self) -> io::Result<()>
         ensures writes { OnOk result (Appends (W.contents self.old.writer) (W.contents self.new.writer) (waiting_bytes self.old)) }
-        ensures none { waiting_bytes self.new ≡ [] }
+        ensures none { OnOk result (waiting_bytes self.new ≡ []) }
+        ensures kept { OnErr result (waiting_bytes self.new ≡ waiting_bytes self.old) }
     {
-        let waiting = self.waiting;
+        self.writer.write_all(&self.bytes[..self.waiting])?;
         self.waiting = 0;
-        self.writer.write_all(&self.bytes[..waiting])
+        Ok(())
+    }
+
+    // Room for a byte more: a full buffer is written, and is empty then, whatever came of it.
+    fn make_room(&mut self)
+        ensures room { self.new.waiting < 4096 }
+        ensures waits { waiting_bytes self.new ≡ cond (nat_lt (length (waiting_bytes self.old)) 4096) (waiting_bytes self.old) [] }
+    {
+        if self.waiting == 4096 {
+            let _ = self.flush();
+            self.waiting = 0;
+        }
     }
 
     pub fn byte(&mut self, b: u8)
         ensures { waiting_bytes self.new ≡ queued (waiting_bytes self.old) (b ∷ []) }
     {
-        if self.waiting == 4096 {
-            let _ = self.flush();
-        }
+        self.make_room();
         self.bytes[self.waiting] = b;
         self.waiting += 1;
     }
