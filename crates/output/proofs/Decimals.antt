@@ -1,5 +1,5 @@
 -- A number's decimal is the fewest digits that hold it; with no code. Assumes nothing.
-use Rattle.std.proofs.Common.{◌≡◌, sym, ap, ℕ, zero, suc, ◌+◌, ◌-◌, ◌*◌, ◌/◌, ◌%◌, ◌^◌, ◌≤◌, ◌<◌, ◌∷◌, max, add-one, sub-one, arith}
+use Rattle.std.proofs.Common.{◌≡◌, sym, ap, List, ◌++◌, take, drop, ℕ, zero, suc, ◌+◌, ◌-◌, ◌*◌, ◌/◌, ◌%◌, ◌^◌, ◌≤◌, ◌<◌, ◌∷◌, max, add-one, sub-one, arith}
 use Rattle.std.proofs.lemmas.Grind.{common_steps}
 use Rattle.std.proofs.lemmas.Fmt.{decimal_from_appends, length-decimal-le_succ}
 use Rattle.std.specs.Fmt as fmt
@@ -39,6 +39,11 @@ decimal_by_log n (suc k) low high =
     let some = below_power k in
     let least : 10 ^ suc k ≤ n = omega arith in
     rw add-one (decimal_is n (suc (suc k)) (omega arith, omega arith, λ _. rw sub-one least))
+
+-- before the first is put, all digits are left
+pub all_left :
+    (n k : ℕ) (out : List ℕ) → 10 ^ k ≤ max n 1 → max n 1 < 10 * 10 ^ k → last_digits (k + 1) n ++ drop (k + 1) (take (k + 1) out) ≡ decimal n
+all_left n k out low high = grind (arith, common_steps, decimal_by_log n k low high)
 
 pub some_power : (k : ℕ) → 0 < 10 ^ k
 some_power k = omega (arith, below_power k)

@@ -1,7 +1,7 @@
 -- A number in decimal, digit by digit; and what waits in the buffer after some bytes and then some more; with no code.
-use Rattle.std.proofs.Common.{◌≡◌, refl, ℕ, zero, suc, ◌+◌, ◌-◌, ◌/◌, ◌%◌, ◌^◌, ◌≤◌, ◌<◌, List, [], ◌∷◌, ◌++◌, length, set, drop, arith}
+use Rattle.std.proofs.Common.{◌≡◌, refl, ℕ, zero, suc, ◌+◌, ◌-◌, ◌/◌, ◌%◌, ◌^◌, ◌≤◌, ◌<◌, List, [], ◌∷◌, ◌++◌, length, set, take, drop, sub-one, arith}
 use Rattle.std.proofs.lemmas.Grind.{common_steps}
-use Rattle.output.specs.Buffer.{places, decimal, queued_byte, queued}
+use Rattle.output.specs.Buffer.{last_digits, places, decimal, queued_byte, queued}
 
 -- ---- decimals
 
@@ -37,6 +37,22 @@ pub room_left : (rest at : ℕ) → 10 ≤ rest → rest < 10 ^ at → 1 < at
 room_left rest zero h fits = omega arith
 room_left rest (suc zero) h fits = omega arith
 room_left rest (suc (suc at)) h fits = omega arith
+
+-- what is put at a place stands before what comes after it
+put_there :
+    (at count d : ℕ) (out : List ℕ) → at < count → count ≤ length out → drop at (take count (set out at d)) ≡ d ∷ drop (suc at) (take count out)
+put_there at zero d out fits room = absurd (omega arith)
+put_there at (suc count) d [] fits room = absurd (omega arith)
+put_there zero (suc count) d (x ∷ out) fits room = refl
+put_there (suc at) (suc count) d (x ∷ out) fits room = put_there at count d out (omega arith) (omega arith)
+
+-- the last digit of what is left is put before the digits that are put
+pub digit_put :
+    (n at count rest : ℕ) (out : List ℕ) → 0 < at → at ≤ count → count ≤ length out → last_digits at rest ++ drop at (take count out) ≡ decimal n
+    → last_digits (at - 1) (rest / 10) ++ drop (at - 1) (take count (set out (at - 1) (48 + rest % 10))) ≡ decimal n
+digit_put n zero count rest out some fits room e = absurd (omega arith)
+digit_put n (suc at) count rest out some fits room e =
+    rw (sub-one, put_there at count (48 + rest % 10) out (omega arith) room) (grind (arith, common_steps, e))
 
 -- ---- the buffer
 

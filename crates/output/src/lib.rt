@@ -71,13 +71,18 @@ impl<W: Write> Output<W> {
         }
     }
 
-    #[tactic(auto, using(crate::proofs::Decimals::highest_first, crate::proofs::Decimals::decimal_by_log, crate::proofs::Decimals::some_power))]
+    #[tactic(auto, using(crate::proofs::Decimals::all_left))]
     pub fn number(&mut self, n: u64)
         ensures { waiting_bytes self.new ≡ queued (waiting_bytes self.old) (decimal n) }
     {
         // kept: the clause knows no failure, and write! promises the digits only where it doesn't fail.
-        for place in (0..=n.max(1).ilog10()).rev() {
-            self.byte(b'0' + (n / 10u64.pow(place) % 10) as u8);
+        let count = n.max(1).ilog10() as usize + 1;
+        let mut digits = [0; 20];
+        let mut rest = n;
+        for at in (0..count).rev() {
+            digits[at] = b'0' + (rest % 10) as u8;
+            rest /= 10;
         }
+        self.text(&digits[..count]);
     }
 }

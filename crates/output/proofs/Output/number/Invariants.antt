@@ -1,8 +1,10 @@
--- What waits, with the digits of this place and of those below it put after it, is what waits in the end.
-use Rattle.std.proofs.Common.{◌≡◌, ◌+◌}
-use Rattle.output.specs.Buffer.{last_digits, decimal, queued}
-use Rattle.output.specs.Outputs.{waiting_bytes}
+-- The digits of what is left, and then those that are put, are the digits of n.
+use Rattle.std.proofs.Common.{◌≡◌, ◌++◌, length, take, drop}
+use Rattle.output.specs.Buffer.{last_digits, decimal}
 use Rattle.output.proofs.Output.number.Given as goal
 
-abbrev pub invariant-loop-place : goal.invariant-loop-place
-invariant-loop-place g l = queued (waiting_bytes l.self) (last_digits (l.place + 1) l.n) ≡ queued (waiting_bytes l.initial.self) (decimal l.n)
+abbrev pub invariant-loop-at : goal.invariant-loop-at
+invariant-loop-at g l = record {
+  room : length l.digits ≡ 20;
+  digits : last_digits l.at l.rest ++ drop l.at (take l.count l.digits) ≡ decimal l.n;
+}
