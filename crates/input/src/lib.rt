@@ -5,6 +5,7 @@ ghost use Rattle.std.specs.Prelude.{◌≡◌, ◌+◌, ◌-◌, ◌≤◌, fals
 ghost use Rattle.std.specs.Io.KnownBytes.{Consumes};
 ghost use Rattle.input.specs.Inputs.{unread, Kept, IsNoneLost};
 
+use std::alloc::AllocError;
 use std::io::Read;
 
 // The longest field is an arrival: a tag, a length of two bytes, a port, and a header of ten.
@@ -12,7 +13,7 @@ const LONGEST: usize = 14;
 
 // The bytes from place from up to place to of the buffer are read and not used yet; and whether the input ended.
 // kept: no heap, on which std's BufReader has its bytes.
-#[derive(Drop)]
+#[derive(Copy, Drop)]
 pub struct Input<R> {
     pub reader: R,
     pub bytes: [u8; 4096],
@@ -21,6 +22,23 @@ pub struct Input<R> {
     pub ended: bool,
     ghost from_le_to: { from ≤ to },
     ghost within: { to ≤ 4096 },
+}
+
+// What is read and not used yet, again, before a clone of the reader.
+impl<R: Clone> Clone for Input<R> {
+    ghost is_clone = { λ i j. R.is_clone i.reader j.reader × (j.bytes ≡ i.bytes) × (j.from ≡ i.from) × (j.to ≡ i.to) × (j.ended ≡ i.ended) };
+
+    ghost is_infallible = { λ i. R.is_infallible i.reader };
+
+    fn clone(&self) -> Result<Input<R>, AllocError> {
+        Ok(Input {
+            reader: self.reader.clone()?,
+            bytes: self.bytes,
+            from: self.from,
+            to: self.to,
+            ended: self.ended,
+        })
+    }
 }
 
 impl<R: Read> Input<R> {
