@@ -99,7 +99,7 @@ pub fn show<'a>(m: &[u8], memories: [&'a [u8]; 4], port: u32, queue: u32, no: &m
 pub fn stitch(m: &mut [u8], port: u32) -> Result<[u8; 10], Refusal>
     ensures { ◌≡◌ {A = Reply × List ℕ} (stitch_reply result, m.new) (M (act (stitch port)) m.old) }
 {
-    let s = sound::test(m)?;
+    let s = sound::test(m)?; // a refusal tells no record
     moves::stitch(m, s, port)
 }
 
