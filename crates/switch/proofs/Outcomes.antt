@@ -2,23 +2,26 @@
 -- contract is what the toolchain reads of the function's own `ensures` (`Learnt`: what a caller learns), so a change of it changes the theorem.
 -- Assumes nothing.
 use mathlib.Core.Path.{◌≡◌, refl, sym, ap, ◌∙◌}
-use mathlib.Core.List.{List, []}
+use mathlib.Core.List.{List, [], ◌∷◌}
 use Prim.Native.Nat.{ℕ}
 use native.Mathlib.Omega.{arith}
 use denote.Ref.{Bor, MutBor}
-use lib.ListN.{get_or, replicate}
-use Rattle.std.specs.Prelude.{Result, Err}
+use lib.ListN.{length, get_or, replicate, length-replicate}
+use Rattle.std.specs.Prelude.{Result, Ok, Err}
 use Rattle.ledger.specs.Answers.{reply_by, stitch_reply}
-use Rattle.ledger.specs.Outcome.{OneOutcome}
-use Rattle.ledger.specs.Calls.{Reply, refused, stitched}
+use Rattle.ledger.specs.Outcome.{Contract, OneOutcome}
+use Rattle.ledger.specs.Header.{alone}
+use Rattle.ledger.specs.Calls.{Act, Reply, refused, done, stitched}
 use Rattle.ledger.specs.Calls as calls
-use Rattle.ledger.specs.Desk.{act}
+use Rattle.ledger.specs.Desk.{Desk, none, has, act, desk}
+use Rattle.ledger.specs.Cards.{set_up as starts, arrives, twelve, twelve_record}
 use Rattle.ledger.specs.declared.Refusal.{Refusal}
 use Rattle.ledger.specs.declared.Refusal.TheVariants.{NoState}
+use Rattle.ledger.proofs.Cards.{cards_hold}
 use Rattle.ledger.proofs.Answers.{plain_inj, stitch_inj, entry_inj, turn_inj, ready_inj, where_inj, report_inj, bucket_inj, show_inj}
-use Rattle.memory.specs.Memory.{M}
-use Rattle.memory.proofs.Demands.{off_state}
-use Rattle.memory.proofs.Image.{zero_no_state}
+use Rattle.memory.specs.Memory.{picture, M}
+use Rattle.memory.proofs.Demands.{memory_faithful, off_state}
+use Rattle.memory.proofs.Image.{zero_no_state, zero_picture}
 use Rattle.runs.proofs.Outcomes.{outcome_inj}
 use Rattle.switch.specs.contracts.set_up
 use Rattle.switch.proofs.set_up.Reads as set_up_says
@@ -174,7 +177,58 @@ module _ (m : List ℕ) (port : ℕ) where
       let u = stitch_one ([], tt) (lent m, (port, tt)) r r₂ (left, (tt, tt)) (left₂, (tt, tt)) p q in
       (u.0, ap (λ (x : List ℕ × (Unit {0} × Unit {0})). x.0) u.1)
 
--- The record stands in the answer. Ten bytes beside an answer, fixed by this equation alone, would not do: beside a refusal any might stand.
+-- The record has to be said. Of what the toolchain reads of stitch all but the record's bytes:
+abbrev pub with_record : List ℕ → Result (List ℕ) Refusal → Result (List ℕ) Refusal
+with_record b (Ok c) = Ok b
+with_record b (Err n) = Err n
+
+abbrev pub record_unsaid : Contract stitch.ended
+record_unsaid κs a r left = (b : List ℕ) × stitch_says.Learnt κs a (with_record b r) left
+
+-- A state that stitch stitches on: 65,536 bytes that a switch was set up in, where the packet of a card has arrived at port 0. Memory answers
+-- as the desk does, by whose cards the record is known.
+module _ (m : List ℕ) (D : Desk) (e : picture m ≡ D) (a : Act) where
+  any_length : (n k : ℕ) (E : Desk) → desk n E (act a) ≡ desk k E (act a)
+  any_length n k none = refl
+  any_length n k (has S L) = refl
+
+  acts_alike : ◌≡◌ {A = Reply × Desk} ((M (act a) m).0, picture (M (act a) m).1) (desk 65536 D (act a))
+  acts_alike = memory_faithful m (act a) ∙ ap (λ (E : Desk). desk (length m) E (act a)) e ∙ any_length (length m) 65536 D
+
+abbrev first_memory : List ℕ
+first_memory = (M (starts 1 64 1 16) (replicate 65536 0)).1
+
+abbrev arrived_memory : List ℕ
+arrived_memory = (M (arrives 0 twelve) first_memory).1
+
+first_desk : picture first_memory ≡ (desk 65536 none (starts 1 64 1 16)).1
+first_desk =
+    let m : List ℕ = replicate 65536 0 in
+    ap (λ (o : Reply × Desk). o.1) (memory_faithful m (starts 1 64 1 16))
+    ∙ ap (λ (n : ℕ). (desk n (picture m) (starts 1 64 1 16)).1) (length-replicate {A = ℕ} 65536 0)
+    ∙ ap (λ (D : Desk). (desk 65536 D (starts 1 64 1 16)).1) (zero_picture 65536)
+
+stitches : (M (act (calls.stitch 0)) arrived_memory).0 ≡ twelve_record
+stitches =
+    let arrival = acts_alike first_memory _ first_desk (calls.arrive 0 (alone twelve)) in
+    let second = ap (λ (o : Reply × Desk). o.1) arrival in
+    ap (λ (o : Reply × Desk). o.0) (acts_alike arrived_memory _ second (calls.stitch 0))
+    ∙ ap (λ (rs : List Reply). get_or rs 2 done) cards_hold.1.0
+
+pub second_needed : OneOutcome stitch.ended record_unsaid → ⊥
+second_needed one =
+    let left : List ℕ = (M (act (calls.stitch 0)) arrived_memory).1 in
+    let b : List ℕ = 0 ∷ 0 ∷ 0 ∷ 12 ∷ 0 ∷ 0 ∷ 0 ∷ 0 ∷ 0 ∷ 0 ∷ [] in
+    let e : ◌≡◌ {A = Reply × List ℕ} (stitched b, left) (M (act (calls.stitch 0)) arrived_memory) = ap (λ (r : Reply). (r, left)) (sym stitches) in
+    let t = one ([], tt) (lent arrived_memory, (0, tt)) (Ok (replicate 10 0)) (Ok (replicate 10 1)) (left, (tt, tt)) (left, (tt, tt)) (b, e) (b, e) in
+    let z : ◌≡◌ {A = ℕ} 0 1 = ap (λ (r : Result (List ℕ) Refusal). first_byte r) t.0 in
+    omega arith
+  where
+    first_byte : Result (List ℕ) Refusal → ℕ
+    first_byte (Ok c) = get_or c 0 0
+    first_byte (Err n) = 2
+
+-- And it has to stand in the answer. Ten bytes beside an answer, fixed by this equation alone, would not do: beside a refusal any might stand.
 abbrev pub beside : Result Unit Refusal → List ℕ → Reply
 beside a bytes = reply_by (λ u. stitched bytes) a
 
@@ -185,8 +239,8 @@ FirstAlone =
     → (beside a₂ bytes₂, left₂) ≡ M (act (calls.stitch port)) m
     → bytes ≡ bytes₂
 
-pub second_needed : FirstAlone → ⊥
-second_needed one =
+pub first_alone_leaves_choice : FirstAlone → ⊥
+first_alone_leaves_choice one =
     let e : (refused 3, []) ≡ M (act (calls.stitch 0)) [] = sym (off_state [] (zero_no_state 0) (calls.stitch 0)) in
     let t = one [] 0 (Err NoState) (Err NoState) (replicate 10 0) (replicate 10 1) [] [] e e in
     let z : ◌≡◌ {A = ℕ} 0 1 = ap (λ (b : List ℕ). get_or b 0 0) t in
