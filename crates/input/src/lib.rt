@@ -106,3 +106,21 @@ impl<R: Read> Input<R> {
         }
     }
 }
+
+#[cfg(test)]
+mod tests {
+    use super::Input;
+
+    fn twice<T: Copy>(t: T) -> (T, T) {
+        (t, t)
+    }
+
+    #[test]
+    fn a_clone_has_what_is_left(rt: HostRuntime) {
+        let mut input = Input::new(&b"abc"[..]);
+        input.fill();
+        let (one, other) = twice(input.clone().expect(&rt, "the reader is a slice"));
+        assert_eq!(rt; one.bytes[one.from..one.to], b"abc"[..]);
+        assert_eq!(rt; other.bytes[other.from..other.to], b"abc"[..]);
+    }
+}
