@@ -3,6 +3,7 @@
 
 mod lines;
 
+ghost use Rattle.std.specs.Prelude.{◌≤◌};
 ghost use Rattle.output.specs.Outputs.{waiting_bytes};
 ghost use Rattle.bench.specs.Steps.{Stepped};
 
@@ -21,7 +22,8 @@ fn step<R: io::Read, W: Write>(
     out: &mut Output<W>,
     n: u64,
 ) -> bool
-    ensures { Stepped n m.old input.old (waiting_bytes out.old) result m.new input.new (waiting_bytes out.new) }
+    ensures from_le_to { input.new.from ≤ input.new.to }
+    ensures stepped { Stepped n m.old input.old (waiting_bytes out.old) result m.new input.new (waiting_bytes out.new) }
 {
     input.fill();
     let part = &input.bytes[..input.to];

@@ -20,7 +20,6 @@ pub struct Input<R> {
     pub from: usize,
     pub to: usize,
     pub ended: bool,
-    ghost from_le_to: { from ≤ to },
     ghost within: { to ≤ 4096 },
 }
 
@@ -84,19 +83,21 @@ impl<R: Read> Input<R> {
             × (take self.new.to self.new.bytes ≡ unread self.old.bytes self.old.from self.old.to) }
         ensures kept { self.new.reader ≡ self.old.reader }
     {
-        self.bytes.copy_within(self.from..self.to, 0);
-        self.to -= self.from;
+        let from = self.from.min(self.to);
+        self.bytes.copy_within(from..self.to, 0);
+        self.to -= from;
         self.from = 0;
     }
 
-    // A whole field stands at the front then, if the input has one.
+    // A whole field stands at the front then, if the input has one. Nothing is left where place from is past place to.
     pub fn fill(&mut self)
+        ensures from_le_to { self.new.from ≤ self.new.to }
         ensures kept { Kept self.old.bytes self.old.from self.old.to self.new.bytes self.new.from self.new.to }
         ensures read { IsNoneLost (unread self.old.bytes self.old.from self.old.to) (R.remaining self.old.reader)
             (unread self.new.bytes self.new.from self.new.to) (R.remaining self.new.reader) }
         ensures whole { self.new.ended ≡ false → LONGEST ≤ self.new.to - self.new.from }
     {
-        if self.ended || LONGEST <= self.to - self.from {
+        if self.from <= self.to && (self.ended || LONGEST <= self.to - self.from) {
             return;
         }
         self.move_to_front();
@@ -111,7 +112,9 @@ impl<R: Read> Input<R> {
 mod tests {
     use super::Input;
 
-    fn twice<T: Copy>(t: T) -> (T, T) {
+    fn twice<T: Copy>(t: T) -> (T, T)
+        ensures { (result.0 ≡ t) × (result.1 ≡ t) }
+    {
         (t, t)
     }
 
