@@ -19,11 +19,13 @@ fn port_fits(port: usize, column: usize, x: EntryId) -> bool
     2 <= column || usize::from(x.port()) == port
 }
 
-// (e), which spares the free and the ingress list: the node has the list's queue.
+// (e), which spares the free and the ingress list: the node has the list's queue. Both are asked, without a branch between them: then the
+// fields of a node's record are read where each is tested, and not all at once.
 fn queue_fits(s: Shape, column: usize, queue: u8) -> bool
     ensures { result ≡ (ltb column 2 || eqb queue (queue_at (settings_of s) column)) }
 {
-    column < 2 || fits::own_queue(s.queues, column, usize::from(queue))
+    let own = fits::own_queue(s.queues, column.max(2), usize::from(queue));
+    (column < 2) | own
 }
 
 // (e) and (f) of a node that is not free, whose record is read once; its price is added.

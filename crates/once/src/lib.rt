@@ -30,13 +30,16 @@ fn set_mark(marks: &mut [u8], at: usize)
     marks[at / 8] |= 1 << (at % 8);
 }
 
-// Sets the mark of an element, and answers whether it was not set before.
+// Sets the mark of an element, where it is not set yet, and answers whether it was not. Where it is set, nothing is written, so that the
+// compiler may put off what is read beside it.
 pub fn fresh(at: usize, marks: &mut [u8]) -> bool
     requires { at < 8 * length marks.old }
     ensures { Fresh marks.old at marks.new result }
 {
     let new = mark_at(marks, at) == 0;
-    set_mark(marks, at);
+    if new {
+        set_mark(marks, at);
+    }
     new
 }
 

@@ -1,3 +1,4 @@
 pub mod SetMarks
 pub mod Walking
 pub mod Lists
+pub mod Empty

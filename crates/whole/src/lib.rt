@@ -20,7 +20,8 @@ pub enum Fault {
 }
 
 // Walks list l, a port's column, from its head to its count, and answers whether each node passed and the last is the tail. The node after x
-// is read before anything of x is written: a processor then fetches it while it tests x.
+// is read before anything of x is written: a processor then fetches it while it tests x. Counted down, as many nodes as are left: up, the
+// compiler read the four bytes of each count by themselves.
 // kept: marks and sums stay two slices: a struct of two &mut would be taken apart at each node, which lends one of them on.
 fn list_passes(
     m: &[u8],
@@ -39,7 +40,7 @@ fn list_passes(
     let tail = layout::get::<u16>(m, s, Table::Tail, l);
     let mut x = layout::get::<u16>(m, s, Table::Head, l);
     let mut last = tail;
-    for _ in 0..count {
+    for _ in (0..count).rev() {
         let id = EntryId(x);
         if !geometry::is_node(s.ports, s.nodes, id) {
             return false;
@@ -55,7 +56,7 @@ fn list_passes(
     last == tail
 }
 
-// Walks the lists of a port, and answers how many nodes were met so far, where each list passed.
+// Walks the lists of a port, and answers how many nodes were met so far, where each list passed. Most lists are empty, and pass at once.
 fn port_passes(
     m: &[u8],
     s: Shape,
@@ -70,6 +71,9 @@ fn port_passes(
     for column in 0..s.row {
         let l = port * s.row + column;
         let count = layout::get::<u32>(m, s, Table::Count, l);
+        if count == 0 {
+            continue;
+        }
         if !ranges::few_enough(s, column, count) {
             return None;
         }

@@ -9,7 +9,8 @@ use Rattle.finds.proofs.where_is.Goals.{After-unwrap-l}
 
 stands : (c : After-unwrap-l) → let a = c.args in laws.Found (settings_of a.s) a.m.now a.id.0 c.unwrap-l.result.0 c.unwrap-l.result.1
 stands c =
-    laws.stands_at _ _ _ c.requires.state (sym (c.is_node.ensures (settings_of c.args.s) refl refl) ∙ c.if-not-is_node.false) c.unwrap-l.result (sym c.unwrap-l.ensures ∙ c.search.ensures)
+    let node = sym (c.is_node.ensures (settings_of c.args.s) refl refl) ∙ c.if-not-is_node.false in
+    laws.stands_at _ _ _ c.requires.state node c.unwrap-l.result (sym c.unwrap-l.ensures ∙ c.search.ensures)
 
 pub kind_of-requires : goal.kind_of-requires
 kind_of-requires c = record { inside = (stands c).inside }

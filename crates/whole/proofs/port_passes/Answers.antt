@@ -11,6 +11,7 @@ use Rattle.once.proofs.Bits.{marks_length}
 use Rattle.ranges.specs.Ranges.{few_at, few_in}
 use Rattle.whole.specs.Walks.{AtList}
 use Rattle.whole.proofs.SetMarks.{set_le}
+use Rattle.whole.proofs.Empty.{empty_passes}
 use Rattle.whole.proofs.Lists.{list_in_lem, port_is, column_is, lists_many, lists_no, lists_next}
 use Rattle.whole.proofs.port_passes.Goals as goal
 use Rattle.whole.proofs.port_passes.Goals.{After-few_enough, Else-not-list_passes, In-loop-column}
@@ -67,3 +68,13 @@ pub returns : goal.returns
 returns c =
     let end : (c.args.port + 1) * c.args.s.row ≡ c.args.port * c.args.s.row + c.loop-column.column = omega arith in
     rw (← c.args.s.laid.row_is, end) c.loop-column.invariant.1
+
+-- a list with no node is passed over
+pub loop-column-preserved-then-count-eq0 : goal.loop-column-preserved-then-count-eq0
+loop-column-preserved-then-count-eq0 c =
+    let a = c.args in
+    let here = goal.at.loop-column-preserved-then-count-eq0 c in
+    let is : a.port * a.s.row + (c.loop-column.column + 1) ≡ a.port * a.s.row + c.loop-column.column + 1 = omega arith in
+    let none = sym c.get-count.ensures ∙ c.if-count-eq0.true in
+    let low = (inside here.In-loop-column).0 in
+    (c.loop-column.invariant.0, rw is (empty_passes _ _ _ _ _ none (marks_length _ _) low c.loop-column.invariant.1))
