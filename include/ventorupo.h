@@ -172,7 +172,7 @@ enum vr_answer {
  *
  * So calls on memories that have nothing in common may run at once.
  *
- * A call takes up to 25,450 bytes of stack, a finding up to 33,498, whatever the settings (measured on x86-64 by tools/stack.c, not proved;
+ * A call takes up to 25,600 bytes of stack, a finding up to 33,600, whatever the settings (measured on x86-64, rounded up, and not proved;
  * on aarch64 both were less): the test for a state keeps a bit for each of up to 65,536 nodes there, and a sum for each port and queue but
  * 0.
  *

@@ -4,7 +4,7 @@
 
 #include "board.h"
 
-/* A finding takes most: up to 33,498 bytes (ventorupo.h); main.c and an interrupt want some too. */
+/* A finding takes most: up to 33,600 bytes (ventorupo.h); main.c and an interrupt want some too. */
 #define STACK_BYTES 40960
 #define TEXT_OF(macro) TEXT(macro)
 #define TEXT(number) #number
