@@ -54,6 +54,11 @@ module _ (S : Settings) (m : List ℕ) (c x : ℕ) where
   unfolding packet_fits
   note_fits w a b f g = ap₂ ◌&&◌ (sym f ∙ ap (λ (q : ℕ). ltb c 2 || eqb q (queue_at S c)) w.queue_is) (sym g ∙ note_tests x w)
 
+  -- by its queue alone
+  pub queue_not : (ltb c 2 || eqb (get S m Queue (slot S x)) (queue_at S c)) ≡ false → false ≡ packet_fits S m c x
+  unfolding packet_fits
+  queue_not e = rw e
+
   -- a packet that fits has its queue in range
   pub fits_queue : packet_fits S m c x ≡ true → get S m Queue (slot S x) < S.queues
   unfolding packet_fits proper_test fields_test range_test packet_at

@@ -9,7 +9,7 @@ ghost use Rattle.fits.specs.Fits.{queue_at};
 ghost use Rattle.nodes.specs.Passes.{PacketLent, PacketPassed, NodeLent, NodePassed};
 
 use fits::Note;
-use layout::Shape;
+use layout::{Shape, Table};
 use ledger::EntryId;
 
 // (d), which spares the lists of queues: the node is the port's.
@@ -19,22 +19,25 @@ fn port_fits(port: usize, column: usize, x: EntryId) -> bool
     2 <= column || usize::from(x.port()) == port
 }
 
-// (e), which spares the free and the ingress list: the node has the list's queue. Both are asked, without a branch between them: then the
-// fields of a node's record are read where each is tested, and not all at once.
+// (e), which spares the free and the ingress list: the node has the list's queue.
 fn queue_fits(s: Shape, column: usize, queue: u8) -> bool
     ensures { result ≡ (ltb column 2 || eqb queue (queue_at (settings_of s) column)) }
 {
-    let own = fits::own_queue(s.queues, column.max(2), usize::from(queue));
-    (column < 2) | own
+    column < 2 || fits::own_queue(s.queues, column, usize::from(queue))
 }
 
-// (e) and (f) of a node that is not free, whose record is read once; its price is added.
+// (e) and (f) of a node that is not free; its price is added. Its queue is asked before the rest of its record is read: read at once, the
+// fields took the registers that marks and nodes need.
 fn packet_passes(m: &[u8], s: Shape, column: usize, x: EntryId, at: usize, sums: &mut [u64]) -> bool
     requires { PacketLent s m.now sums.old x.0 at }
     ensures { PacketPassed (settings_of s) m.now column x.0 sums.old sums.new result }
 {
+    let queue = layout::get::<u8>(m, s, Table::Queue, at);
+    if !queue_fits(s, column, queue) {
+        return false;
+    }
     let n = Note::read(m, s, at);
-    if !queue_fits(s, column, n.queue) || !n.proper(s) {
+    if !n.proper(s) {
         return false;
     }
     paid::add_price(s, sums, x, n.queue, n.price);

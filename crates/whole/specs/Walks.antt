@@ -2,6 +2,7 @@
 use Rattle.std.specs.Prelude.{◌≡◌, Bool, true, List, [], ◌∷◌, ℕ, ◌+◌, ◌-◌, ◌*◌, ◌/◌, ◌%◌, ◌≤◌, ◌<◌, length, replicate, ltb, Option, MatchOption}
 use Rattle.ledger.specs.Settings.{Settings, row, size}
 use Rattle.ledger.specs.Ready.{bit}
+use Rattle.numbers.specs.Bytes.{number}
 use Rattle.layout.specs.declared.shape.Shape.{Shape}
 use Rattle.layout.specs.declared.Table.TheVariants.{Count}
 use Rattle.layout.specs.Tables.{cells, lists, get}
@@ -65,6 +66,14 @@ pub record ListPassed (S : Settings) (m : List ℕ) (l : ℕ) (ms sums ms' sums'
   pub marks : r ≡ true → ms' ≡ mark_all S ms (nodes_of S m l)
   pub added : r ≡ true → sums' ≡ add_list S m sums l
   pub held : r ≡ true → Sums S sums' (count_most * (l + 1))
+
+-- of the counts from place a on, those from the c-th up to the d-th are 0
+abbrev pub Empty : List ℕ → ℕ → ℕ → ℕ → Type 0
+Empty m a c d = (k : ℕ) → c ≤ k → k < d → number 4 m (a + k * 4) ≡ 0
+
+-- the first of n counts, from the c-th on, that is not
+abbrev pub NextFilled : List ℕ → ℕ → ℕ → ℕ → Option ℕ → Type 0
+NextFilled m a n c r = MatchOption r (Empty m a c n) (λ d. (c ≤ d) × (d < n) × (1 ≤ number 4 m (a + d * 4)) × Empty m a c d)
 
 -- after port p the walk stands at the first list of the next, and has met n nodes; or some rule is broken
 abbrev pub PortPassed : Settings → List ℕ → ℕ → List ℕ → List ℕ → Option ℕ → Type 0

@@ -2,14 +2,14 @@
 -- Assumes nothing.
 use mathlib.Core.Path.{◌≡◌, refl, sym, ap, ◌∙◌}
 use mathlib.Core.Bool.{true, ◌&&◌}
-use Prim.Native.Nat.{◌/◌, ◌%◌}
+use Prim.Native.Nat.{◌-◌, ◌/◌, ◌%◌}
 use native.Mathlib.Omega.{arith}
 use borrow.Author.Rules.{rules}
 use lib.Dec.{eqb}
 use Rattle.ledger.specs.Settings.{row}
 use Rattle.ledger.specs.Ledger.{is_node}
 use Rattle.ledger.proofs.Tests.{true≢false}
-use Rattle.layout.specs.declared.Table.TheVariants.{Next}
+use Rattle.layout.specs.declared.Table.TheVariants.{Count, Next}
 use Rattle.layout.specs.Tables.{get}
 use Rattle.layout.specs.Shapes.{settings_of}
 use Rattle.memory.proofs.Chains.{slot_lt}
@@ -37,7 +37,8 @@ node c = sym (c.is_node.ensures (settings_of c.args.s) refl refl) ∙ c.if-not-i
 pub loop-init : goal.loop-init
 loop-init c =
     let p = c.requires in
-    (refl, rw (c.get-tail.ensures, c.get-x.ensures) (pass_start p.count_is (walk_start _ _ _ _ (marks_length _ _) p.count_is) p.lent.held))
+    let all : c.args.count - 0 ≡ get (settings_of c.args.s) c.args.m.now Count c.args.l = omega (arith, p.count_is) in
+    (refl, rw (c.get-tail.ensures, c.get-x.ensures) (pass_start all (walk_start _ _ _ _ (marks_length _ _) all) p.lent.held))
 
 -- an id that is no node is not new
 pub returns-then-not-is_node : goal.returns-then-not-is_node
