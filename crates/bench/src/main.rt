@@ -50,7 +50,7 @@ fn run<R: io::Read, W: Write>(m: &mut [u8; 65536], input: &mut Input<R>, out: &m
             break;
         }
     }
-    let _ = out.flush();
+    let _ = out.flush_or_keep();
 }
 
 // The memory is enough for 1,133 nodes a port; a setup of more is refused 1.

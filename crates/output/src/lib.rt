@@ -34,7 +34,7 @@ impl<W: Write> Output<W> {
     }
 
     // Writes what waits; after a write that fails it waits on. The callers here go on then: no answer depends on it.
-    pub fn flush(&mut self) -> io::Result<()>
+    pub fn flush_or_keep(&mut self) -> io::Result<()>
         ensures writes { OnOk result (Appends (W.contents self.old.writer) (W.contents self.new.writer) (waiting_bytes self.old)) }
         ensures none { OnOk result (waiting_bytes self.new ≡ []) }
         ensures kept { OnErr result (waiting_bytes self.new ≡ waiting_bytes self.old) }
@@ -44,13 +44,23 @@ impl<W: Write> Output<W> {
         Ok(())
     }
 
+    // Writes what waits, and nothing waits then: what a write that fails did not take is lost.
+    pub fn flush(&mut self) -> io::Result<()>
+        ensures writes { OnOk result (Appends (W.contents self.old.writer) (W.contents self.new.writer) (waiting_bytes self.old)) }
+        ensures none { waiting_bytes self.new ≡ [] }
+    {
+        let flushed = self.flush_or_keep();
+        self.waiting = 0;
+        flushed
+    }
+
     // Room for a byte more: a full buffer is written, and is empty then, whatever came of it.
     fn make_room(&mut self)
         ensures room { self.new.waiting < 4096 }
         ensures waits { waiting_bytes self.new ≡ cond (nat_lt (length (waiting_bytes self.old)) 4096) (waiting_bytes self.old) [] }
     {
         if self.waiting == 4096 {
-            let _ = self.flush();
+            let _ = self.flush_or_keep();
             self.waiting = 0;
         }
     }
@@ -84,5 +94,21 @@ impl<W: Write> Output<W> {
             rest /= 10;
         }
         self.text(&digits[..count]);
+    }
+}
+
+#[cfg(test)]
+mod tests {
+    use super::Output;
+
+    #[test]
+    fn a_flush_that_fails_leaves_what_waits_or_nothing(rt: HostRuntime) {
+        let mut room = [0; 2];
+        let mut out = Output::new(&mut room[..]);
+        out.text(b"abc");
+        assert!(rt; out.flush_or_keep().is_err());
+        assert!(rt; out.flush_or_keep().is_err());
+        assert!(rt; out.flush().is_err());
+        assert!(rt; out.flush().is_ok());
     }
 }
