@@ -33,7 +33,8 @@ impl<W: Write> Output<W> {
         }
     }
 
-    // Writes what waits; after a write that fails it waits on. The callers here go on then: no answer depends on it.
+    // Writes what waits; after a write that fails all of it waits on, what the writer took of it too. The callers here go on then: no answer
+    // depends on it.
     pub fn flush_or_keep(&mut self) -> io::Result<()>
         ensures writes { OnOk result (Appends (W.contents self.old.writer) (W.contents self.new.writer) (waiting_bytes self.old)) }
         ensures none { OnOk result (waiting_bytes self.new ≡ []) }
@@ -44,7 +45,7 @@ impl<W: Write> Output<W> {
         Ok(())
     }
 
-    // Writes what waits, and nothing waits then: what a write that fails did not take is lost.
+    // Writes what waits, and nothing waits then: what a writer that fails did not take is lost.
     pub fn flush(&mut self) -> io::Result<()>
         ensures writes { OnOk result (Appends (W.contents self.old.writer) (W.contents self.new.writer) (waiting_bytes self.old)) }
         ensures none { waiting_bytes self.new ≡ [] }
